@@ -4,8 +4,8 @@ use Rattle.std.specs.List.{list_any, list_all, position_or_len}
 use Rattle.card_sets.specs.declared.card.Suit.{Suit}
 use Rattle.card_sets.specs.declared.seat.Seat.{Seat}
 use Rattle.card_sets.specs.declared.seat.Seat.TheVariants.{Declarer, Left, Dummy, Right}
-use Rattle.card_sets.specs.Cards.{suit_of, rank_of}
-use Rattle.card_sets.specs.SetWords.{has_card, same_suit}
+use Rattle.card_sets.specs.Cards.{suit_of, rank_of, same_suit}
+use Rattle.card_sets.specs.SetWords.{has_card}
 use Rattle.trick_rules.specs.declared.trump.Trump.{Trump}
 use Rattle.trick_rules.specs.declared.trump.Trump.TheVariants.{NoTrump, Suit as Suited}
 use Rattle.trick_rules.specs.Table.{Played, Table, State, seat_after, to_play, tricks_left}

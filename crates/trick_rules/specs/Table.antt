@@ -1,9 +1,9 @@
 -- A position and a state, as lists of cards in card order.
-use Rattle.std.specs.Prelude.{◌≡◌, ◌≢◌, ℕ, zero, suc, ◌+◌, ◌-◌, ◌*◌, ◌%◌, ◌<◌, ◌≤◌, Bool, true, false, List, length, All, AllPairs, if◌then◌else◌, nat_lt}
+use Rattle.std.specs.Prelude.{◌≡◌, ◌≢◌, ℕ, zero, suc, ◌+◌, ◌-◌, ◌*◌, ◌%◌, ◌<◌, ◌≤◌, Bool, List, length, All, AllPairs, if◌then◌else◌, nat_lt}
 use Rattle.card_sets.specs.declared.seat.Seat.{Seat}
 use Rattle.card_sets.specs.declared.seat.Seat.TheVariants.{Declarer, Left, Dummy, Right}
 use Rattle.card_sets.specs.Seats.{next_seat}
-use Rattle.card_sets.specs.SetWords.{has_card, IsCardSet}
+use Rattle.card_sets.specs.SetWords.{IsCardSet, IsPartOf, Apart}
 use Rattle.trick_rules.specs.declared.trump.Trump.{Trump}
 
 -- a trick: who led, and the cards in the order of play
@@ -58,10 +58,6 @@ played_count t seat = if has_played t seat then 1 else 0
 abbrev pub tricks_left : Table → ℕ
 tricks_left t = length t.declarer + played_count t Declarer
 
--- no card is in both
-abbrev pub Apart : List ℕ → List ℕ → Type 0
-Apart xs ys = (c : ℕ) → has_card xs c ≡ true → has_card ys c ≡ false
-
 -- a position that can come about
 pub record IsSound (t : Table) : Type 0 where
   pub declarer_set : IsCardSet t.declarer
@@ -83,7 +79,7 @@ pub record IsSound (t : Table) : Type 0 where
 -- a Left hand that fits a position: a part of the unseen cards, with Left's number of cards
 pub record FitsLeft (t : Table) (left : List ℕ) : Type 0 where
   pub set : IsCardSet left
-  pub part : (c : ℕ) → has_card left c ≡ true → has_card t.unseen c ≡ true
+  pub part : IsPartOf left t.unseen
   pub count : length left + played_count t Left ≡ tricks_left t
 
 -- a sound position with a Left hand that fits it
