@@ -55,15 +55,17 @@ in_range : (a n c : ℕ) → has_card (range_with_len a n) c ≡ true → (a ≤
 in_range a zero c h = absurd (false≢true h)
 in_range a (suc n) c h =
     elim (cases_Bool (eqb a c)) as (λ _. (a ≤ c) × (c < a + suc n)) [
-      inl e ↦ (let same : a ≡ c = eqb-true a c e in (omega arith, omega arith))
-    | inr e ↦ (let at : (a + 1 ≤ c) × (c < a + 1 + n) = in_range (a + 1) n c (rw e at h) in (omega arith, omega arith)) ]
+      | inl e ↦ (let same : a ≡ c = eqb-true a c e in (omega arith, omega arith))
+      | inr e ↦ (let at : (a + 1 ≤ c) × (c < a + 1 + n) = in_range (a + 1) n c (rw e at h) in (omega arith, omega arith))
+    ]
 
 range_has : (a n c : ℕ) → a ≤ c → c < a + n → has_card (range_with_len a n) c ≡ true
 range_has a zero c low high = absurd (omega arith)
 range_has a (suc n) c low high =
     elim (cases_eq a c) as (λ _. has_card (range_with_len a (suc n)) c ≡ true) [
-      inl e ↦ rw (eq-eqb a c e) refl
-    | inr e ↦ rw (ne_eqb a c e) (range_has (a + 1) n c (omega arith) (omega arith)) ]
+      | inl e ↦ rw (eq-eqb a c e) refl
+      | inr e ↦ rw (ne_eqb a c e) (range_has (a + 1) n c (omega arith) (omega arith))
+    ]
 
 -- a card of the pack that passes
 pub has_card-cards_where : (p : ℕ → Bool) (c : ℕ) → c < 52 → has_card (cards_where p) c ≡ p c
@@ -125,8 +127,9 @@ pub take_out-absent : (card : ℕ) (xs : List ℕ) → has_card xs card ≡ fals
 take_out-absent card [] h = refl
 take_out-absent card (x ∷ xs) h =
     elim (cases_Bool (eqb x card)) as (λ _. take_out card (x ∷ xs) ≡ x ∷ xs) [
-      inl e ↦ absurd (false≢true (sym h ∙ rw e refl))
-    | inr e ↦ rw e (ap (λ rest. x ∷ rest) (take_out-absent card xs (rw e at h))) ]
+      | inl e ↦ absurd (false≢true (sym h ∙ rw e refl))
+      | inr e ↦ rw e (ap (λ rest. x ∷ rest) (take_out-absent card xs (rw e at h)))
+    ]
 
 length_cond : (b : Bool) (x : ℕ) (xs : List ℕ) → length (cond b (x ∷ xs) xs) ≡ (cond b 1 0) + length xs
 length_cond true x xs = omega arith
@@ -155,23 +158,24 @@ range_less p card a (suc n) h low high =
     let one = length_cond (less a) a (filter less (range_with_len (a + 1) n)) in
     let two = length_cond (p a) a (filter p (range_with_len (a + 1) n)) in
     elim (cases_eq a card) as (λ _. length (filter less (range_with_len a (suc n))) + 1 ≡ length (filter p (range_with_len a (suc n)))) [
-      inl e ↦ (let here : p a ≡ true = ap p e ∙ h in
-               let gone : less a ≡ false = ap (λ b. p a && not b) (eq-eqb a card e) ∙ and_false (p a) in
-               let rest = range_beyond p card (a + 1) n (omega arith) in
-               let one' = one ∙ ap (λ b. cond b 1 0 + length (filter less (range_with_len (a + 1) n))) gone in
-               let two' = two ∙ ap (λ b. cond b 1 0 + length (filter p (range_with_len (a + 1) n))) here in
-               omega (arith, ap (length {A = ℕ}) rest))
-    | inr e ↦ (let kept : less a ≡ p a = ap (λ b. p a && not b) (ne_eqb a card e) ∙ and_true (p a) in
-               let rest = range_less p card (a + 1) n h (omega arith) (omega arith) in
-               let one' = one ∙ ap (λ b. cond b 1 0 + length (filter less (range_with_len (a + 1) n))) kept in
-               omega (arith, rest)) ]
+      | inl e ↦ (let here : p a ≡ true = ap p e ∙ h in
+          let gone : less a ≡ false = ap (λ b. p a && not b) (eq-eqb a card e) ∙ and_false (p a) in
+          let rest = range_beyond p card (a + 1) n (omega arith) in
+          let one' = one ∙ ap (λ b. cond b 1 0 + length (filter less (range_with_len (a + 1) n))) gone in
+          let two' = two ∙ ap (λ b. cond b 1 0 + length (filter p (range_with_len (a + 1) n))) here in
+          omega (arith, ap (length {A = ℕ}) rest))
+      | inr e ↦ (let kept : less a ≡ p a = ap (λ b. p a && not b) (ne_eqb a card e) ∙ and_true (p a) in
+          let rest = range_less p card (a + 1) n h (omega arith) (omega arith) in
+          let one' = one ∙ ap (λ b. cond b 1 0 + length (filter less (range_with_len (a + 1) n))) kept in
+          omega (arith, rest))
+    ]
 
 -- a card out of a set that has it
 pub length-take_out : (card : ℕ) (xs : List ℕ) → IsCardSet xs → has_card xs card ≡ true → length (take_out card xs) + 1 ≡ length xs
 unfolding cards_where below
 length-take_out card xs set h =
     let both : take_out card xs ≡ filter (λ c. has_card xs c && not (eqb c card)) (below 52) =
-        ap (take_out card) set ∙ filter-filter (λ c. not (eqb c card)) (has_card xs) (below 52) in
+    ap (take_out card) set ∙ filter-filter (λ c. not (eqb c card)) (has_card xs) (below 52) in
     let low = IsCardSet-low xs set card h in
     rw both (range_less (has_card xs) card 0 52 h (omega arith) (omega arith) ∙ ap length (sym set))
 
@@ -180,8 +184,8 @@ pub length-without : (part whole : List ℕ) → IsCardSet part → IsCardSet wh
     → length (filter (λ c. not (has_card part c)) whole) + length part ≡ length whole
 length-without part whole one other within =
     let same : filter (has_card part) whole ≡ part =
-        same_cards (filter (has_card part) whole) part (IsCardSet-filter (has_card part) whole other) one
-            (λ c. has_card-filter (has_card part) whole c ∙ in_both (has_card whole c) (has_card part c) (within c)) in
+    same_cards (filter (has_card part) whole) part (IsCardSet-filter (has_card part) whole other) one
+    (λ c. has_card-filter (has_card part) whole c ∙ in_both (has_card whole c) (has_card part c) (within c)) in
     omega (arith, length-filter_both (has_card part) (λ c. not (has_card part c)) (λ _. refl) whole, ap length same)
   where
     in_both : (w p : Bool) → (p ≡ true → w ≡ true) → (w && p) ≡ p
@@ -212,16 +216,18 @@ pub list_any-from_card : (p : ℕ → Bool) (xs : List ℕ) (c : ℕ) → has_ca
 list_any-from_card p [] c h k = absurd (false≢true h)
 list_any-from_card p (x ∷ xs) c h k =
     elim (cases_eq x c) as (λ _. list_any p (x ∷ xs) ≡ true) [
-      inl e ↦ rw (ap p e ∙ k) refl
-    | inr e ↦ rw (list_any-from_card p xs c (rw (ne_eqb x c e) at h) k) (or_true (p x)) ]
+      | inl e ↦ rw (ap p e ∙ k) refl
+      | inr e ↦ rw (list_any-from_card p xs c (rw (ne_eqb x c e) at h) k) (or_true (p x))
+    ]
 
 pub card_from_list_any : (p : ℕ → Bool) (xs : List ℕ) → list_any p xs ≡ true → (c : ℕ) × (has_card xs c ≡ true) × (p c ≡ true)
 card_from_list_any p [] h = absurd (false≢true h)
 card_from_list_any p (x ∷ xs) h =
     elim (cases_Bool (p x)) as (λ _. (c : ℕ) × (has_card (x ∷ xs) c ≡ true) × (p c ≡ true)) [
-      inl e ↦ (x, first_has x xs, e)
-    | inr e ↦ (let more : (c : ℕ) × (has_card xs c ≡ true) × (p c ≡ true) = card_from_list_any p xs (rw e at h) in
-               (more.0, rw more.1 (or_true (eqb x more.0)), more.2)) ]
+      | inl e ↦ (x, first_has x xs, e)
+      | inr e ↦ (let more : (c : ℕ) × (has_card xs c ≡ true) × (p c ≡ true) = card_from_list_any p xs (rw e at h) in
+          (more.0, rw more.1 (or_true (eqb x more.0)), more.2))
+    ]
 
 pub list_all-from_cards : (p : ℕ → Bool) (xs : List ℕ) → ((c : ℕ) → has_card xs c ≡ true → p c ≡ true) → list_all p xs ≡ true
 list_all-from_cards p [] h = refl
@@ -233,5 +239,6 @@ cards_from_list_all p [] h c k = absurd (false≢true k)
 cards_from_list_all p (x ∷ xs) h c k =
     let both = and_parts (p x) (list_all p xs) h in
     elim (cases_eq x c) as (λ _. p c ≡ true) [
-      inl e ↦ sym (ap p e) ∙ both.0
-    | inr e ↦ cards_from_list_all p xs both.1 c (rw (ne_eqb x c e) at k) ]
+      | inl e ↦ sym (ap p e) ∙ both.0
+      | inr e ↦ cards_from_list_all p xs both.1 c (rw (ne_eqb x c e) at k)
+    ]

@@ -50,8 +50,9 @@ legal_can_play s ok card h =
 not_part : (s : State) → IsState s → (card : ℕ) → has_card s.table.unseen card ≡ false → has_card s.left card ≡ false
 not_part s ok card gone =
     elim (cases_Bool (has_card s.left card)) as (λ _. has_card s.left card ≡ false) [
-      inl e ↦ absurd (false≢true (sym gone ∙ ok.fits.part card e))
-    | inr e ↦ e ]
+      | inl e ↦ absurd (false≢true (sym gone ∙ ok.fits.part card e))
+      | inr e ↦ e
+    ]
 
 -- Left's cards are fewer by the card where Left played it
 left_falls : (s : State) → IsState s → (card : ℕ) (seat : Seat) → has_card (hand_of s seat) card ≡ true
@@ -102,9 +103,10 @@ pub tricks_left-after : (t : Table) (card : ℕ) → IsSound t → CanPlay t car
     → tricks_left (after_card t card) + cond (eqb (length t.trick.cards) 3) 1 0 ≡ tricks_left t
 tricks_left-after t card sound can =
     elim (cases_eq (length t.trick.cards) 3) as (λ _. tricks_left (after_card t card) + cond (eqb (length t.trick.cards) 3) 1 0 ≡ tricks_left t) [
-      inl third ↦ rw (after_third t card third, eq-eqb (length t.trick.cards) 3 third) (tricks_third t card sound can third)
-    | inr other ↦ (let short : length t.trick.cards < 3 = omega (arith, sound.trick_short, other) in
-                   rw (after_short t card short, ne_eqb (length t.trick.cards) 3 other) (omega (arith, tricks_short t card sound can short))) ]
+      | inl third ↦ rw (after_third t card third, eq-eqb (length t.trick.cards) 3 third) (tricks_third t card sound can third)
+      | inr other ↦ (let short : length t.trick.cards < 3 = omega (arith, sound.trick_short, other) in
+          rw (after_short t card short, ne_eqb (length t.trick.cards) 3 other) (omega (arith, tricks_short t card sound can short)))
+    ]
 
 -- ---- Left's count after a card
 
@@ -120,17 +122,24 @@ left_third : (s : State) → IsState s → (card : ℕ) → has_card (hand_of s 
 left_third s ok card h third =
     let t = s.table in
     let can = hand_held s ok (to_play t) card h in
-    omega (arith, tricks_third t card ok.sound can third, count_full t third Left, count_in-none (end_trick (put_card t card)).trick.leader Left,
-        left_falls s ok card (to_play t) h, ok.fits.count)
+    omega (
+      arith,
+      tricks_third t card ok.sound can third,
+      count_full t third Left,
+      count_in-none (end_trick (put_card t card)).trick.leader Left,
+      left_falls s ok card (to_play t) h,
+      ok.fits.count,
+    )
 
 left_count : (s : State) → IsState s → (card : ℕ) → has_card (hand_of s (to_play s.table)) card ≡ true
     → length (take_out card s.left) + played_count (after_card s.table card) Left ≡ tricks_left (after_card s.table card)
 left_count s ok card h =
     let t = s.table in
     elim (cases_eq (length t.trick.cards) 3) as (λ _. length (take_out card s.left) + played_count (after_card t card) Left ≡ tricks_left (after_card t card)) [
-      inl third ↦ rw (after_third t card third) (left_third s ok card h third)
-    | inr other ↦ (let short : length t.trick.cards < 3 = omega (arith, ok.sound.trick_short, other) in
-                   rw (after_short t card short) (left_short s ok card h short)) ]
+      | inl third ↦ rw (after_third t card third) (left_third s ok card h third)
+      | inr other ↦ (let short : length t.trick.cards < 3 = omega (arith, ok.sound.trick_short, other) in
+          rw (after_short t card short) (left_short s ok card h short))
+    ]
 
 -- ---- a state after a legal card
 
@@ -157,8 +166,16 @@ pub cards_left-after : (t : Table) (card : ℕ) → IsSound t → CanPlay t card
 cards_left-after t card sound can =
     let falls = hands_fall t sound card (to_play t) can in
     let one = one_seat (to_play t) in
-    omega (arith, falls.declarer, falls.dummy, falls.unseen, one,
-        ap (length {A = ℕ}) (after_card-declarer t card), ap (length {A = ℕ}) (after_card-dummy t card), ap (length {A = ℕ}) (after_card-unseen t card))
+    omega (
+      arith,
+      falls.declarer,
+      falls.dummy,
+      falls.unseen,
+      one,
+      ap (length {A = ℕ}) (after_card-declarer t card),
+      ap (length {A = ℕ}) (after_card-dummy t card),
+      ap (length {A = ℕ}) (after_card-unseen t card),
+    )
   where
     one_seat : (seat : Seat) → same_seat seat Declarer + same_seat seat Dummy + same_seat seat Left + same_seat seat Right ≡ 1
     one_seat Declarer = refl
