@@ -9,7 +9,8 @@ use Rattle.card_sets.specs.declared.seat.Seat.TheVariants.{Declarer, Left, Dummy
 use Rattle.card_sets.specs.SetWords.{has_card, IsCardSet, IsSubset, Apart}
 use Rattle.trick_rules.specs.Table.{Played, Table, State, seat_after, to_play, has_played, played_count, tricks_left, IsSound, FitsLeft, IsState}
 use Rattle.trick_rules.specs.Play.{take_out, put_card, end_trick, after_card, after, held_by, hand_of, right_of, CanPlay, is_declarers, winner_of, legal_in, legal_cards, of_suit, or_whole}
-use Rattle.trick_rules.proofs.CardLists.{filter_same, has_card-filter, has_card-append, IsCardSet-filter, IsCardSet-low, has_card-take_out, take_out-low, take_out-gone, take_out-absent, length-take_out, length-without}
+use Rattle.card_sets.proofs.Sets.{has_card-filter, IsCardSet-filter, has_card-below}
+use Rattle.trick_rules.proofs.CardLists.{has_card-append, has_card-take_out, take_out-low, take_out-gone, take_out-absent, length-take_out, length-without}
 use Rattle.trick_rules.proofs.Turns.{count_in, same_seat, count_in-suc, count_in-none, count_in-all, same_seat-self, count_in-turn}
 
 -- ---- the hands after a card
@@ -65,10 +66,10 @@ Apart-push card xs ys apart c h =
 -- ---- a sound position after a card
 
 pub held_low : (t : Table) → IsSound t → (card : ℕ) (seat : Seat) → has_card (held_by t seat) card ≡ true → card < 52
-held_low t sound card Declarer h = IsCardSet-low t.declarer sound.declarer_set card h
-held_low t sound card Dummy h = IsCardSet-low t.dummy sound.dummy_set card h
-held_low t sound card Left h = IsCardSet-low t.unseen sound.unseen_set card h
-held_low t sound card Right h = IsCardSet-low t.unseen sound.unseen_set card h
+held_low t sound card Declarer h = has_card-below t.declarer card sound.declarer_set h
+held_low t sound card Dummy h = has_card-below t.dummy card sound.dummy_set h
+held_low t sound card Left h = has_card-below t.unseen card sound.unseen_set h
+held_low t sound card Right h = has_card-below t.unseen card sound.unseen_set h
 
 -- no card of the trick is held
 trick_held : (t : Table) → IsSound t → (seat : Seat) → Apart (held_by t seat) t.trick.cards

@@ -9,7 +9,8 @@ use Rattle.card_sets.specs.Cards.{suit_of, same_suit}
 use Rattle.card_sets.specs.SetWords.{has_card, IsCardSet, IsSubset, Apart}
 use Rattle.trick_rules.specs.Table.{Played, Table, State, seat_after, to_play, has_played, played_count, tricks_left, IsSound, FitsLeft, IsState}
 use Rattle.trick_rules.specs.Play.{take_out, put_card, end_trick, after_card, after, held_by, hand_of, right_of, CanPlay, is_declarers, winner_of, legal_in, legal_cards, of_suit, or_whole, cards_left, is_over, decided}
-use Rattle.trick_rules.proofs.CardLists.{filter_same, has_card-filter, IsCardSet-filter, has_card-take_out, take_out-low, take_out-absent, length-take_out, length-without, some_from_length, length_from_some, first_has}
+use Rattle.card_sets.proofs.Sets.{has_card-filter, IsCardSet-filter}
+use Rattle.trick_rules.proofs.CardLists.{has_card-take_out, take_out-low, take_out-absent, length-take_out, length-without, some_from_length, length_from_some, first_has}
 use Rattle.trick_rules.proofs.Turns.{count_in, same_seat, count_in-suc, count_in-none, count_in-all, count_in-turn}
 use Rattle.trick_rules.proofs.Soundness.{HandsFall, hands_fall, after_short, after_third, after_card_sound, Apart-sym}
 
