@@ -1,0 +1,2 @@
+pub mod VectorLemmas
+mod WordLemmas
