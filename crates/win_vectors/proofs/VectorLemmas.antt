@@ -1,11 +1,10 @@
 -- Lists of bits: ones, meet, dominance, and the parts that a mask picks.
-use Rattle.std.proofs.Common.{◌≡◌, ◌≢◌, ◌⊎◌, ℕ, suc, zero, ◌+◌, ◌<◌, ◌≤◌, Bool, true, false, not, ◌&&◌, ◌||◌, List, [], ◌∷◌, ◌++◌, length, refl, sym, ap, subst, ◌∙◌, arith, if◌then◌else◌, replicate, get_or, inl, inr, rules, length-append}
-use Rattle.std.proofs.lemmas.Bool.Decides.{nat_tests, same_from_decides}
+use Rattle.std.proofs.Common.{◌≡◌, ℕ, suc, zero, ◌+◌, ◌<◌, ◌≤◌, Bool, true, false, ◌&&◌, [], ◌∷◌, ◌++◌, length, refl, ap, arith, if◌then◌else◌, get_or}
+use Rattle.std.proofs.lemmas.Bool.Decides.{nat_tests}
 use Rattle.std.proofs.lemmas.Bool.{true≢false, false≢true}
 use Rattle.std.specs.Bool.{Decides}
 use Rattle.std.proofs.Math.Bool.{beq}
 use Rattle.std.specs.Cmp.Lexicographic.{pointwise, pointwise_decides}
-use Rattle.std.specs.List.{AllZip}
 use Rattle.win_vectors.specs.Vectors.{ones_of, meet_of, dominates, restrict_of, spread_of, earlier_one, vector_order}
 use Rattle.std.specs.declared.cmp.Ordering.TheVariants.{Less, Equal, Greater}
 use Rattle.win_vectors.specs.Fronts.{Vector, IsAtLeast, Dominates}
@@ -107,12 +106,12 @@ pub record DifferAt (us vs : Vector) (place : ℕ) : Type 0 where
 -- the same, past the first place
 DifferAt-rest : (u v : Bool) (us vs : Vector) (place : ℕ) → DifferAt (u ∷ us) (v ∷ vs) (suc place) → DifferAt us vs place
 DifferAt-rest u v us vs place h = record {
-    in_first = omega arith;
-    in_second = omega arith;
-    agree = λ i below. h.agree (suc i) (omega arith);
-    one = h.one;
-    zero = h.zero;
-  }
+  in_first = omega arith;
+  in_second = omega arith;
+  agree = λ i below. h.agree (suc i) (omega arith);
+  one = h.one;
+  zero = h.zero;
+}
 
 pub earlier_one-less : (us vs : Vector) (place : ℕ) → DifferAt us vs place → earlier_one us vs ≡ Less
 earlier_one-less [] vs place h = absurd (omega arith)

@@ -1,5 +1,5 @@
 -- Vectors in a word.
-use Rattle.std.proofs.Common.{◌≡◌, ◌≢◌, ◌⊎◌, ℕ, suc, zero, ◌+◌, ◌-◌, ◌*◌, ◌/◌, ◌%◌, ◌^◌, ◌<◌, ◌≤◌, Bool, true, false, not, ◌&&◌, ◌||◌, List, [], ◌∷◌, ◌++◌, length, refl, sym, ap, subst, ◌∙◌, arith, if◌then◌else◌, get_or, inl, inr, bit_and, bit_or, bit_xor, pow-suc, ◌==◌, w64, lit<, append-nil, add-one, slice_set}
+use Rattle.std.proofs.Common.{◌≡◌, ◌≢◌, ℕ, suc, zero, ◌+◌, ◌-◌, ◌*◌, ◌/◌, ◌%◌, ◌^◌, ◌<◌, ◌≤◌, Bool, true, false, not, ◌&&◌, ◌||◌, [], ◌∷◌, ◌++◌, length, refl, sym, ap, ◌∙◌, arith, if◌then◌else◌, inl, inr, bit_and, bit_or, bit_xor, pow-suc, ◌==◌, w64, lit<, append-nil, add-one, slice_set}
 use Rattle.std.proofs.lemmas.Bool.Decides.{nat_tests, same_from_decides}
 use Rattle.std.proofs.lemmas.Bool.{true≢false, false≢true, eq-eqb, eqb-true, cases_lt}
 use Rattle.std.proofs.lemmas.Nat.{and_le_l, or_lt, xor_lt, pow_below, pow_pos}
@@ -11,14 +11,13 @@ use Rattle.std.specs.Int.{bit_at, trailing_zeros}
 use Rattle.std.specs.Ordering.{nat_cmp}
 use Rattle.std.specs.declared.cmp.Ordering.TheVariants.{Less, Equal, Greater}
 use Rattle.std.specs.Int.Count.{ones, ones_step}
-use Rattle.std.specs.List.{AllZip}
 use Rattle.std.proofs.lemmas.List.Elements.{AllZip-get_or}
 use Rattle.bit_lists.specs.Bits.{has_bit, bools, number_of}
 use Rattle.bit_lists.proofs.Bools.{has_bit-and, has_bit-or, has_bit-zero, bools-zero, bools-suc, bools-more, bools-same, bools-from, bools-set, length-bools, get_or-bools, number_of-bools}
 use Rattle.win_vectors.specs.Vectors.{ones_of, meet_of, dominates, earlier_one, vector_order, restrict_of, spread_of}
 use Rattle.win_vectors.specs.Fronts.{Vector, IsAtLeast, Dominates}
 use Rattle.win_vectors.specs.Words.{IsVectorWord}
-use Rattle.win_vectors.proofs.VectorLemmas.{length-meet_of, get_or-meet_of, Decides-dominates, Dominates-from_places, ones_of-append, ones_of-le, restrict_of-push, spread_of-push_one, spread_of-push_zero, DifferAt, earlier_one-same, earlier_one-less, earlier_one-greater, vector_order-same}
+use Rattle.win_vectors.proofs.VectorLemmas.{length-meet_of, get_or-meet_of, Decides-dominates, Dominates-from_places, ones_of-append, ones_of-le, restrict_of-push, spread_of-push_one, spread_of-push_zero, DifferAt, earlier_one-less, earlier_one-greater, vector_order-same}
 
 -- ---- count and meet
 
@@ -37,9 +36,9 @@ pub meet_of-bools : (w a b : ℕ) → meet_of (bools w a) (bools w b) ≡ bools 
 meet_of-bools w a b =
     let long : length (meet_of (bools w a) (bools w b)) ≡ w = length-meet_of (bools w a) (bools w b) (length-bools w a ∙ sym (length-bools w b)) ∙ length-bools w a in
     sym (bools-from w (bit_and a b) (meet_of (bools w a) (bools w b)) long (λ i d within.
-        let in_first : i < length (bools w a) = rw (length-bools w a) within in
-        let in_second : i < length (bools w b) = rw (length-bools w b) within in
-        get_or-meet_of (bools w a) (bools w b) i d in_first in_second ∙ rw (get_or-bools w a i d within, get_or-bools w b i d within, has_bit-and a b i) refl))
+    let in_first : i < length (bools w a) = rw (length-bools w a) within in
+    let in_second : i < length (bools w b) = rw (length-bools w b) within in
+    get_or-meet_of (bools w a) (bools w b) i d in_first in_second ∙ rw (get_or-bools w a i d within, get_or-bools w b i d within, has_bit-and a b i) refl))
 
 -- ---- dominance
 
@@ -98,16 +97,16 @@ Decides-lacking w a b high a_fits b_fits =
     let same_width : length (bools w a) ≡ length (bools w b) = length-bools w a ∙ sym (length-bools w b) in
     let lacking_fits : lacking < 2 ^ w = omega (arith, and_le_l b (18446744073709551615 - a)) in
     let none_lacking : Dominates (bools w a) (bools w b) → (i : ℕ) → i < w → (has_bit b i && not (has_bit a i)) ≡ false = λ d i within.
-        let in_first : i < length (bools w a) = rw (length-bools w a) within in
-        let at_least = AllZip-get_or IsAtLeast (bools w a) (bools w b) i true true d in_first in
-        when_at_least (has_bit a i) (has_bit b i) (rw (get_or-bools w a i true within, get_or-bools w b i true within) at at_least) in
-    ( λ e.
-        let none : lacking ≡ 0 = eqb-true lacking 0 e in
-        Dominates-from_places (bools w a) (bools w b) same_width (λ i within.
-            let i_below : i < w = omega (arith, length-bools w a) in
-            rw (get_or-bools w a i true i_below, get_or-bools w b i true i_below)
-                (at_least_when (has_bit a i) (has_bit b i) (sym (each i i_below) ∙ ap (λ n. has_bit n i) none ∙ has_bit-zero i)))
-    , λ d. eq-eqb lacking 0 (same_from_bits_below w lacking 0 lacking_fits (pow_pos w) (λ i within. no_bit lacking i (each i within ∙ none_lacking d i within)))
+    let in_first : i < length (bools w a) = rw (length-bools w a) within in
+    let at_least = AllZip-get_or IsAtLeast (bools w a) (bools w b) i true true d in_first in
+    when_at_least (has_bit a i) (has_bit b i) (rw (get_or-bools w a i true within, get_or-bools w b i true within) at at_least) in (
+      λ e.
+          let none : lacking ≡ 0 = eqb-true lacking 0 e in
+          Dominates-from_places (bools w a) (bools w b) same_width (λ i within.
+          let i_below : i < w = omega (arith, length-bools w a) in
+          rw (get_or-bools w a i true i_below, get_or-bools w b i true i_below)
+          (at_least_when (has_bit a i) (has_bit b i) (sym (each i i_below) ∙ ap (λ n. has_bit n i) none ∙ has_bit-zero i))),
+      λ d. eq-eqb lacking 0 (same_from_bits_below w lacking 0 lacking_fits (pow_pos w) (λ i within. no_bit lacking i (each i within ∙ none_lacking d i within))),
     )
 
 pub dominates-bools : (w a b : ℕ) → w ≤ 64 → a < 2 ^ w → b < 2 ^ w → (bit_and b (18446744073709551615 - a) == 0) ≡ dominates (bools w a) (bools w b)
@@ -156,11 +155,11 @@ set_one w m place high within fits =
     let shifted = shifted_digit place 1 (omega arith) (lit< tt) in
     let one_fits : one < 2 ^ w = lt_of_lt_of_le shifted.fits (pow_mono (omega arith)) in
     record {
-        fits = or_lt w m one fits one_fits;
-        bits = bools-set w m (bit_or m one) place true within
-            (has_bit-or m one place ∙ rw shifted.here (or_true (has_bit m place)))
-            (λ i below apart. has_bit-or m one i ∙ rw (shifted.elsewhere i apart) (or_none (has_bit m i)));
-      }
+      fits = or_lt w m one fits one_fits;
+      bits = bools-set w m (bit_or m one) place true within
+          (has_bit-or m one place ∙ rw shifted.here (or_true (has_bit m place)))
+          (λ i below apart. has_bit-or m one i ∙ rw (shifted.elsewhere i apart) (or_none (has_bit m i)));
+    }
 
 pub set_zero : (w m place : ℕ) → w ≤ 64 → place < w → m < 2 ^ w → SetsBit w m place false (bit_and m (18446744073709551615 - 1 * 2 ^ place % 18446744073709551616))
 set_zero w m place high within fits =
@@ -170,11 +169,11 @@ set_zero w m place high within fits =
     let cleared = bit_and m (18446744073709551615 - one) in
     let each : (i : ℕ) → i < w → has_bit cleared i ≡ (has_bit m i && not (has_bit one i)) = λ i below. has_bit-lacking one m i one_word (omega arith) in
     record {
-        fits = omega (arith, and_le_l m (18446744073709551615 - one));
-        bits = bools-set w m cleared place false within
-            (each place within ∙ rw shifted.here (and_false (has_bit m place)))
-            (λ i below apart. each i below ∙ rw (shifted.elsewhere i apart) (and_true (has_bit m i)));
-      }
+      fits = omega (arith, and_le_l m (18446744073709551615 - one));
+      bits = bools-set w m cleared place false within
+          (each place within ∙ rw shifted.here (and_false (has_bit m place)))
+          (λ i below apart. each i below ∙ rw (shifted.elsewhere i apart) (and_true (has_bit m i)));
+    }
 
 pub put_bit : (w m d : ℕ) → w < 64 → m < 2 ^ w → d < 2 → PutsBit w m d (bit_or m (d * 2 ^ w % 18446744073709551616))
 put_bit w m d high fits digit =
@@ -224,14 +223,14 @@ differ_swap false false = refl
 -- where one vector has 1 at the lowest bit in which two differ
 pub lowest_difference : (w a b place : ℕ) → place < w → has_bit (bit_xor a b) place ≡ true → ((i : ℕ) → i < place → has_bit (bit_xor a b) i ≡ false) → has_bit a place ≡ true → DifferAt (bools w a) (bools w b) place
 lowest_difference w a b place within differs below one = record {
-    in_first = rw (length-bools w a) within;
-    in_second = rw (length-bools w b) within;
-    agree = λ i low.
-        let i_within : i < w = omega arith in
-        rw (get_or-bools w a i true i_within, get_or-bools w b i true i_within) (same_when (has_bit a i) (has_bit b i) (sym (has_bit-xor a b i) ∙ below i low));
-    one = get_or-bools w a place true within ∙ one;
-    zero = get_or-bools w b place true within ∙ other_when (has_bit a place) (has_bit b place) (sym (has_bit-xor a b place) ∙ differs) one;
-  }
+  in_first = rw (length-bools w a) within;
+  in_second = rw (length-bools w b) within;
+  agree = λ i low.
+      let i_within : i < w = omega arith in
+      rw (get_or-bools w a i true i_within, get_or-bools w b i true i_within) (same_when (has_bit a i) (has_bit b i) (sym (has_bit-xor a b i) ∙ below i low));
+  one = get_or-bools w a place true within ∙ one;
+  zero = get_or-bools w b place true within ∙ other_when (has_bit a place) (has_bit b place) (sym (has_bit-xor a b place) ∙ differs) one;
+}
 
 -- what a comparison of the counts, and of the lowest bit in which two words differ, says of the vectors
 pub order-by_count : (w a b : ℕ) → a < 2 ^ w → b < 2 ^ w → ones a ≢ ones b → nat_cmp (ones b) (ones a) ≡ vector_order (bools w a) (bools w b)
@@ -243,7 +242,7 @@ order-same_count w a b a_fits b_fits same = rw (ones_of-bools w a a_fits, ones_o
 pub order-same : (w a b : ℕ) → a < 2 ^ w → b < 2 ^ w → bit_xor a b ≡ 0 → Equal ≡ vector_order (bools w a) (bools w b)
 order-same w a b a_fits b_fits e =
     let equal : bools w a ≡ bools w b =
-        bools-same w a b (λ i within. same_when (has_bit a i) (has_bit b i) (sym (has_bit-xor a b i) ∙ ap (λ n. has_bit n i) e ∙ has_bit-zero i)) in
+    bools-same w a b (λ i within. same_when (has_bit a i) (has_bit b i) (sym (has_bit-xor a b i) ∙ ap (λ n. has_bit n i) e ∙ has_bit-zero i)) in
     rw equal (sym (vector_order-same (bools w b)))
 
 -- the lowest bit in which two words differ
@@ -260,13 +259,13 @@ LowestDifference-trailing w a b high a_fits b_fits apart =
     let lowest = bit_at-trailing_zeros w64 both (pos_of_ne-zero apart) (word_of both w high fits) in
     let differs : has_bit both place ≡ true = rw lowest.1 refl in
     record {
-        within = elim (cases_lt place w) [
-            | inl below ↦ below
-            | inr above ↦ absurd (false≢true (sym (rw (bit_at_above both w place fits above) refl) ∙ differs))
-            ];
-        differs = differs;
-        below = λ i low. rw (lowest.2 i low) refl;
-      }
+      within = elim (cases_lt place w) [
+        | inl below ↦ below
+        | inr above ↦ absurd (false≢true (sym (rw (bit_at_above both w place fits above) refl) ∙ differs))
+      ];
+      differs = differs;
+      below = λ i low. rw (lowest.2 i low) refl;
+    }
 
 pub trailing_zeros-within : (a b : ℕ) → a < 2 ^ 64 → b < 2 ^ 64 → bit_xor a b ≢ 0 → trailing_zeros w64 (bit_xor a b) < 64
 trailing_zeros-within a b a_fits b_fits apart = (LowestDifference-trailing 64 a b (omega arith) a_fits b_fits apart).within
@@ -284,7 +283,7 @@ order-greater w a b high a_fits b_fits same apart none =
     let lowest = LowestDifference-trailing w a b high a_fits b_fits apart in
     let one : has_bit b place ≡ true = second_when (has_bit a place) (has_bit b place) (sym (has_bit-xor a b place) ∙ lowest.differs) none in
     let swapped : (i : ℕ) → has_bit (bit_xor b a) i ≡ has_bit (bit_xor a b) i =
-        λ i. has_bit-xor b a i ∙ differ_swap (has_bit b i) (has_bit a i) ∙ sym (has_bit-xor a b i) in
+    λ i. has_bit-xor b a i ∙ differ_swap (has_bit b i) (has_bit a i) ∙ sym (has_bit-xor a b i) in
     let at = lowest_difference w b a place lowest.within (swapped place ∙ lowest.differs) (λ i low. swapped i ∙ lowest.below i low) one in
     sym (order-same_count w a b a_fits b_fits same ∙ earlier_one-greater (bools w a) (bools w b) place at)
 
@@ -298,10 +297,10 @@ pub record Restricts (self mask place width bits : ℕ) : Type 0 where
 
 pub Restricts-none : (self mask : ℕ) → Restricts self mask 0 0 0
 Restricts-none self mask = record {
-    counted = rw (bools-zero mask) refl;
-    fits = lit< tt;
-    so_far = rw (bools-zero 0, bools-zero self) refl;
-  }
+  counted = rw (bools-zero mask) refl;
+  fits = lit< tt;
+  so_far = rw (bools-zero 0, bools-zero self) refl;
+}
 
 -- the ones of the first places of a mask are at most the places
 ones-most : (mask place : ℕ) → ones_of (bools place mask) ≤ place
@@ -317,7 +316,7 @@ same_length place self mask = length-bools place self ∙ sym (length-bools plac
 restrict_of-more : (self mask place : ℕ) → restrict_of (bools (place + 1) self) (bools (place + 1) mask) ≡ restrict_of (bools place self) (bools place mask) ++ (if has_bit mask place then has_bit self place ∷ [] else [])
 restrict_of-more self mask place =
     rw (bools-more place self, bools-more place mask)
-        (restrict_of-push (bools place self) (bools place mask) (has_bit self place) (has_bit mask place) (same_length place self mask))
+    (restrict_of-push (bools place self) (bools place mask) (has_bit self place) (has_bit mask place) (same_length place self mask))
 
 pub Restricts-narrow : (self mask place width bits : ℕ) → place < 64 → Restricts self mask place width bits → width < 64
 Restricts-narrow self mask place width bits high h = omega (arith, ones-most mask place, h.counted)
@@ -327,26 +326,26 @@ Restricts-one self mask place width bits high here h =
     let narrow = Restricts-narrow self mask place width bits high h in
     let put = put_bit width bits (bit_at self place) narrow h.fits (bit_at-lt self place) in
     record {
-        counted = rw (ones-more mask place, here, ← h.counted) refl;
-        fits = put.fits;
-        so_far = put.bits ∙ rw (restrict_of-more self mask place, here, h.so_far) refl;
-      }
+      counted = rw (ones-more mask place, here, ← h.counted) refl;
+      fits = put.fits;
+      so_far = put.bits ∙ rw (restrict_of-more self mask place, here, h.so_far) refl;
+    }
 
 pub Restricts-zero : (self mask place width bits : ℕ) → has_bit mask place ≡ false → Restricts self mask place width bits → Restricts self mask (place + 1) width bits
 Restricts-zero self mask place width bits here h =
     record {
-        counted = rw (ones-more mask place, here, ← h.counted) (omega arith);
-        fits = h.fits;
-        so_far = h.so_far ∙ rw (restrict_of-more self mask place, here) (sym (append-nil (restrict_of (bools place self) (bools place mask))));
-      }
+      counted = rw (ones-more mask place, here, ← h.counted) (omega arith);
+      fits = h.fits;
+      so_far = h.so_far ∙ rw (restrict_of-more self mask place, here) (sym (append-nil (restrict_of (bools place self) (bools place mask))));
+    }
 
 -- at the end of the loop
 pub Restricts-word : (self mask place width bits : ℕ) → place ≤ 64 → 1 ≤ ones_of (bools place mask) → Restricts self mask place width bits → IsVectorWord width bits
 Restricts-word self mask place width bits high not_empty h = record {
-    low = rw h.counted not_empty;
-    high = omega (arith, ones-most mask place, h.counted);
-    fits = h.fits;
-  }
+  low = rw h.counted not_empty;
+  high = omega (arith, ones-most mask place, h.counted);
+  fits = h.fits;
+}
 
 -- the first bits of a vector were put at the ones of the first places of a mask, and 1 at its zeros; from holds the bits to come
 pub record Spreads (self mask place from bits : ℕ) : Type 0 where
@@ -356,10 +355,10 @@ pub record Spreads (self mask place from bits : ℕ) : Type 0 where
 
 pub Spreads-none : (self mask : ℕ) → Spreads self mask 0 self 0
 Spreads-none self mask = record {
-    rest = rw (bools-zero mask) (omega arith);
-    fits = lit< tt;
-    so_far = rw (bools-zero mask, bools-zero 0) refl;
-  }
+  rest = rw (bools-zero mask) (omega arith);
+  fits = lit< tt;
+  so_far = rw (bools-zero mask, bools-zero 0) refl;
+}
 
 or_with_zero : (y : ℕ) → y < 2 → bit_or y 0 ≡ y
 or_with_zero zero h = refl
@@ -383,10 +382,10 @@ Spreads-one self mask place from bits high here h =
     let counted : ones_of (bools (place + 1) mask) ≡ k + 1 = rw (ones-more mask place, here) refl in
     let long : length (bools k self) ≡ ones_of (bools place mask) = length-bools k self in
     rw digit (record {
-        rest = rw (counted, h.rest, add-one, pow-suc) (div-div-eq-div-mul self (2 ^ k) 2);
-        fits = put.fits;
-        so_far = put.bits ∙ rw (counted, bools-more k self, bools-more place mask, here, spread_of-push_one (bools k self) (bools place mask) (has_bit self k) long, h.so_far) refl;
-      })
+      rest = rw (counted, h.rest, add-one, pow-suc) (div-div-eq-div-mul self (2 ^ k) 2);
+      fits = put.fits;
+      so_far = put.bits ∙ rw (counted, bools-more k self, bools-more place mask, here, spread_of-push_one (bools k self) (bools place mask) (has_bit self k) long, h.so_far) refl;
+    })
 
 Spreads-zero : (self mask place from bits : ℕ) → place < 64 → has_bit mask place ≡ false → Spreads self mask place from bits → Spreads self mask (place + 1) from (bit_or bits (bit_or (bit_and from 1) 1 * 2 ^ place % 18446744073709551616))
 Spreads-zero self mask place from bits high here h =
@@ -396,10 +395,10 @@ Spreads-zero self mask place from bits high here h =
     let counted : ones_of (bools (place + 1) mask) ≡ k = rw (ones-more mask place, here) (omega arith) in
     let long : length (bools k self) ≡ ones_of (bools place mask) = length-bools k self in
     rw digit (record {
-        rest = rw counted h.rest;
-        fits = put.fits;
-        so_far = put.bits ∙ rw (counted, bools-more place mask, here, spread_of-push_zero (bools k self) (bools place mask) long, h.so_far) refl;
-      })
+      rest = rw counted h.rest;
+      fits = put.fits;
+      so_far = put.bits ∙ rw (counted, bools-more place mask, here, spread_of-push_zero (bools k self) (bools place mask) long, h.so_far) refl;
+    })
 
 pub Spreads-more : (self mask place from bits here : ℕ) → place < 64 → here ≡ bit_at mask place → Spreads self mask place from bits → Spreads self mask (place + 1) (from / 2 ^ here) (bit_or bits (bit_or (bit_and from 1) (1 - here) * 2 ^ place % 18446744073709551616))
 Spreads-more self mask place from bits zero high is_mask h =

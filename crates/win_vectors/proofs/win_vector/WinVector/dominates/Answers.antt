@@ -7,11 +7,11 @@ returns-clause-value c =
     let same = widths-same c.self.inside.width c.self.inside.bits c.other.inside.width c.other.inside.bits c.args.self c.args.other c.self.view_is c.other.view_is c.requires in
     let fits : c.other.inside.bits < 2 ^ c.self.inside.width = rw same c.other.invariant.fits in
     rw (← c.self.view_is, ← c.other.view_is, ← same)
-        (dominates-bools c.self.inside.width c.self.inside.bits c.other.inside.bits c.self.invariant.high c.self.invariant.fits fits)
+    (dominates-bools c.self.inside.width c.self.inside.bits c.other.inside.bits c.self.invariant.high c.self.invariant.fits fits)
 
 pub returns-clause-meaning : goal.returns-clause-meaning
 returns-clause-meaning c =
     let same = widths-same c.self.inside.width c.self.inside.bits c.other.inside.width c.other.inside.bits c.args.self c.args.other c.self.view_is c.other.view_is c.requires in
     let fits : c.other.inside.bits < 2 ^ c.self.inside.width = rw same c.other.invariant.fits in
     rw (← c.self.view_is, ← c.other.view_is, ← same)
-        (Decides-lacking c.self.inside.width c.self.inside.bits c.other.inside.bits c.self.invariant.high c.self.invariant.fits fits)
+    (Decides-lacking c.self.inside.width c.self.inside.bits c.other.inside.bits c.self.invariant.high c.self.invariant.fits fits)

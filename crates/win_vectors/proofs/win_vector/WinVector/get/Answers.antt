@@ -1,4 +1,4 @@
-use Rattle.std.proofs.Common.{◌<◌, arith}
+use Rattle.std.proofs.Common.{◌<◌}
 use Rattle.std.proofs.lemmas.Nat.Bits.{shr_and_one}
 use Rattle.bit_lists.proofs.Bools.{length-bools, slice_get-bools}
 use Rattle.win_vectors.proofs.win_vector.WinVector.get.Goals as goal

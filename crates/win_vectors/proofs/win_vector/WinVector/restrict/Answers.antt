@@ -1,4 +1,4 @@
-use Rattle.std.proofs.Common.{◌≡◌, ◌<◌, ◌≤◌, arith, ◌==◌, true, false}
+use Rattle.std.proofs.Common.{◌≡◌, ◌<◌, ◌≤◌, arith, true, false}
 use Rattle.std.proofs.lemmas.Bool.{eq-eqb, ne_eqb}
 use Rattle.std.proofs.lemmas.Nat.Bits.{shr_and_one}
 use Rattle.bit_lists.specs.Bits.{has_bit, bools}
@@ -24,12 +24,12 @@ pub loop-place-preserved : goal.loop-place-preserved
 loop-place-preserved c =
     let high : c.loop-place.place < 64 = omega (arith, c.self.invariant.high) in
     elim c.if-mask-place-eq1.branch [
-    | then-mask-place-eq1 w ↦
-        let here : has_bit c.mask.inside.bits c.loop-place.place ≡ true = eq-eqb _ _ (rw shr_and_one at w.if-mask-place-eq1.true) in
-        rw (w.bits-is, w.width-is, shr_and_one) (Restricts-one c.self.inside.bits c.mask.inside.bits c.loop-place.place c.loop-place.width c.loop-place.bits high here c.loop-place.invariant)
-    | else-mask-place-eq1 w ↦
-        let here : has_bit c.mask.inside.bits c.loop-place.place ≡ false = ne_eqb _ _ (rw shr_and_one at w.if-mask-place-eq1.false) in
-        rw (w.bits-is, w.width-is) (Restricts-zero c.self.inside.bits c.mask.inside.bits c.loop-place.place c.loop-place.width c.loop-place.bits here c.loop-place.invariant)
+      | then-mask-place-eq1 w ↦
+          let here : has_bit c.mask.inside.bits c.loop-place.place ≡ true = eq-eqb _ _ (rw shr_and_one at w.if-mask-place-eq1.true) in
+          rw (w.bits-is, w.width-is, shr_and_one) (Restricts-one c.self.inside.bits c.mask.inside.bits c.loop-place.place c.loop-place.width c.loop-place.bits high here c.loop-place.invariant)
+      | else-mask-place-eq1 w ↦
+          let here : has_bit c.mask.inside.bits c.loop-place.place ≡ false = ne_eqb _ _ (rw shr_and_one at w.if-mask-place-eq1.false) in
+          rw (w.bits-is, w.width-is) (Restricts-zero c.self.inside.bits c.mask.inside.bits c.loop-place.place c.loop-place.width c.loop-place.bits here c.loop-place.invariant)
     ]
 
 pub invariant_of-result : goal.invariant_of-result
