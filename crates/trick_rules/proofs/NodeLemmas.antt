@@ -14,7 +14,7 @@ use Rattle.trick_rules.specs.Nodes.{Layouts, IsNode, states, is_legal, choices, 
 use Rattle.trick_rules.proofs.States.{legal_can_play, after-IsState, some_legal}
 use Rattle.trick_rules.proofs.Soundness.{after_card_sound, held_low}
 
-abbrev state_of : Table → List ℕ → State
+abbrev pub state_of : Table → List ℕ → State
 state_of t left = record { table = t; left = left }
 
 -- ---- layouts and states
@@ -158,17 +158,3 @@ choice_somewhere n ok left =
     let some = first_state n ok in
     let card = choice_everywhere n some.0 ok left some.1 in
     (card.0, card.1)
-
--- ---- for a loop over the layouts
-
--- the choices of one layout more
-pub choices_more : (t : Table) (lefts : List (List ℕ)) (i : ℕ) (left : List ℕ) → i < length lefts → left ≡ get_or lefts i left
-    → cards_where (λ c. has_card (cards_where (λ card. list_any (is_legal t card) (take i lefts))) c || has_card (legal_in (state_of t left)) c)
-      ≡ cards_where (λ card. list_any (is_legal t card) (take (i + 1) lefts))
-choices_more t lefts i left h here =
-    cards_where-agree (λ c. has_card (cards_where (λ card. list_any (is_legal t card) (take i lefts))) c || has_card (legal_in (state_of t left)) c)
-        (λ card. list_any (is_legal t card) (take (i + 1) lefts))
-        (λ c low.
-            ap (λ b. b || is_legal t c left) (has_card-cards_where (λ card. list_any (is_legal t card) (take i lefts)) c low)
-            ∙ ap (λ hand. list_any (is_legal t c) (take i lefts) || is_legal t c hand) here
-            ∙ sym (list_any_more (is_legal t c) lefts i left h))
