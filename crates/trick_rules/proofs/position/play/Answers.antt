@@ -1,4 +1,4 @@
-use Rattle.std.proofs.Common.{◌≡◌, sym, subst}
+use Rattle.std.proofs.Common.{sym, subst}
 use Rattle.trick_rules.specs.Table.{Table, IsSound}
 use Rattle.trick_rules.specs.Play.{CanPlay}
 use Rattle.trick_rules.proofs.Soundness.{after_card_sound, after_card-parts}

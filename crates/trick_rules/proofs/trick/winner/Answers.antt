@@ -1,6 +1,6 @@
-use Rattle.std.proofs.Common.{◌≡◌, ◌+◌, length, get_or, map, sym, ap, ◌∙◌, arith}
+use Rattle.std.proofs.Common.{◌≡◌, ◌+◌, length, get_or, map, sym, ◌∙◌, arith}
 use Rattle.card_sets.specs.Cards.{suit_of}
-use Rattle.trick_rules.specs.Play.{strength, winner_of}
+use Rattle.trick_rules.specs.Play.{strength}
 use Rattle.trick_rules.proofs.TrickLemmas.{IsHighest, IsHighest-takes, IsHighest-keeps, strength_read, winner_from_highest}
 use Rattle.trick_rules.proofs.trick.winner.Goals as goal
 use Rattle.trick_rules.proofs.trick.winner.Goals.{then-strength, else-strength}

@@ -1,8 +1,8 @@
-use Rattle.std.proofs.Common.{◌≡◌, ◌+◌, ◌<◌, ◌∙◌, sym, ap, subst, true, false, Some, length, get_or, arith}
+use Rattle.std.proofs.Common.{◌≡◌, ◌+◌, ◌<◌, ◌∙◌, sym, ap, subst, length, get_or, arith}
 use Rattle.std.proofs.lemmas.Option.{slice_get-get_or}
 use Rattle.card_sets.specs.SetWords.{has_card}
 use Rattle.trick_rules.specs.Play.{CanPlay, after_card}
-use Rattle.trick_rules.specs.Nodes.{Layouts, IsNode, is_legal, child, child_mask}
+use Rattle.trick_rules.specs.Nodes.{Layouts, is_legal}
 use Rattle.trick_rules.proofs.NodeLemmas.{choice_can_play, child-IsNode}
 use Rattle.trick_rules.proofs.KeptLayouts.{kept_upto, mask_upto, kept_set, kept_keep, mask_set, mask_keep, kept_all, mask_all}
 use Rattle.trick_rules.proofs.node.Node.child.Goals as goal
