@@ -82,7 +82,8 @@ impl Position {
 
     /// Whether no tricks are left.
     pub fn over(&self) -> bool
-        ensures { result ≡ is_over self.now }
+        ensures value { result ≡ is_over self.now }
+        ensures sound { IsSound self.now }
     {
         self.tricks_left() == 0
     }
