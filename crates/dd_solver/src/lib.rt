@@ -4,5 +4,7 @@
 #![tactic(auto)]
 
 mod plain;
+#[cfg(test)]
+mod tests;
 
 pub use plain::makes_plain;
