@@ -171,9 +171,13 @@ entered v all f r new = (put.0, record {
     four u w (inr m) (inl e) d = absurd (new (u, (less.1.from u m).0, subst (Dominates u) (sym e) d))
     four u w (inr m) (inr k) d = r.apart u w (less.1.from u m).0 (less.1.from w k).0 d
 
+-- the empty list is its own front
+pub reduced_nil : IsReduced [] []
+reduced_nil = record { reached = λ v m. m; covered = λ v m. absurd (Contains-nil v m); apart = λ u v m k d. absurd (Contains-nil u m); ordered = AllPairs-nil Precedes }
+
 -- each list has a front
 pub reduced_exists : (all : List Vector) → (f : List Vector) × IsReduced all f
-reduced_exists [] = ([], record { reached = λ v m. m; covered = λ v m. absurd (Contains-nil v m); apart = λ u v m k d. absurd (Contains-nil u m); ordered = AllPairs-nil Precedes })
+reduced_exists [] = ([], reduced_nil)
 reduced_exists (v ∷ all) = go (reduced_exists all)
   where
     go : (f : List Vector) × IsReduced all f → (f : List Vector) × IsReduced (v ∷ all) f

@@ -1,3 +1,6 @@
 mod Lists
 mod Vectors
 mod Fronts
+mod Masks
+mod Wins
+mod Recursion
