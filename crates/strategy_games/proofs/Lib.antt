@@ -1,6 +1,7 @@
-mod Lists
-mod Vectors
-mod Fronts
-mod Masks
-mod Wins
-mod Recursion
+pub mod Lists
+pub mod Vectors
+pub mod Fronts
+pub mod Masks
+pub mod Wins
+pub mod Recursion
+pub mod Nodes

@@ -49,7 +49,7 @@ module _ {N S C : Type 0} (g : Game N S C) where
   abbrev pub lets : C → Plan C → S → Bool
   lets c q s = cond (g.is_legal c s) (wins g q (g.after c s)) true
 
-  wins-first : (c : C) (q : Plan C) (rs : Replies C) (s : S) → wins g (Hear (Reply c q rs)) s ≡ (lets c q s && wins g (Hear rs) s)
+  pub wins-first : (c : C) (q : Plan C) (rs : Replies C) (s : S) → wins g (Hear (Reply c q rs)) s ≡ (lets c q s && wins g (Hear rs) s)
   wins-first c q rs s = list_all-append (λ e. g.makes e) (cond (g.is_legal c s) (ends g q (g.after c s)) []) (ends_each g rs s) ∙ ap (λ (b : Bool). b && wins g (Hear rs) s) (go (g.is_legal c s))
     where
       go : (b : Bool) → list_all (λ e. g.makes e) (cond b (ends g q (g.after c s)) []) ≡ cond b (wins g q (g.after c s)) true
