@@ -5,3 +5,5 @@ pub mod Masks
 pub mod Wins
 pub mod Recursion
 pub mod Nodes
+pub mod Moves
+pub mod Sizes
