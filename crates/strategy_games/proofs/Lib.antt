@@ -7,3 +7,7 @@ pub mod Recursion
 pub mod Nodes
 pub mod Moves
 pub mod Sizes
+pub mod Counts
+pub mod Cuts
+pub mod Chosen
+pub mod Faults

@@ -6,7 +6,7 @@ use Rattle.strategy_games.specs.Games.{Game, mask}
 use Rattle.strategy_games.specs.Plans.{Plan, Play, stops, Fits, wins_vector, IsFront, IsBelow, tree_size}
 use Rattle.strategy_games.specs.Joins.{unions, spreads, joins, AreFronts, WinsByCard, WinsByReply}
 use Rattle.strategy_games.specs.Choosing.{IsChosenPlan, IsBestCount, IsNamedCard}
-use Rattle.strategy_games.specs.Misfits.{first_misfit}
+use Rattle.strategy_games.specs.Misfits.{node_count, first_misfit}
 
 module _ {N S C : Type 0} (g : Game N S C) (Sound : N → Type 0) where
   -- each node has exactly one front, and it has a vector
@@ -90,6 +90,7 @@ module _ {N S C : Type 0} (g : Game N S C) (Sound : N → Type 0) where
     pub theirs : (n : N) (m : ℕ) (cs later : List C) (f alpha : List Vector) → Sound n → g.is_decided n ≡ false → g.is_ours n ≡ false → g.choices n ≡ cs ++ later
         → IsFrontOf (WinsByReply g n (suc m) cs) f → CoversAll alpha f → IsBelow g n (suc m) alpha
 
-  -- by a test of equal cards: no node of a plan is at fault exactly where it fits, and a number counts its nodes
-  abbrev pub FindsMisfit : (C → C → Bool) → Type 0
-  FindsMisfit same = (p : Plan C) (n : N) (m : ℕ) → Fits g p n m ↔ (first_misfit g same p n m ≡ None)
+  -- by a test of equal cards: no node of a plan is at fault exactly where the plan fits, and a node at fault is one of its nodes
+  pub record HasFirstMisfit (same : C → C → Bool) : Type 0 where
+    pub none : (p : Plan C) (n : N) (m : ℕ) → Fits g p n m ↔ (first_misfit g same p n m ≡ None)
+    pub within : (p : Plan C) (n : N) (m i : ℕ) → first_misfit g same p n m ≡ Some i → (1 ≤ i) × (i ≤ node_count p)

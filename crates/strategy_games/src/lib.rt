@@ -5,7 +5,7 @@
 
 ghost use Rattle.std.specs.Prelude.{Bool, Decides, ◌≡◌};
 ghost use Rattle.strategy_games.specs.Games.{Game, IsLawful, IsDoubleDummy, IsSettled};
-ghost use Rattle.strategy_games.specs.Laws.{HasOneFront, HasRecursion, HasSteps, HasMoreMoves, HasChosenPlan, HasSizes, HasBestCount, HasNamedCard, HasCuts, FindsMisfit};
+ghost use Rattle.strategy_games.specs.Laws.{HasOneFront, HasRecursion, HasSteps, HasMoreMoves, HasChosenPlan, HasSizes, HasBestCount, HasNamedCard, HasCuts, HasFirstMisfit};
 
 /// A game of hidden layouts: a node is what everybody sees, with the layouts that are still possible.
 ///
