@@ -173,7 +173,7 @@ module _ {N S C : Type 0} (g : Game N S C) where
 
     pub chosen_plan : HasChosenPlan g Sound
     chosen_plan = record {
-      some = λ n m t f sound a c. chosen_within (suc (g.cards_left n)) n m t f (omega arith) sound a c;
-      one = chosen_unique;
+      exists = λ n m t f sound a c. chosen_within (suc (g.cards_left n)) n m t f (omega arith) sound a c;
+      unique = chosen_unique;
       wins = chosen_wins;
     }

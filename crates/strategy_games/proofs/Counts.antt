@@ -100,7 +100,7 @@ module _ {N S C : Type 0} (g : Game N S C) where
             (w.0, w.1, (f.0, f.1, u.0, u.1, omega arith))
 
       pub best_count : HasBestCount g Sound
-      best_count = record { some = best_exists; one = best_one; most = best_most; first = best_first; decided = best_decided }
+      best_count = record { exists = best_exists; unique = best_one; most = best_most; first = best_first; decided = best_decided }
 
       named_exists : (n : N) (m : ℕ) → Sound n → g.is_over n ≡ false → g.is_ours n ≡ true → (c : C) × IsNamedCard g n (suc m) c
       named_exists n m sound on ours =
@@ -126,4 +126,4 @@ module _ {N S C : Type 0} (g : Game N S C) where
         (b.0, b.1, ([], rest, is, λ d mem h. Contains-nil d mem, decided_keeps n m b.0 c sound e ours (subst (λ (l : List C). Contains l c) (sym is) (Contains-here c rest)) b.1.0))
 
       pub named_card : HasNamedCard g Sound
-      named_card = record { some = named_exists; one = named_one; wins = named_wins; decided = named_decided }
+      named_card = record { exists = named_exists; unique = named_one; wins = named_wins; decided = named_decided }

@@ -57,6 +57,6 @@ module _ {N S C : Type 0} (g : Game N S C) where
             (λ v mem. let u = more_moves g Sound law double n m f.0 less sound f.1 a v mem in let w = c u.0 u.1 in (w.0, w.1, Dominates-trans w.0 u.0 v w.2 u.2))
             (wins_vector g p n) (p, fit, refl);
         never = λ n m sound below. let p = plan_exists g Sound law n m sound in let u = below p.0 p.1 in Contains-nil u.0 u.1;
-        ours = below_ours;
-        theirs = below_theirs;
+        at_declarer = below_ours;
+        at_defender = below_theirs;
       }

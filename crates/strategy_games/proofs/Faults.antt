@@ -31,12 +31,6 @@ or_else_some k (Some x) b i h = inl h
 or_else_some k None None i h = absurd cc
 or_else_some k None (Some j) i h = inr (j, refl, cc)
 
-mutual
-  node_count-pos : {C : Type 0} (p : Plan C) → 1 ≤ node_count p
-  node_count-pos Stop = omega arith
-  node_count-pos (Play c q) = omega arith
-  node_count-pos (Hear rs) = omega arith
-
 module _ {N S C : Type 0} (g : Game N S C) (same : C → C → Bool) (tells : (c d : C) → Decides (same c d) (c ≡ d)) where
   any_from : (cs : List C) (c : C) → Contains cs c → list_any (λ d. same d c) cs ≡ true
   any_from [] c m = absurd (Contains-nil c m)
@@ -50,18 +44,18 @@ module _ {N S C : Type 0} (g : Game N S C) (same : C → C → Bool) (tells : (c
       go rest (inl e) = subst (Contains (d ∷ cs)) ((tells d c).0 e) (Contains-here d cs)
       go rest (inr k) = Contains-there d cs c (rest k)
 
-  same_cards_from : (cs ds : List C) → cs ≡ ds → same_cards g same cs ds ≡ true
-  same_cards_from cs ds e = subst (λ l. same_cards g same cs l ≡ true) e (own cs)
+  same_cards_from : (cs ds : List C) → cs ≡ ds → same_cards same cs ds ≡ true
+  same_cards_from cs ds e = subst (λ l. same_cards same cs l ≡ true) e (own cs)
     where
-      own : (l : List C) → same_cards g same l l ≡ true
+      own : (l : List C) → same_cards same l l ≡ true
       own [] = refl
-      own (x ∷ xs) = and_from (same x x) (same_cards g same xs xs) ((tells x x).1 refl) (own xs)
+      own (x ∷ xs) = and_from (same x x) (same_cards same xs xs) ((tells x x).1 refl) (own xs)
 
-  same_cards_gives : (cs ds : List C) → same_cards g same cs ds ≡ true → cs ≡ ds
+  same_cards_gives : (cs ds : List C) → same_cards same cs ds ≡ true → cs ≡ ds
   same_cards_gives [] [] h = refl
   same_cards_gives [] (d ∷ ds) h = absurd (true≢false (sym h))
   same_cards_gives (c ∷ cs) [] h = absurd (true≢false (sym h))
-  same_cards_gives (c ∷ cs) (d ∷ ds) h = let parts = and_parts (same c d) (same_cards g same cs ds) h in ap₂ (λ (x : C) (l : List C). x ∷ l) ((tells c d).0 parts.0) (same_cards_gives cs ds parts.1)
+  same_cards_gives (c ∷ cs) (d ∷ ds) h = let parts = and_parts (same c d) (same_cards same cs ds) h in ap₂ (λ (x : C) (l : List C). x ∷ l) ((tells c d).0 parts.0) (same_cards_gives cs ds parts.1)
 
   belongs_play : (n : N) (m : ℕ) (c : C) (q : Plan C) → g.is_decided n ≡ false → g.is_ours n ≡ true → Contains (g.choices n) c → belongs g same (Play c q) n (suc m) ≡ true
   belongs_play n m c q live ours mem = and_from (not (g.is_decided n) && g.is_ours n) (list_any (λ d. same d c) (g.choices n)) (and_from (not (g.is_decided n)) (g.is_ours n) (not_from_false (g.is_decided n) live) ours) (any_from (g.choices n) c mem)
@@ -73,11 +67,11 @@ module _ {N S C : Type 0} (g : Game N S C) (same : C → C → Bool) (tells : (c
     (not-true (g.is_decided n) more.0, more.1, any_gives (g.choices n) c parts.1)
 
   belongs_hear : (n : N) (m : ℕ) (rs : Replies C) → stops g n m ≡ false → g.is_ours n ≡ false → cards_of rs ≡ g.choices n → belongs g same (Hear rs) n m ≡ true
-  belongs_hear n m rs live theirs e = and_from (not (stops g n m) && not (g.is_ours n)) (same_cards g same (cards_of rs) (g.choices n)) (and_from (not (stops g n m)) (not (g.is_ours n)) (not_from_false (stops g n m) live) (not_from_false (g.is_ours n) theirs)) (same_cards_from (cards_of rs) (g.choices n) e)
+  belongs_hear n m rs live theirs e = and_from (not (stops g n m) && not (g.is_ours n)) (same_cards same (cards_of rs) (g.choices n)) (and_from (not (stops g n m)) (not (g.is_ours n)) (not_from_false (stops g n m) live) (not_from_false (g.is_ours n) theirs)) (same_cards_from (cards_of rs) (g.choices n) e)
 
   hear_belongs : (n : N) (m : ℕ) (rs : Replies C) → belongs g same (Hear rs) n m ≡ true → (stops g n m ≡ false) × (g.is_ours n ≡ false) × (cards_of rs ≡ g.choices n)
   hear_belongs n m rs h =
-    let parts = and_parts (not (stops g n m) && not (g.is_ours n)) (same_cards g same (cards_of rs) (g.choices n)) h in
+    let parts = and_parts (not (stops g n m) && not (g.is_ours n)) (same_cards same (cards_of rs) (g.choices n)) h in
     let more = and_parts (not (stops g n m)) (not (g.is_ours n)) parts.0 in
     (not-true (stops g n m) more.0, not-true (g.is_ours n) more.1, same_cards_gives (cards_of rs) (g.choices n) parts.1)
 
@@ -135,5 +129,5 @@ module _ {N S C : Type 0} (g : Game N S C) (same : C → C → Bool) (tells : (c
       (λ (e : (j : ℕ) × (first_misfit_each g same rs n m ≡ Some j) × (i ≡ node_count q + j)). let below = misfit_within_each rs n m e.0 e.1 in omega arith)
       (or_else_some (node_count q) (first_misfit g same q (g.child n c) m) (first_misfit_each g same rs n m) i h)
 
-  pub misfits : (Sound : N → Type 0) → HasFirstMisfit g Sound same
-  misfits Sound = record { none = λ p n m. (no_misfit p n m, fits_from_none p n m); within = misfit_within }
+  pub misfits : HasFirstMisfit g same
+  misfits = record { none = λ p n m. (no_misfit p n m, fits_from_none p n m); within = misfit_within }

@@ -111,8 +111,8 @@ module _ {N S C : Type 0} (g : Game N S C) where
 
     pub one_front : HasOneFront g Sound
     one_front = record {
-      some = front_exists;
-      one = λ n m f h a b. front_unique (CanWin g n m) f h a b;
+      exists = front_exists;
+      unique = λ n m f h a b. front_unique (CanWin g n m) f h a b;
       filled = front_filled;
     }
 
@@ -198,11 +198,11 @@ module _ {N S C : Type 0} (g : Game N S C) where
 
       pub recursion : HasRecursion g Sound
       recursion = record {
-        stopped = front-stopped g;
-        ours = λ n m fs f sound on ours a.
+        at_stop = front-stopped g;
+        at_declarer = λ n m fs f sound on ours a.
           (λ (front : IsFront g n (suc m) f). let r = reduced_exists (unions fs) in subst (IsReduced (unions fs)) (front_unique (CanWin g n (suc m)) r.0 f (all_cards n m r.0 sound on ours (union_of g n m (g.choices n) fs r.0 a r.1)) front) r.1,
            λ (r : IsReduced (unions fs) f). all_cards n m f sound on ours (union_of g n m (g.choices n) fs f a r));
-        theirs = λ n m fs f sound on theirs a.
+        at_defender = λ n m fs f sound on theirs a.
           (λ (front : IsFront g n (suc m) f). let r = reduced_exists (joins (length (g.states n)) (map (λ c. mask g n c) (g.choices n)) fs) in subst (IsReduced (joins (length (g.states n)) (map (λ c. mask g n c) (g.choices n)) fs)) (front_unique (CanWin g n (suc m)) r.0 f (all_replies n m r.0 sound on theirs (join_of g Sound law n (suc m) fs r.0 sound a r.1)) front) r.1,
            λ (r : IsReduced (joins (length (g.states n)) (map (λ c. mask g n c) (g.choices n)) fs) f). all_replies n m f sound on theirs (join_of g Sound law n (suc m) fs f sound a r));
       }

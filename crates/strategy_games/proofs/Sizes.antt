@@ -92,10 +92,10 @@ module _ {N S C : Type 0} (g : Game N S C) where
 
     pub sizes : HasSizes g Sound
     sizes = record {
-      stopped = λ n m e. size-stopped (g.cards_left n) n m e;
-      ours = tree_size-ours;
-      theirs = tree_size-theirs;
-      rises = λ n m. size-rises (g.cards_left n) n m;
-      our_child = λ n m c sound live ours mem. let part = sum_by-part (λ d. tree_size g (g.child n d) m) (g.choices n) c mem in let whole = tree_size-ours n m sound live ours in omega arith;
-      their_child = λ n m c sound live theirs mem. let part = sum_by-part (λ d. tree_size g (g.child n d) (suc m)) (g.choices n) c mem in let whole = tree_size-theirs n m sound live theirs in omega arith;
+      at_stop = λ n m e. size-stopped (g.cards_left n) n m e;
+      at_declarer = tree_size-ours;
+      at_defender = tree_size-theirs;
+      monotone = λ n m. size-rises (g.cards_left n) n m;
+      declarers_child = λ n m c sound live ours mem. let part = sum_by-part (λ d. tree_size g (g.child n d) m) (g.choices n) c mem in let whole = tree_size-ours n m sound live ours in omega arith;
+      defenders_child = λ n m c sound live theirs mem. let part = sum_by-part (λ d. tree_size g (g.child n d) (suc m)) (g.choices n) c mem in let whole = tree_size-theirs n m sound live theirs in omega arith;
     }
