@@ -31,7 +31,7 @@ module _ {N S C : Type 0} (g : Game N S C) where
   best_one : (n : N) (m b c : ℕ) → IsBestCount g n m b → IsBestCount g n m c → b ≡ c
   best_one n m b c h k = let up = k.1 b h.0 in let down = h.1 c k.0 in omega arith
 
-  best_most : (n : N) (m b : ℕ) (p : Plan C) → IsBestCount g n m b → Fits g p n m → ones_of (wins_vector g p n) ≤ b
+  pub best_most : (n : N) (m b : ℕ) (p : Plan C) → IsBestCount g n m b → Fits g p n m → ones_of (wins_vector g p n) ≤ b
   best_most n m b p h fit =
     let u = h.0.1.covered (wins_vector g p n) (p, fit, refl) in
     let fewer = Dominates-ones u.0 (wins_vector g p n) u.2 in

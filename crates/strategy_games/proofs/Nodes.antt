@@ -12,7 +12,7 @@ use Rattle.strategy_games.proofs.Vectors.{Dominates-refl}
 use Rattle.strategy_games.proofs.Fronts.{front_unique, front_grows, front_same, reduced_exists}
 use Rattle.strategy_games.proofs.Masks.{map-map}
 use Rattle.strategy_games.proofs.Wins.{wins-stop, wins_vector-stop, wins_vector-play, wins-first, lets, states-child, Contains-after}
-use Rattle.strategy_games.proofs.Recursion.{CanWin-stop, front-stopped, no_card, more_cards, union_of, no_reply, more_replies, join_of}
+use Rattle.strategy_games.proofs.Recursion.{CanWin-stop, front-stopped, no_card, more_cards, covered_card, any_order, union_of, no_reply, more_replies, join_of}
 
 -- a plan for each card makes replies to them
 pub replies_from : {C : Type 0} (Fit : Replies C → Type 0) (Ok : C → Plan C → Type 0) → Fit NoReply → ((c : C) (q : Plan C) (rs : Replies C) → Ok c q → Fit rs → Fit (Reply c q rs))
@@ -163,6 +163,13 @@ module _ {N S C : Type 0} (g : Game N S C) where
 
       -- ---- from all cards to the node
 
+      -- what a card wins the node wins
+      pub card_wins : (n : N) (m : ℕ) (v : Vector) → Sound n → g.is_ours n ≡ true → WinsByCard g n m (g.choices n) v → CanWin g n (suc m) v
+      card_wins n m v sound ours w = ⊎_elim
+        (λ (e : g.is_decided n ≡ true). (Stop, e, stop-decided n sound e ∙ decided_child n m w.0 v sound e ours w.1 w.2))
+        (λ (live : g.is_decided n ≡ false). by_card_to n m sound live ours v w)
+        (cases_Bool (g.is_decided n))
+
       pub all_cards : (n : N) (m : ℕ) (f : List Vector) → Sound n → g.is_over n ≡ false → g.is_ours n ≡ true → IsFrontOf (WinsByCard g n m (g.choices n)) f → IsFront g n (suc m) f
       all_cards n m f sound on ours a = go (cases_Bool (g.is_decided n)) (filled_or_nil (g.choices n))
         where
@@ -190,6 +197,8 @@ module _ {N S C : Type 0} (g : Game N S C) where
       steps = record {
         no_card = no_card g;
         more_cards = more_cards g;
+        covered_card = covered_card g;
+        any_order = any_order g;
         all_cards = all_cards;
         no_reply = no_reply g;
         more_replies = more_replies g Sound law;

@@ -1,11 +1,11 @@
 -- The recursion on fronts, and that each node has a front.
-use Rattle.std.proofs.Common.{◌≡◌, ◌⊎◌, ◌&&◌, ◌++◌, ◌∙◌, ◌<◌, ◌≤◌, ℕ, zero, suc, Bool, true, false, cond, List, [], ◌∷◌, length, map, filter, replicate, Contains, refl, sym, ap, ap₂, subst, true≢false, inl, inr, ⊎_elim, arith}
+use Rattle.std.proofs.Common.{◌≡◌, ◌⊎◌, ◌&&◌, ◌++◌, ◌∙◌, ◌<◌, ◌≤◌, ◌↔◌, ℕ, zero, suc, Bool, true, false, cond, List, [], ◌∷◌, length, map, filter, replicate, Contains, refl, sym, ap, ap₂, subst, true≢false, inl, inr, ⊎_elim, arith}
 use Rattle.std.specs.List.{list_all}
 use Rattle.std.proofs.lemmas.Bool.{and_parts, and_from}
 use Rattle.win_vectors.specs.Vectors.{meet_of, spread_of, restrict_of}
 use Rattle.win_vectors.specs.Fronts.{Vector, Dominates, Covers, CoversAll, IsFrontOf, IsReduced, meets}
 use Rattle.strategy_games.specs.Games.{Game, mask, IsLawful, IsDoubleDummy, IsSettled}
-use Rattle.strategy_games.specs.Plans.{Plan, Replies, Stop, Play, Hear, NoReply, Reply, cards_of, stops, Fits, FitEach, ends, wins, wins_vector, CanWin, IsFront}
+use Rattle.strategy_games.specs.Plans.{Plan, Replies, Stop, Play, Hear, NoReply, Reply, cards_of, stops, Fits, FitEach, ends, wins, wins_vector, CanWin, IsFront, IsBelow}
 use Rattle.strategy_games.specs.Joins.{unions, spreads, joins, AreFronts, WinsByCard, WinsByReply}
 use Rattle.strategy_games.proofs.Lists.{Contains-here, Contains-there, Contains-nil, Contains-cons, Contains-single, Contains-append, Contains-append_first, Contains-append_second, Contains-map, Contains-of_map, map-agree, AllZip-at, AllZip-of, AllZip-from, each_cons, filled_or_nil}
 use Rattle.strategy_games.proofs.Vectors.{Dominates-refl, Dominates-trans, Dominates-meet, Dominates-spread}
@@ -59,6 +59,20 @@ module _ {N S C : Type 0} (g : Game N S C) where
         (λ (l : Contains cs w.0). let u = ff.covered v (w.0, l, w.2) in (u.0, Contains-append_first f h u.0 u.1, u.2))
         (λ (l : Contains (c ∷ []) w.0). let u = fh.covered v (subst (λ z. CanWin g (g.child n z) m v) (sym (Contains-single c w.0 l)) w.2) in (u.0, Contains-append_second f h u.0 u.1, u.2))
         (Contains-append cs (c ∷ []) w.0 w.1)
+
+  pub covered_card : (n : N) (m : ℕ) (cs : List C) (c : C) (f : List Vector) → IsFrontOf (WinsByCard g n m cs) f → IsBelow g (g.child n c) m f → IsFrontOf (WinsByCard g n m (cs ++ c ∷ [])) f
+  covered_card n m cs c f ff below = front_grows (WinsByCard g n m cs) (WinsByCard g n m (cs ++ c ∷ [])) f
+    (λ v w. (w.0, Contains-append_first cs (c ∷ []) w.0 w.1, w.2))
+    (λ v w. ⊎_elim
+      (λ (l : Contains cs w.0). (v, (w.0, l, w.2), Dominates-refl v))
+      (λ (l : Contains (c ∷ []) w.0).
+        let p = subst (λ z. CanWin g (g.child n z) m v) (sym (Contains-single c w.0 l)) w.2 in
+        let u = below p.0 p.1 in
+        (u.0, ff.reached u.0 u.1, subst (Dominates u.0) p.2 u.2))
+      (Contains-append cs (c ∷ []) w.0 w.1)) ff
+
+  pub any_order : (n : N) (m : ℕ) (cs ds : List C) (f : List Vector) → ((c : C) → Contains cs c ↔ Contains ds c) → IsFrontOf (WinsByCard g n m cs) f → IsFrontOf (WinsByCard g n m ds) f
+  any_order n m cs ds f same a = front_same (WinsByCard g n m cs) (WinsByCard g n m ds) f (λ v w. (w.0, (same w.0).0 w.1, w.2)) (λ v w. (w.0, (same w.0).1 w.1, w.2)) a
 
   -- from the fronts of all children at once
   pub union_of : (n : N) (m : ℕ) (cs : List C) (fs : List (List Vector)) (f : List Vector) → AreFronts g n m cs fs → IsReduced (unions fs) f → IsFrontOf (WinsByCard g n m cs) f

@@ -31,6 +31,9 @@ module _ {N S C : Type 0} (g : Game N S C) (Sound : N → Type 0) where
     pub no_card : (n : N) (m : ℕ) → IsFrontOf (WinsByCard g n m []) []
     pub more_cards : (n : N) (m : ℕ) (cs : List C) (c : C) (f h union : List Vector)
         → IsFrontOf (WinsByCard g n m cs) f → IsFront g (g.child n c) m h → IsReduced (f ++ h) union → IsFrontOf (WinsByCard g n m (cs ++ c ∷ [])) union
+    -- a card that the front so far covers adds nothing, and the order of the cards doesn't matter
+    pub covered_card : (n : N) (m : ℕ) (cs : List C) (c : C) (f : List Vector) → IsFrontOf (WinsByCard g n m cs) f → IsBelow g (g.child n c) m f → IsFrontOf (WinsByCard g n m (cs ++ c ∷ [])) f
+    pub any_order : (n : N) (m : ℕ) (cs ds : List C) (f : List Vector) → ((c : C) → Contains cs c ↔ Contains ds c) → IsFrontOf (WinsByCard g n m cs) f → IsFrontOf (WinsByCard g n m ds) f
     pub all_cards : (n : N) (m : ℕ) (f : List Vector) → Sound n → g.is_over n ≡ false → g.is_ours n ≡ true → IsFrontOf (WinsByCard g n m (g.choices n)) f → IsFront g n (suc m) f
     pub no_reply : (n : N) (m : ℕ) → IsFrontOf (WinsByReply g n m []) (replicate (length (g.states n)) true ∷ [])
     pub more_replies : (n : N) (m : ℕ) (cs : List C) (c : C) (f h join : List Vector) → Sound n → Contains (g.choices n) c
@@ -89,6 +92,12 @@ module _ {N S C : Type 0} (g : Game N S C) (Sound : N → Type 0) where
     -- and at a defender that the replies to the first of the cards are: their vectors have 1 at each layout that no card of theirs is legal in.
     pub at_defender : (n : N) (m : ℕ) (cs later : List C) (f alpha : List Vector) → Sound n → g.is_decided n ≡ false → g.is_ours n ≡ false → g.choices n ≡ cs ++ later
         → IsFrontOf (WinsByReply g n (suc m) cs) f → CoversAll alpha f → IsBelow g n (suc m) alpha
+    -- Some cards of declarer's side are enough where what they win covers the front with a move less,
+    pub same_front : (n : N) (m : ℕ) (cs : List C) (f less : List Vector) → Sound n → g.is_over n ≡ false → g.is_ours n ≡ true → ((c : C) → Contains cs c → Contains (g.choices n) c)
+        → IsFrontOf (WinsByCard g n m cs) f → IsFront g n m less → CoversAll f less → IsFront g n (suc m) f
+    -- and for the best count where one of their vectors has the best count with a move less.
+    pub same_count : (n : N) (m b : ℕ) (cs : List C) (v : Vector) → Sound n → g.is_over n ≡ false → g.is_ours n ≡ true → ((c : C) → Contains cs c → Contains (g.choices n) c)
+        → WinsByCard g n m cs v → ones_of v ≡ b → IsBestCount g n m b → IsBestCount g n (suc m) b
 
 -- by a test of equal cards: no node of a plan is at fault exactly where the plan fits, and a node at fault is one of its nodes
 pub record HasFirstMisfit {N S C : Type 0} (g : Game N S C) (same : C → C → Bool) : Type 0 where
