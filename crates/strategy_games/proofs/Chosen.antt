@@ -176,4 +176,9 @@ module _ {N S C : Type 0} (g : Game N S C) where
       exists = λ n m t f sound a c. chosen_within (suc (g.cards_left n)) n m t f (omega arith) sound a c;
       unique = chosen_unique;
       wins = chosen_wins;
+      kept = λ n m u f sound live ours a mem.
+        let w = by_card_from g Sound law n m sound live ours u (a.reached u mem) in
+        let h = front_exists g Sound law (g.child n w.0) m (law.holds n w.0 sound w.1) in
+        (w.0, w.1, (h.0, h.1, h.1.covered u w.2));
+      part = λ n m u f h c sound live theirs a k mem b. part_covered n (suc m) c u h sound (by_reply_from g Sound law n m live theirs u (a.reached u k)) mem b;
     }

@@ -46,6 +46,9 @@ module _ {N S C : Type 0} (g : Game N S C) where
       let u = covers_set (WinsByReply g n (suc m) cs) f alpha a c (wins_vector g (Hear r.0) n) (r.0, r.1, r.2 n (suc m) fit.3, refl) in
       (u.0, u.1, Dominates-trans u.0 (wins_vector g (Hear r.0) n) (wins_vector g (Hear rs) n) u.2 (Dominates-map (λ s. wins g (Hear r.0) s) (λ s. wins g (Hear rs) s) (g.states n) (λ s k h. r.3 s h)))
 
+    pub more_moves_law : IsDoubleDummy g Sound → HasMoreMoves g Sound
+    more_moves_law double = record { vectors = more_moves g Sound law double; counts = counts_fall g Sound law double }
+
     module _ (double : IsDoubleDummy g Sound) (settled : IsSettled g Sound) where
       cards_win : (n : N) (m : ℕ) (cs : List C) (v : Vector) → Sound n → g.is_ours n ≡ true → ((c : C) → Contains cs c → Contains (g.choices n) c) → WinsByCard g n m cs v → CanWin g n (suc m) v
       cards_win n m cs v sound ours within w = card_wins g Sound law settled n m v sound ours (w.0, within w.0 w.1, w.2)
@@ -70,9 +73,6 @@ module _ {N S C : Type 0} (g : Game N S C) where
         let fewer : more.0 ≤ b = counts_fall g Sound law double n m more.0 b sound more.1 best in
         let same : more.0 ≡ b = omega arith in
         subst (IsBestCount g n (suc m)) same more.1
-
-      pub more_moves_law : HasMoreMoves g Sound
-      more_moves_law = record { vectors = more_moves g Sound law double; counts = counts_fall g Sound law double }
 
       pub cuts : HasCuts g Sound
       cuts = record {

@@ -1,13 +1,14 @@
 -- From the cards of a node to the node, each node's front, and the laws of the recursion.
 use Rattle.std.proofs.Common.{◌≡◌, ◌⊎◌, ◌&&◌, ◌++◌, ◌∙◌, ◌<◌, ◌≤◌, ◌↔◌, ℕ, zero, suc, Bool, true, false, cond, List, [], ◌∷◌, length, map, filter, replicate, Contains, refl, sym, ap, ap₂, subst, true≢false, inl, inr, ⊎_elim, arith}
 use Rattle.std.specs.List.{list_all}
+use Rattle.std.proofs.lemmas.List.{length-map}
 use Rattle.std.proofs.lemmas.Bool.{cases_Bool, and_left, and_right, and_from, cond-true, cond-false}
 use Rattle.win_vectors.specs.Fronts.{Vector, Dominates, Covers, IsFrontOf, IsReduced}
 use Rattle.strategy_games.specs.Games.{Game, mask, IsLawful, IsSettled}
-use Rattle.strategy_games.specs.Plans.{Plan, Replies, Stop, Play, Hear, NoReply, Reply, cards_of, stops, Fits, FitEach, wins, wins_vector, CanWin, IsFront}
+use Rattle.strategy_games.specs.Plans.{Plan, Replies, Stop, Play, Hear, NoReply, Reply, cards_of, stops, Fits, FitEach, ends, ends_each, wins, wins_vector, CanWin, IsFront}
 use Rattle.strategy_games.specs.Joins.{unions, joins, AreFronts, WinsByCard, WinsByReply}
-use Rattle.strategy_games.specs.Laws.{HasOneFront, HasRecursion, HasSteps}
-use Rattle.strategy_games.proofs.Lists.{Contains-here, Contains-there, Contains-nil, Contains-cons, Contains-single, Contains-of_map, map-agree, AllZip-from, filled_or_nil}
+use Rattle.strategy_games.specs.Laws.{EndsSomewhere, HasOneFront, HasRecursion, HasSteps}
+use Rattle.strategy_games.proofs.Lists.{Contains-here, Contains-there, Contains-nil, Contains-cons, Contains-single, Contains-of_map, map-agree, AllZip-from, All-from, All-at, filled_or_nil}
 use Rattle.strategy_games.proofs.Vectors.{Dominates-refl}
 use Rattle.strategy_games.proofs.Fronts.{front_unique, front_grows, front_same, reduced_exists}
 use Rattle.strategy_games.proofs.Masks.{map-map}
@@ -22,6 +23,11 @@ replies_from {C} Fit Ok none more (c ∷ cs) h =
   let first = h c (Contains-here c cs) in
   let others = replies_from Fit Ok none more cs (λ d m. h d (Contains-there c cs d m)) in
   (Reply c first.0 others.0, ap (λ (l : List C). c ∷ l) others.1, more c first.0 others.0 first.1 others.2)
+
+-- a list that is [] has no parts
+nil_parts : {X : Type 0} (xs ys : List X) → xs ++ ys ≡ [] → (xs ≡ []) × (ys ≡ [])
+nil_parts [] ys e = (refl, e)
+nil_parts (x ∷ xs) ys e = absurd cc
 
 module _ {N S C : Type 0} (g : Game N S C) where
   pub stops-decided : (n : N) (m : ℕ) → g.is_decided n ≡ true → stops g n m ≡ true
@@ -114,6 +120,7 @@ module _ {N S C : Type 0} (g : Game N S C) where
       exists = front_exists;
       unique = λ n m f h a b. front_unique (CanWin g n m) f h a b;
       filled = front_filled;
+      wide = λ n m f a. All-from (λ v. length v ≡ length (g.states n)) f (λ v mem. let p = a.reached v mem in sym (ap (λ (z : Vector). length z) p.2) ∙ length-map (g.states n) (λ s. wins g p.0 s));
     }
 
     module _ (settled : IsSettled g Sound) where
@@ -192,6 +199,36 @@ module _ {N S C : Type 0} (g : Game N S C) where
             front_same (WinsByReply g n (suc m) (g.choices n)) (CanWin g n (suc m)) f
               (λ v w. (Stop, e, stop-decided n sound e ∙ decided_replies n (suc m) v sound on e w))
               (λ v w. (rs.0, rs.1, rs.2, sym (decided_replies n (suc m) (wins_vector g (Hear rs.0) n) sound on e (rs.0, rs.1, rs.2, refl)) ∙ decided_vector n (suc m) v sound e w)) a
+
+      -- ---- each strategy ends somewhere
+
+      mutual
+        ends_somewhere : EndsSomewhere g Sound
+        ends_somewhere Stop n m s sound fit k e = absurd cc
+        ends_somewhere (Play c q) n zero s sound fit k e = absurd fit
+        ends_somewhere (Play c q) n (suc m) s sound fit k e = ends_somewhere q (g.child n c) m (g.after c s) (law.holds n c sound fit.2) fit.3
+            (Contains-after g Sound law n c s sound fit.2 k (All-at (λ t. g.is_legal c t ≡ true) (g.states n) (law.seen n c sound fit.1 fit.2) s k)) e
+        ends_somewhere (Hear rs) n zero s sound fit k e = absurd (true≢false fit.0)
+        ends_somewhere (Hear rs) n (suc m) s sound fit k e =
+          let d = settled.some_legal n s sound (law.ended n sound fit.0) k in
+          each_ends rs n (suc m) s sound (λ c l. subst (λ (x : List C). Contains x c) fit.2 l) fit.3 k d.0 (subst (λ (x : List C). Contains x d.0) (sym fit.2) d.1) d.2 e
+
+        each_ends : (rs : Replies C) (n : N) (m : ℕ) (s : S) → Sound n → ((c : C) → Contains (cards_of rs) c → Contains (g.choices n) c) → FitEach g rs n m → Contains (g.states n) s
+            → (d : C) → Contains (cards_of rs) d → g.is_legal d s ≡ true → ends_each g rs s ≡ [] → ⊥
+        each_ends NoReply n m s sound within fit k d mem legal e = Contains-nil d mem
+        each_ends (Reply c q rs) n m s sound within fit k d mem legal e =
+          let parts = nil_parts (cond (g.is_legal c s) (ends g q (g.after c s)) []) (ends_each g rs s) e in
+          ⊎_elim
+            (λ (same : c ≡ d).
+              let legal_c : g.is_legal c s ≡ true = subst (λ x. g.is_legal x s ≡ true) (sym same) legal in
+              let in_choices : Contains (g.choices n) c = within c (Contains-here c (cards_of rs)) in
+              ends_somewhere q (g.child n c) m (g.after c s) (law.holds n c sound in_choices) fit.0 (Contains-after g Sound law n c s sound in_choices k legal_c)
+                (sym (cond-true (g.is_legal c s) (ends g q (g.after c s)) [] legal_c) ∙ parts.0))
+            (λ (later : Contains (cards_of rs) d). each_ends rs n m s sound (λ x l. within x (Contains-there c (cards_of rs) x l)) fit.1 k d later legal parts.1)
+            (Contains-cons c (cards_of rs) d mem)
+
+      pub each_strategy_ends : EndsSomewhere g Sound
+      each_strategy_ends = ends_somewhere
 
       pub steps : HasSteps g Sound
       steps = record {

@@ -1,19 +1,24 @@
 -- The laws of strategies and fronts, for any game whose rules hold at sound nodes.
 use Rattle.std.specs.Prelude.{◌≡◌, ◌⊎◌, ◌↔◌, ◌+◌, ◌<◌, ◌≤◌, ℕ, suc, Bool, true, false, List, [], ◌∷◌, ◌++◌, map, replicate, length, Contains, None, Some, Decides, sum_by, Option}
-use Rattle.win_vectors.specs.Vectors.{ones_of}
-use Rattle.win_vectors.specs.Fronts.{Vector, Covers, CoversAll, IsFrontOf, IsFirstAbove, IsReduced, meets}
+use Rattle.win_vectors.specs.Vectors.{ones_of, restrict_of}
+use Rattle.win_vectors.specs.Fronts.{Vector, HaveWidth, Covers, CoversAll, IsFrontOf, IsFirstAbove, IsReduced, meets}
 use Rattle.strategy_games.specs.Games.{Game, mask}
-use Rattle.strategy_games.specs.Plans.{Plan, Play, stops, Fits, wins_vector, IsFront, IsBelow, tree_size}
+use Rattle.strategy_games.specs.Plans.{Plan, Play, stops, Fits, ends, wins_vector, IsFront, IsBelow, tree_size}
 use Rattle.strategy_games.specs.Joins.{unions, spreads, joins, AreFronts, WinsByCard, WinsByReply}
-use Rattle.strategy_games.specs.Choosing.{IsChosenPlan, IsBestCount, IsNamedCard}
+use Rattle.strategy_games.specs.Choosing.{Keeps, IsChosenPlan, IsBestCount, IsNamedCard}
 use Rattle.strategy_games.specs.Misfits.{node_count, first_misfit}
 
 module _ {N S C : Type 0} (g : Game N S C) (Sound : N → Type 0) where
-  -- each node has exactly one front, and it has a vector
+  -- each strategy ends somewhere in each layout of its node
+  abbrev pub EndsSomewhere : Type 0
+  EndsSomewhere = (p : Plan C) (n : N) (m : ℕ) (s : S) → Sound n → Fits g p n m → Contains (g.states n) s → ends g p s ≡ [] → ⊥
+
+  -- each node has exactly one front; it has a vector, and each of its vectors has a bit for each layout
   pub record HasOneFront : Type 0 where
     pub exists : (n : N) (m : ℕ) → Sound n → (f : List Vector) × IsFront g n m f
     pub unique : (n : N) (m : ℕ) (f h : List Vector) → IsFront g n m f → IsFront g n m h → f ≡ h
     pub filled : (n : N) (m : ℕ) (f : List Vector) → Sound n → IsFront g n m f → f ≡ [] → ⊥
+    pub wide : (n : N) (m : ℕ) (f : List Vector) → IsFront g n m f → HaveWidth (length (g.states n)) f
 
   -- the recursion on fronts
   pub record HasRecursion : Type 0 where
@@ -50,6 +55,11 @@ module _ {N S C : Type 0} (g : Game N S C) (Sound : N → Type 0) where
     pub exists : (n : N) (m : ℕ) (t : Vector) (f : List Vector) → Sound n → IsFront g n m f → Covers f t → (p : Plan C) × IsChosenPlan g p n m t
     pub unique : (p q : Plan C) (n : N) (m : ℕ) (t : Vector) → IsChosenPlan g p n m t → IsChosenPlan g q n m t → p ≡ q
     pub wins : (p : Plan C) (n : N) (m : ℕ) (t : Vector) (f : List Vector) → Sound n → IsFront g n m f → Covers f t → IsChosenPlan g p n m t → Fits g p n m × IsFirstAbove f t (wins_vector g p n)
+
+    -- at declarer's side some card keeps each vector of the front, and at a defender each card keeps its part
+    pub kept : (n : N) (m : ℕ) (u : Vector) (f : List Vector) → Sound n → g.is_decided n ≡ false → g.is_ours n ≡ true → IsFront g n (suc m) f → Contains f u → (c : C) × Contains (g.choices n) c × Keeps g n m u c
+    pub part : (n : N) (m : ℕ) (u : Vector) (f h : List Vector) (c : C) → Sound n → g.is_decided n ≡ false → g.is_ours n ≡ false → IsFront g n (suc m) f → Contains f u
+        → Contains (g.choices n) c → IsFront g (g.child n c) (suc m) h → Covers h (restrict_of u (mask g n c))
 
   -- the size of the tree, and how it changes
   pub record HasSizes : Type 0 where

@@ -5,7 +5,7 @@
 
 ghost use Rattle.std.specs.Prelude.{Bool, Decides, ◌≡◌};
 ghost use Rattle.strategy_games.specs.Games.{Game, IsLawful, IsDoubleDummy, IsSettled};
-ghost use Rattle.strategy_games.specs.Laws.{HasOneFront, HasRecursion, HasSteps, HasMoreMoves, HasChosenPlan, HasSizes, HasBestCount, HasNamedCard, HasCuts, HasFirstMisfit};
+ghost use Rattle.strategy_games.specs.Laws.{EndsSomewhere, HasOneFront, HasRecursion, HasSteps, HasMoreMoves, HasChosenPlan, HasSizes, HasBestCount, HasNamedCard, HasCuts, HasFirstMisfit};
 
 /// A game of hidden layouts: a node is what everybody sees, with the layouts that are still possible.
 ///
@@ -32,6 +32,12 @@ pub trait HiddenGame {
     ghost settled: { IsSettled game Sound };
 
     ghost tells_cards: { (c d : Card) → Decides (same c d) (c ≡ d) };
+}
+
+/// A strategy ends somewhere in each layout, so that a layout isn't won because nothing was looked at.
+pub fn strategy_ends<G: HiddenGame>()
+    ensures { EndsSomewhere G.game G.Sound }
+{
 }
 
 /// Exactly one list is the front of a node with a number of moves, and it isn't empty.
