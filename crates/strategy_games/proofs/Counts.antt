@@ -95,7 +95,7 @@ module _ {N S C : Type 0} (g : Game N S C) where
             let x = h.0.1.covered u.0 (by_card_to g Sound law n m sound live ours u.0 (w.0, w.1, f.1.reached u.0 u.1)) in
             let fewer = Dominates-ones u.0 h.0.2 u.2 in
             let more = Dominates-ones x.0 u.0 x.2 in
-            let most = h.1 (ones_of x.0) (h.0.0, h.0.1, x.0, x.1, refl) in
+            let most = h.1 (ones_of x.0) (h.0.0, h.0.1, x.0, x.1, refl {a = ones_of x.0}) in
             let is = h.0.4 in
             (w.0, w.1, (f.0, f.1, u.0, u.1, omega arith))
 

@@ -104,3 +104,6 @@ pub fn first_misfit_tells<G: HiddenGame>()
     ensures { HasFirstMisfit G.game G.same }
 {
 }
+
+#[cfg(test)]
+mod tests;
