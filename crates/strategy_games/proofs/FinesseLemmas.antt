@@ -1,5 +1,5 @@
 -- The two vectors that a guess wins are the best of themselves.
-use Rattle.std.proofs.Common.{◌≡◌, ◌⊎◌, inl, inr, true, false, List, [], ◌∷◌, Contains, refl, ⊎_elim, subst, sym, ◌∙◌}
+use Rattle.std.proofs.Common.{◌≡◌, ◌⊎◌, inl, inr, true, false, [], ◌∷◌, Contains, refl, ⊎_elim, subst, sym, ◌∙◌}
 use Rattle.win_vectors.specs.Fronts.{Vector, Dominates, Precedes, IsReduced}
 use Rattle.strategy_games.proofs.Lists.{Contains-cons, Contains-single}
 use Rattle.strategy_games.proofs.Vectors.{Dominates-refl}

@@ -1,14 +1,13 @@
 -- What plans win: a card of declarer's side, a defender's replies, and double dummy as a bound.
-use Rattle.std.proofs.Common.{◌≡◌, ◌⊎◌, ◌&&◌, ◌++◌, ◌∙◌, ℕ, zero, suc, Bool, true, false, cond, List, [], ◌∷◌, length, map, filter, replicate, Contains, refl, sym, ap, ap₂, subst, true≢false}
+use Rattle.std.proofs.Common.{◌≡◌, ◌&&◌, ◌++◌, ◌∙◌, ℕ, Bool, true, false, cond, List, [], ◌∷◌, map, filter, Contains, refl, sym, ap, ap₂, subst}
 use Rattle.std.specs.List.{list_all}
-use Rattle.std.proofs.lemmas.Bool.{and_parts}
 use Rattle.std.proofs.lemmas.List.Folds.{list_all-append}
 use Rattle.win_vectors.specs.Vectors.{meet_of, spread_of, restrict_of}
-use Rattle.win_vectors.specs.Fronts.{Vector, Dominates}
-use Rattle.strategy_games.specs.Games.{Game, mask, IsLawful, IsDoubleDummy, IsSettled}
-use Rattle.strategy_games.specs.Plans.{Plan, Replies, Stop, Play, Hear, NoReply, Reply, cards_of, stops, Fits, FitEach, ends, ends_each, wins, wins_vector}
-use Rattle.strategy_games.proofs.Lists.{Contains-here, Contains-there, Contains-nil, Contains-map, Contains-filter, map-agree, All-at}
-use Rattle.strategy_games.proofs.Masks.{Dominates-map, Dominates-of_map, meet-map, spread-map, restrict-map, filter_all, map-map}
+use Rattle.win_vectors.specs.Fronts.{Vector}
+use Rattle.strategy_games.specs.Games.{Game, mask, IsLawful}
+use Rattle.strategy_games.specs.Plans.{Plan, Replies, Stop, Play, Hear, NoReply, Reply, cards_of, Fits, FitEach, ends, ends_each, wins, wins_vector}
+use Rattle.strategy_games.proofs.Lists.{Contains-map, Contains-filter, map-agree, All-at}
+use Rattle.strategy_games.proofs.Masks.{meet-map, spread-map, restrict-map, filter_all, map-map}
 
 -- ---- one reply more, at the end
 

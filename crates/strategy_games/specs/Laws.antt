@@ -1,5 +1,5 @@
 -- The laws of strategies and fronts, for any game whose rules hold at sound nodes.
-use Rattle.std.specs.Prelude.{◌≡◌, ◌⊎◌, ◌↔◌, ◌+◌, ◌<◌, ◌≤◌, ℕ, suc, Bool, true, false, List, [], ◌∷◌, ◌++◌, map, replicate, length, Contains, None, Some, Decides, sum_by, Option}
+use Rattle.std.specs.Prelude.{◌≡◌, ◌⊎◌, ◌↔◌, ◌+◌, ◌<◌, ◌≤◌, ℕ, suc, Bool, true, false, List, [], ◌∷◌, ◌++◌, map, replicate, length, Contains, None, Some, sum_by}
 use Rattle.win_vectors.specs.Vectors.{ones_of, restrict_of}
 use Rattle.win_vectors.specs.Fronts.{Vector, HaveWidth, Covers, CoversAll, IsFrontOf, IsFirstAbove, IsReduced, meets}
 use Rattle.strategy_games.specs.Games.{Game, mask}
@@ -55,7 +55,6 @@ module _ {N S C : Type 0} (g : Game N S C) (Sound : N → Type 0) where
     pub exists : (n : N) (m : ℕ) (t : Vector) (f : List Vector) → Sound n → IsFront g n m f → Covers f t → (p : Plan C) × IsChosenPlan g p n m t
     pub unique : (p q : Plan C) (n : N) (m : ℕ) (t : Vector) → IsChosenPlan g p n m t → IsChosenPlan g q n m t → p ≡ q
     pub wins : (p : Plan C) (n : N) (m : ℕ) (t : Vector) (f : List Vector) → Sound n → IsFront g n m f → Covers f t → IsChosenPlan g p n m t → Fits g p n m × IsFirstAbove f t (wins_vector g p n)
-
     -- at declarer's side some card keeps each vector of the front, and at a defender each card keeps its part
     pub kept : (n : N) (m : ℕ) (u : Vector) (f : List Vector) → Sound n → g.is_decided n ≡ false → g.is_ours n ≡ true → IsFront g n (suc m) f → Contains f u → (c : C) × Contains (g.choices n) c × Keeps g n m u c
     pub part : (n : N) (m : ℕ) (u : Vector) (f h : List Vector) (c : C) → Sound n → g.is_decided n ≡ false → g.is_ours n ≡ false → IsFront g n (suc m) f → Contains f u

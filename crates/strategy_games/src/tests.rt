@@ -1,8 +1,8 @@
-use super::*;
-
 ghost use Rattle.std.specs.Prelude.{Bool, true, false, [], ◌∷◌};
 ghost use Rattle.strategy_games.specs.Plans.{IsFront};
 ghost use Rattle.strategy_games.specs.Finesse.{Spot, Deal, ToGuess, finesse, Any, same_hand, finesse_lawful, finesse_double_dummy, finesse_settled, hands_told};
+
+use super::*;
 
 // A queen in one of two hands, and one guess.
 struct Finesse;
