@@ -81,6 +81,10 @@ module _ {N S C : Type 0} (g : Game N S C) where
       pub cuts : HasCuts g Sound
       cuts = record {
         covered = λ n m f alpha a c p fit. covers_set (CanWin g n m) f alpha a c (wins_vector g p n) (p, fit, refl);
+        wider = λ n m alpha beta below c p fit.
+            let u = below p fit in
+            let w = c u.0 u.1 in
+            (w.0, w.1, Dominates-trans w.0 u.0 (wins_vector g p n) w.2 u.2);
         deeper = λ n m less alpha sound a c p fit.
             let f = front_exists g Sound law n (suc m) sound in
             covers_set (CanWin g n (suc m)) f.0 alpha f.1

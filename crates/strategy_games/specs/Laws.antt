@@ -92,7 +92,9 @@ module _ {N S C : Type 0} (g : Game N S C) (Sound : N → Type 0) where
   pub record HasCuts : Type 0 where
     -- a list that covers the front covers what every strategy wins,
     pub covered : (n : N) (m : ℕ) (f alpha : List Vector) → IsFront g n m f → CoversAll alpha f → IsBelow g n m alpha
-    -- and so does one that covers the front with a move less.
+    -- as does one that covers such a list,
+    pub wider : (n : N) (m : ℕ) (alpha beta : List Vector) → IsBelow g n m alpha → CoversAll beta alpha → IsBelow g n m beta
+    -- and one that covers the front with a move less.
     pub deeper : (n : N) (m : ℕ) (less alpha : List Vector) → Sound n → IsFront g n m less → CoversAll alpha less → IsBelow g n (suc m) alpha
     -- An empty list covers nothing.
     pub never : (n : N) (m : ℕ) → Sound n → IsBelow g n m [] → ⊥
