@@ -1,5 +1,5 @@
 -- A join in the making, as contracts see it.
-use Rattle.std.specs.Prelude.{◌≡◌, ℕ, ◌≤◌, length}
+use Rattle.std.specs.Prelude.{◌≡◌, ◌≤◌, length}
 use Rattle.win_vectors.specs.Fronts.{Vector}
 use Rattle.pareto_fronts.specs.FrontValue.{FrontValue, IsFront}
 

@@ -10,8 +10,8 @@ pub record Child : Type 0 where
 
 -- the vectors have a bit for each layout of the child, and the mask for each layout of the node
 pub record IsChildOf (width : ℕ) (c : Child) : Type 0 where
-  pub mask_width : length c.mask ≡ width
-  pub width : HaveWidth (ones_of c.mask) c.vectors
+  pub for_node : length c.mask ≡ width
+  pub for_child : HaveWidth (ones_of c.mask) c.vectors
 
 -- each vector put at the layouts of the mask, with 1 at the other layouts
 abbrev pub spreads : List Vector → Vector → List Vector
@@ -25,9 +25,9 @@ joined width (c ∷ cs) = meets (joined width cs) (spreads c.vectors c.mask)
 -- what is covered: a vector, where each child's front covers the part of it that the child has
 abbrev pub JoinedCovers : Type 0
 JoinedCovers = (width : ℕ) (cs : List Child) (t : Vector) → All (IsChildOf width) cs → length t ≡ width →
-  Covers (joined width cs) t ↔ All (λ c. Covers c.vectors (restrict_of t c.mask)) cs
+    Covers (joined width cs) t ↔ All (λ c. Covers c.vectors (restrict_of t c.mask)) cs
 
 -- the reduced list of a join doesn't depend on the order of the children
 abbrev pub JoinedInAnyOrder : Type 0
 JoinedInAnyOrder = (width : ℕ) (cs ds : List Child) (front : List Vector) → All (IsChildOf width) cs → IsPermutation cs ds →
-  IsReduced (joined width cs) front → IsReduced (joined width ds) front
+    IsReduced (joined width cs) front → IsReduced (joined width ds) front

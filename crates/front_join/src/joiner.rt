@@ -3,7 +3,7 @@
 ghost use Rattle.std.specs.Prelude.{◌≡◌, ◌≤◌, ◌∷◌, ◌++◌, [], List, true, false, OnOk, OnErr, IfOk, length, map, replicate};
 ghost use Rattle.front_join.specs.JoinValue.{IsJoin};
 ghost use Rattle.front_join.specs.Joins.{Child, joined, spreads};
-ghost use Rattle.pareto_fronts.specs.FrontValue.{HaveSameVectors};
+ghost use Rattle.pareto_fronts.specs.FrontValue.{IsFront};
 ghost use Rattle.win_vectors.specs.Fronts.{HaveWidth, IsReduced, meets};
 ghost use Rattle.win_vectors.specs.Vectors.{either_of, meet_of, ones_of};
 
@@ -40,6 +40,7 @@ impl Joiner {
         ensures covered { result.covered ≡ replicate width false }
     {
         let mut optimistic = Front::new(alloc, width);
+        // A new front has room.
         let _ = optimistic.insert(WinVector::all(width));
         Joiner {
             alloc,
@@ -65,9 +66,9 @@ impl Joiner {
         ensures joined { OnOk result ((children : List Child)
             → IsReduced (joined self.old.optimistic.width children) self.old.optimistic.vectors
             → IsReduced
-                (joined self.old.optimistic.width
-                    (record { vectors = child.now.vectors; mask = mask.now } ∷ children))
-                self.new.optimistic.vectors) }
+            (joined self.old.optimistic.width
+            (record { vectors = child.now.vectors; mask = mask.now } ∷ children))
+            self.new.optimistic.vectors) }
     {
         let front = joined_front(self.alloc, &self.optimistic, child, *mask)?;
         self.optimistic = front;
@@ -106,6 +107,7 @@ fn joined_front(
 ) -> Result<Front, AllocError>
     requires mask_width { length mask ≡ front.now.width }
     requires child_width { child.now.width ≡ ones_of mask }
+    ensures front { IfOk result IsFront }
     ensures width { IfOk result (λ f. f.width ≡ front.now.width) }
     ensures reduced { IfOk result (λ f.
         IsReduced (meets front.now.vectors (spreads child.now.vectors mask)) f.vectors) }
@@ -118,10 +120,15 @@ fn joined_front(
 }
 
 // Leaves the best of the vectors of a front and of the meets of a vector with each of a list.
-fn insert_meets(best: &mut Front, vectors: &[WinVector], vector: WinVector) -> Result<(), AllocError>
+fn insert_meets(
+    best: &mut Front,
+    vectors: &[WinVector],
+    vector: WinVector,
+) -> Result<(), AllocError>
     requires width { length vector ≡ best.old.width }
     requires widths { HaveWidth best.old.width vectors.now }
-    requires reduced { IsReduced best.old.vectors best.old.vectors }
+    requires front { IsFront best.old }
+    ensures front { IsFront best.new }
     ensures width { best.new.width ≡ best.old.width }
     ensures reduced { OnOk result (IsReduced
         (best.old.vectors ++ map (λ u. meet_of u vector) vectors.now) best.new.vectors) }

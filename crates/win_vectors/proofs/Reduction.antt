@@ -191,14 +191,14 @@ pub record IsMeet (f g : List Vector) (w : Vector) : Type 0 where
   pub in_second : Contains g second
   pub is : meet_of first second ≡ w
 
-Contains-map : (h : Vector → Vector) (f : List Vector) (w : Vector) → Contains (map h f) w → (u : Vector) × Contains f u × (h u ≡ w)
+pub Contains-map : (h : Vector → Vector) (f : List Vector) (w : Vector) → Contains (map h f) w → (u : Vector) × Contains f u × (h u ≡ w)
 Contains-map h [] w member = absurd (Contains-none w member)
 Contains-map h (u ∷ f) w member = elim (Contains-cases (h u) (map h f) w member) [
   | inl same ↦ (u, Contains-first u f, same)
   | inr later ↦ (let (v, in_f, same) = Contains-map h f w later in (v, Contains-rest u f v in_f, same))
 ]
 
-Contains-mapped : (h : Vector → Vector) (f : List Vector) (u : Vector) → Contains f u → Contains (map h f) (h u)
+pub Contains-mapped : (h : Vector → Vector) (f : List Vector) (u : Vector) → Contains f u → Contains (map h f) (h u)
 Contains-mapped h [] u member = absurd (Contains-none u member)
 Contains-mapped h (v ∷ f) u member = elim (Contains-cases v f u member) [
   | inl same ↦ Contains-same (h v ∷ map h f) (h v) (h u) (ap h same) (Contains-first (h v) (map h f))
