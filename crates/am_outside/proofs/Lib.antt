@@ -1,2 +1,5 @@
-pub mod Counts
+pub mod Places
+pub mod Rises
+pub mod Shelves
+pub mod Stored
 pub mod Written

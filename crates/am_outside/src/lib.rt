@@ -3,11 +3,14 @@
 //! A told byte is read and written exactly, and a fault is answered only where a count of faults rose.
 #![tactic(auto)]
 
+mod counts;
+mod memory_shelf;
 mod memory_sink;
 mod shelf;
 mod sink;
 mod text;
 
+pub use memory_shelf::MemoryShelf;
 pub use memory_sink::MemorySink;
 pub use shelf::{Shelf, ShelfFault};
 pub use sink::{Sink, SinkFailed, write_whole};

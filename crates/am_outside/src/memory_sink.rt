@@ -1,7 +1,8 @@
 // A sink that keeps what is written in memory.
-ghost use Rattle.std.specs.Prelude.{◌≡◌, [], ◌↔◌, ◌<◌, ◌^◌, Some, length, IfOk, IsErr, IsTrue};
+ghost use Rattle.std.specs.Prelude.{◌≡◌, [], ◌↔◌, Some, length, IfOk, IsErr, IsTrue};
 ghost use Rattle.am_outside.specs.MemorySink.{fails_next, part_taken, after_write};
 
+use crate::counts::count_one;
 use crate::{Sink, SinkFailed};
 use std::alloc::{AllocError, Global};
 use std::marker::Model;
@@ -67,16 +68,15 @@ impl Sink for MemorySink {
         ensures failed { IsErr result ↔ IsTrue (fails_next self.old) }
         ensures taken { IfOk result (λ n. n ≡ length (part_taken self.old piece.now)) }
         ensures after { self.new ≡ after_write self.old piece.now }
-        ensures counted { self.old.faults < 2 ^ 64 }
     {
-        self.calls = self.calls.saturating_add(1);
+        self.calls = count_one(self.calls);
         if self.calls == self.fail_at {
-            self.faults = self.faults.saturating_add(1);
+            self.faults = count_one(self.faults);
             return Err(SinkFailed);
         }
         let taken = piece.len().min(self.room - self.content.len());
         if taken == 0 && !piece.is_empty() {
-            self.faults = self.faults.saturating_add(1);
+            self.faults = count_one(self.faults);
         }
         self.content.extend_from_slice(&piece[..taken]).unwrap();
         Ok(taken)
