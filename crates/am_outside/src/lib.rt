@@ -4,16 +4,22 @@
 #![tactic(auto)]
 
 mod counts;
+mod file_shelf;
+mod gate;
 mod memory_shelf;
 mod memory_sink;
 mod shelf;
 mod sink;
+mod std_sink;
 mod text;
 
+pub use file_shelf::FileShelf;
+pub use gate::{Gate, OpenGate};
 pub use memory_shelf::MemoryShelf;
 pub use memory_sink::MemorySink;
 pub use shelf::{Shelf, ShelfFault};
 pub use sink::{Sink, SinkFailed, write_whole};
+pub use std_sink::StdSink;
 pub use text::Text;
 
 #[cfg(test)]
