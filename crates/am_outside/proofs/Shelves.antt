@@ -1,17 +1,11 @@
 -- What a read makes of the counts of faults at all names.
-use Rattle.std.proofs.Common.{◌≡◌, ◌≢◌, ℕ, ◌≤◌, Bool, true, false, cond, List, Option, Some, unwrap_or, is_some, IsSome, refl, sym, ap, ◌∙◌, arith}
-use Rattle.std.proofs.lemmas.Bool.Decides.{nat_tests}
+use Rattle.std.proofs.Common.{◌≡◌, ◌≢◌, ℕ, ◌≤◌, Bool, true, false, cond, List, Option, Some, unwrap_or, IsSome, refl, sym, ap, ◌∙◌, arith}
 use Rattle.std.proofs.lemmas.Cmp.{nat_list_cmp_total}
-use Rattle.std.specs.FinMap.{get, contains_key, insert, get-insert}
+use Rattle.std.specs.FinMap.{get, contains_key, get-insert}
 use Rattle.am_outside.specs.Faults.{Rose, one_more}
 use Rattle.am_outside.specs.MemoryShelf.{ShelfState, faults_at, fails_next, with_fault, with_call, after_read}
+use Rattle.am_outside.proofs.Rises.{one_more-rises, one_more-no_fall}
 use Rattle.am_outside.proofs.Places.{ties, ties-self, ties-apart, same_tie}
-
-one_more-rises : (count : ℕ) → Rose count (one_more count)
-one_more-rises count = grind (arith, nat_tests)
-
-one_more-no_fall : (count : ℕ) → count ≤ one_more count
-one_more-no_fall count = grind (arith, nat_tests)
 
 same_count : (count : ℕ) → count ≤ count
 same_count count = omega arith

@@ -1,5 +1,5 @@
 -- One write after another.
-use Rattle.std.proofs.Common.{◌≡◌, ℕ, ◌+◌, ◌<◌, ◌≤◌, List, [], ◌++◌, length, take, drop, Option, Some, None, refl, ap, sym, ◌∙◌, arith, append_assoc, append-nil, length-append}
+use Rattle.std.proofs.Common.{◌≡◌, ℕ, ◌+◌, ◌≤◌, List, [], ◌++◌, length, take, drop, Option, Some, None, refl, ap, sym, ◌∙◌, arith, append_assoc, append-nil, length-append}
 use Rattle.std.proofs.Math.Seq.{take-add, take-append-add}
 use Rattle.std.proofs.lemmas.List.{take-append-le}
 use Rattle.std.specs.Io.KnownBytes.{append_known}
@@ -29,3 +29,6 @@ AppendsPart-first told first second now (n, short, is) =
 pub AppendsPart-second : (told : Option (List ℕ)) (first second : List ℕ) (now : Option (List ℕ)) → AppendsPart (append_known told first) second now → AppendsPart told (first ++ second) now
 AppendsPart-second told first second now (n, short, is) =
     (length first + n, omega (arith, length-append first second), rw (take-append-add first second n) (is ∙ append_known-append_known told first (take n second)))
+
+-- the laws of one write after another, for tactics
+pub ruleset one_after_another = (append_known-append_known, AppendsPart-first, AppendsPart-second)

@@ -1,5 +1,5 @@
 -- A shelf in memory as its callers see it.
-use Rattle.std.specs.Prelude.{◌≡◌, ℕ, Bool, not, ◌||◌, ◌==◌, if◌then◌else◌, List, [], Option, None, Some, Result, Ok, Err, unwrap_or, nat_le, length, refl}
+use Rattle.std.specs.Prelude.{ℕ, Bool, not, ◌||◌, ◌==◌, if◌then◌else◌, List, [], unwrap_or, refl}
 use Rattle.std.specs.List.{list_any}
 use Rattle.std.specs.Ordering.{nat_cmp}
 use Rattle.std.specs.Cmp.Lexicographic.{slice_cmp}

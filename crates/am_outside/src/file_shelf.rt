@@ -1,11 +1,14 @@
 // The files of the system as a shelf. It is trusted that they give what they hold.
-ghost use Rattle.std.specs.Prelude.{◌≡◌, ◌↔◌, ◌<◌, ◌≤◌, None, length, IfOk, IfSome, IsErrOf};
+ghost use Rattle.std.specs.Prelude.{◌≡◌, ◌↔◌, ◌<◌, ◌≤◌, None, length, IfOk, IfSome, IsErrOf, if◌then◌else◌};
+ghost use Rattle.am_outside.specs.Faults.{one_more};
+ghost use Rattle.am_outside.specs.Shelf.{has_failed};
 
 use crate::counts::count_one;
 use crate::{Shelf, ShelfFault, Text};
 use std::alloc::Global;
 use std::fs::File;
 use std::io::Read;
+use std::marker::Model;
 use std::rt::Files;
 
 /// The files by their paths. It tells nothing, and counts every error at every name alike.
@@ -15,8 +18,20 @@ pub struct FileShelf<'a, R: Files> {
     faults: u64,
 }
 
+// It is seen as its count of faults.
+impl<'a, R: Files> Model for FileShelf<'a, R> {
+    ghost use Rattle.std.specs.Prelude.{ℕ};
+
+    ghost Value = { ℕ };
+
+    ghost view = { λ shelf. shelf.faults };
+}
+
 impl<'a, R: Files> FileShelf<'a, R> {
-    pub fn new(files: &'a R) -> Self {
+    /// A shelf that has seen no fault.
+    pub fn new(files: &'a R) -> Self
+        ensures { result ≡ 0 }
+    {
         FileShelf { files, faults: 0 }
     }
 }
@@ -24,10 +39,13 @@ impl<'a, R: Files> FileShelf<'a, R> {
 impl<R: Files> Shelf for FileShelf<'_, R> {
     ghost told = { λ _. None };
 
-    ghost faults = { λ shelf _. shelf.faults };
+    ghost faults = { λ faults _. faults };
 
     /// Reads at most `limit + 1` bytes. Each error is a fault.
-    fn read(&mut self, alloc: Global, name: &str, limit: u64) -> Result<Text, ShelfFault> {
+    fn read(&mut self, alloc: Global, name: &str, limit: u64) -> Result<Text, ShelfFault>
+        ensures within { IfOk result (λ text. length text ≤ limit) }
+        ensures counted { self.new ≡ (if has_failed result then one_more self.old else self.old) }
+    {
         let text = match File::open(self.files, name) {
             Ok(mut file) => read_all(alloc, &mut file, limit),
             Err(_) => Err(ShelfFault::Failed),

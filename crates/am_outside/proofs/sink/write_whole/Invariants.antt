@@ -1,4 +1,4 @@
-use Rattle.std.proofs.Common.{length, ◌-◌, ◌≡◌, ℕ, ◌+◌, ◌≤◌, take}
+use Rattle.std.proofs.Common.{length, ◌-◌, ◌≡◌, ◌+◌, ◌≤◌, take}
 use Rattle.std.specs.Io.KnownBytes.{append_known}
 use Rattle.am_outside.proofs.sink.write_whole.Given as goal
 

@@ -1,5 +1,4 @@
-use Rattle.std.proofs.Common.{◌≡◌, [], ◌∷◌, ◌++◌, set, ap, sym, ◌∙◌}
-use Rattle.am_outside.specs.declared.memory_shelf.StoredFile.{StoredFile}
+use Rattle.std.proofs.Common.{[], ◌∷◌, ◌++◌, set, ap, sym, ◌∙◌}
 use Rattle.am_outside.specs.MemoryShelf.{with_file}
 use Rattle.am_outside.proofs.Stored.{seen, with_file-present, with_file-absent}
 use Rattle.am_outside.proofs.memory_shelf.MemoryShelf.add.Goals as goal

@@ -1,5 +1,4 @@
 use Rattle.std.proofs.Common.{set, ap, sym, ◌∙◌}
-use Rattle.am_outside.specs.declared.memory_shelf.StoredFile.{StoredFile}
 use Rattle.am_outside.specs.MemoryShelf.{with_fault}
 use Rattle.am_outside.proofs.Stored.{seen, with_fault-present, with_fault-absent}
 use Rattle.am_outside.proofs.memory_shelf.MemoryShelf.count_fault.Goals as goal

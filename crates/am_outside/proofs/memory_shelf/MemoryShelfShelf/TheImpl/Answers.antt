@@ -1,5 +1,4 @@
 use Rattle.std.proofs.Common.{rules, ap, ◌∙◌}
-use Rattle.am_outside.specs.Faults.{Rose}
 use Rattle.am_outside.specs.MemoryShelf.{faults_at}
 use Rattle.am_outside.proofs.Shelves.{after_read-rises, after_read-no_fall, after_read-others}
 use Rattle.am_outside.proofs.memory_shelf.MemoryShelfShelf.TheImpl.Goals as goal
