@@ -12,6 +12,7 @@ use Rattle.am_outside.specs.Shelf.{Files}
 abbrev pub Counts : Type 0
 Counts = FinMap (slice_cmp nat_cmp) ℕ
 
+-- what a shelf in memory holds
 pub record ShelfState : Type 0 where
   pub files : Files
   -- the faults at each name that has a file
@@ -23,6 +24,7 @@ pub record ShelfState : Type 0 where
   -- the numbers of the reads that fail, from 1
   pub fail_list : List ℕ
 
+-- a state is stored as the pairs of its parts
 abbrev pub shelf_state_code : Coded ShelfState
 shelf_state_code =
     code_by (Files × (Counts × (ℕ × (ℕ × List ℕ))))

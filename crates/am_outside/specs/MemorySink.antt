@@ -2,6 +2,7 @@
 use Rattle.std.specs.Prelude.{ℕ, ◌-◌, Bool, ◌&&◌, ◌||◌, ◌==◌, if◌then◌else◌, nat_lt, List, [], ◌++◌, length, take}
 use Rattle.am_outside.specs.Faults.{one_more}
 
+-- what a sink in memory holds
 pub record SinkState : Type 0 where
   -- what was written
   pub bytes : List ℕ
@@ -11,6 +12,7 @@ pub record SinkState : Type 0 where
   pub fail_at : ℕ
   -- writes asked for so far
   pub calls : ℕ
+  -- faults counted so far
   pub faults : ℕ
 
 -- whether the next write is the one that fails
@@ -22,13 +24,13 @@ abbrev pub part_taken : SinkState → List ℕ → List ℕ
 part_taken sink piece = if fails_next sink then [] else take (sink.room - length sink.bytes) piece
 
 -- whether the next write counts a fault: it fails, or the piece has bytes and none of them fits
-abbrev pub is_fault : SinkState → List ℕ → Bool
-is_fault sink piece = fails_next sink || (nat_lt 0 (length piece) && (sink.room - length sink.bytes == 0))
+abbrev pub counts_fault : SinkState → List ℕ → Bool
+counts_fault sink piece = fails_next sink || (nat_lt 0 (length piece) && (sink.room - length sink.bytes == 0))
 
 -- the sink after a write of this piece
 abbrev pub after_write : SinkState → List ℕ → SinkState
 after_write sink piece = record sink {
   bytes = sink.bytes ++ part_taken sink piece;
   calls = one_more sink.calls;
-  faults = if is_fault sink piece then one_more sink.faults else sink.faults;
+  faults = if counts_fault sink piece then one_more sink.faults else sink.faults;
 }

@@ -1,5 +1,5 @@
 // The files of the system as a shelf. It is trusted that they give what they hold.
-ghost use Rattle.std.specs.Prelude.{◌≡◌, ◌↔◌, ◌<◌, ◌≤◌, None, length, IfOk, IfSome, IsErrOf, if◌then◌else◌};
+ghost use Rattle.std.specs.Prelude.{◌≡◌, ◌+◌, ◌<◌, ◌≤◌, None, length, IfOk, IfSome, IsErrOf, if◌then◌else◌};
 ghost use Rattle.am_outside.specs.Faults.{one_more};
 ghost use Rattle.am_outside.specs.Shelf.{has_failed};
 
@@ -57,11 +57,14 @@ impl<R: Files> Shelf for FileShelf<'_, R> {
     }
 }
 
-// Reads to the end, unless there are more bytes than the limit. `Failed` is an error of the reader.
+// Reads to the end, unless there are more bytes than the limit: at most one byte past it, at least one a turn.
+// `Failed` is an error of the reader.
 fn read_all<R: Read>(alloc: Global, reader: &mut R, limit: u64) -> Result<Text, ShelfFault>
     ensures within { IfOk result (λ text. length text ≤ limit) }
     ensures whole { IfSome (R.remaining reader.old) (λ bytes. IfOk result (λ text. text ≡ bytes)) }
     ensures too_long { IfSome (R.remaining reader.old) (λ bytes. IsErrOf result ShelfFault.TooLong → limit < length bytes) }
+    ensures few { IfSome (R.remaining reader.old) (λ bytes. IfSome (R.remaining reader.new) (λ rest.
+        length bytes ≤ length rest + limit + 1)) }
 {
     let mut text = Text::new(alloc);
     let mut chunk = [0; 4096];

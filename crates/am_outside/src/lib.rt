@@ -1,6 +1,6 @@
 //! The outside: what is read, what is written, and who is told of it.
-//! It stands on cards alone, which a gate is told.
-//! A told byte is read and written exactly, and a fault is answered only where a count of faults rose.
+//! It stands on `card_sets`, for the cards that a gate is told.
+//! Told bytes are read and written exactly, and a fault is answered only where a count of faults rose.
 #![tactic(auto)]
 
 mod counts;
