@@ -1,0 +1,4 @@
+pub mod Vectors
+pub mod Fronts
+pub mod Words
+pub mod Laws

@@ -1,0 +1,44 @@
+//! Laws of the reduced list. A call does nothing: its contract is the law.
+
+ghost use Rattle.win_vectors.specs.Laws.{ReducedExists, ReducedIsUnique, ReducedListsTheBest, ReducedIsTheCover, ReducedIgnoresOrder, ReducedOfReducedPart, ReducedOfMeets, ReducedIsItsOwn};
+
+/// Every list of vectors has a reduced list.
+pub fn reduced_exists()
+    ensures { ReducedExists }
+{}
+
+/// A list of vectors has one reduced list only.
+pub fn reduced_is_unique()
+    ensures { ReducedIsUnique }
+{}
+
+/// The reduced list has the vectors that no other value of the list dominates, each once, in printing order.
+pub fn reduced_lists_the_best()
+    ensures { ReducedListsTheBest }
+{}
+
+/// The reduced list is the only list that is strictly ordered, has no vector that dominates another, and covers exactly
+/// what the list covers.
+pub fn reduced_is_the_cover()
+    ensures { ReducedIsTheCover }
+{}
+
+/// The reduced list doesn't depend on the order of the list, nor on how often a vector stands in it.
+pub fn reduced_ignores_order()
+    ensures { ReducedIgnoresOrder }
+{}
+
+/// A part of a list may be reduced before the whole is.
+pub fn reduced_of_reduced_part()
+    ensures { ReducedOfReducedPart }
+{}
+
+/// Two lists may be reduced before their meets are.
+pub fn reduced_of_meets()
+    ensures { ReducedOfMeets }
+{}
+
+/// A reduced list is its own reduced list.
+pub fn reduced_is_its_own()
+    ensures { ReducedIsItsOwn }
+{}
