@@ -1,0 +1,2 @@
+pub mod PlanMeaning
+pub mod PlanText
