@@ -7,7 +7,7 @@ use Rattle.std.proofs.lemmas.List.Folds.{list_any-append}
 use Rattle.std.proofs.lemmas.Bool.{false≢true, eqb-true, eqb-false, eq-eqb, ne_eqb, and_parts, and_from, cases_Bool, cases_eq, true_from_ne_false, both_ways}
 use Rattle.std.proofs.lemmas.Bool.Decides.{nat_tests}
 use Rattle.bit_lists.specs.Bits.{below, among}
-use Rattle.card_sets.specs.SetWords.{has_card, cards_where, IsCardSet, IsPartOf, Apart}
+use Rattle.card_sets.specs.SetWords.{has_card, cards_where, IsCardSet, IsSubset, Apart}
 use Rattle.trick_rules.specs.Play.{take_out}
 
 -- ---- filters
@@ -176,7 +176,7 @@ length-take_out card xs set h =
     rw both (range_less (has_card xs) card 0 52 h (omega arith) (omega arith) ∙ ap length (sym set))
 
 -- the rest of a set without a part of it
-pub length-without : (part whole : List ℕ) → IsCardSet part → IsCardSet whole → IsPartOf part whole
+pub length-without : (part whole : List ℕ) → IsCardSet part → IsCardSet whole → IsSubset part whole
     → length (filter (λ c. not (has_card part c)) whole) + length part ≡ length whole
 length-without part whole one other within =
     let same : filter (has_card part) whole ≡ part =

@@ -1,1 +1,4 @@
 pub mod CardLists
+pub mod Turns
+pub mod Soundness
+pub mod States

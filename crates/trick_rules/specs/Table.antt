@@ -3,7 +3,7 @@ use Rattle.std.specs.Prelude.{◌≡◌, ◌≢◌, ℕ, zero, suc, ◌+◌, ◌
 use Rattle.card_sets.specs.declared.seat.Seat.{Seat}
 use Rattle.card_sets.specs.declared.seat.Seat.TheVariants.{Declarer, Left, Dummy, Right}
 use Rattle.card_sets.specs.Seats.{next_seat}
-use Rattle.card_sets.specs.SetWords.{IsCardSet, IsPartOf, Apart}
+use Rattle.card_sets.specs.SetWords.{IsCardSet, IsSubset, Apart}
 use Rattle.trick_rules.specs.declared.trump.Trump.{Trump}
 
 -- a trick: who led, and the cards in the order of play
@@ -79,7 +79,7 @@ pub record IsSound (t : Table) : Type 0 where
 -- a Left hand that fits a position: a part of the unseen cards, with Left's number of cards
 pub record FitsLeft (t : Table) (left : List ℕ) : Type 0 where
   pub set : IsCardSet left
-  pub part : IsPartOf left t.unseen
+  pub part : IsSubset left t.unseen
   pub count : length left + played_count t Left ≡ tricks_left t
 
 -- a sound position with a Left hand that fits it
