@@ -9,7 +9,8 @@ use Rattle.card_sets.specs.declared.seat.Seat.TheVariants.{Declarer, Left, Dummy
 use Rattle.card_sets.specs.SetWords.{has_card, IsCardSet, IsSubset, Apart}
 use Rattle.trick_rules.specs.Table.{Played, Table, State, seat_after, to_play, has_played, played_count, tricks_left, IsSound, FitsLeft, IsState}
 use Rattle.trick_rules.specs.Play.{take_out, put_card, end_trick, after_card, after, held_by, hand_of, right_of, CanPlay, is_declarers, winner_of, legal_in, legal_cards, of_suit, or_whole}
-use Rattle.trick_rules.proofs.CardLists.{filter_same, has_card-filter, has_card-append, IsCardSet-filter, IsCardSet-low, has_card-take_out, take_out-low, take_out-gone, take_out-absent, length-take_out, length-without}
+use Rattle.card_sets.proofs.Sets.{has_card-filter, IsCardSet-filter, has_card-below}
+use Rattle.trick_rules.proofs.CardLists.{has_card-append, has_card-take_out, take_out-low, take_out-gone, take_out-absent, length-take_out, length-without}
 use Rattle.trick_rules.proofs.Turns.{count_in, same_seat, count_in-suc, count_in-none, count_in-all, same_seat-self, count_in-turn}
 
 -- ---- the hands after a card
@@ -17,8 +18,9 @@ use Rattle.trick_rules.proofs.Turns.{count_in, same_seat, count_in-suc, count_in
 pub Apart-sym : (xs ys : List ℕ) → Apart xs ys → Apart ys xs
 Apart-sym xs ys apart c h =
     elim (cases_Bool (has_card xs c)) as (λ _. has_card xs c ≡ false) [
-      inl e ↦ absurd (false≢true (sym (apart c e) ∙ h))
-    | inr e ↦ e ]
+      | inl e ↦ absurd (false≢true (sym (apart c e) ∙ h))
+      | inr e ↦ e
+    ]
 
 -- the lengths of the hands fall by the card of the seat that holds it
 pub record HandsFall (t : Table) (card : ℕ) (seat : Seat) : Type 0 where
@@ -54,21 +56,23 @@ Apart-take_out card xs ys apart c h = has_card-take_out card ys c ∙ rw (apart 
 Apart-push : (card : ℕ) (xs ys : List ℕ) → Apart xs ys → Apart (xs ++ card ∷ []) (take_out card ys)
 Apart-push card xs ys apart c h =
     elim (or_cases (has_card xs c) (has_card (card ∷ []) c) (sym (has_card-append xs (card ∷ []) c) ∙ h)) as (λ _. has_card (take_out card ys) c ≡ false) [
-      inl e ↦ has_card-take_out card ys c ∙ rw (apart c e) refl
-    | inr e ↦ elim (cases_eq card c) as (λ _. has_card (take_out card ys) c ≡ false) [
-        inl same ↦ ap (has_card (take_out card ys)) (sym same) ∙ take_out-gone card ys
-      | inr other ↦ absurd (false≢true (rw (ne_eqb card c other) at e)) ] ]
+      | inl e ↦ has_card-take_out card ys c ∙ rw (apart c e) refl
+      | inr e ↦ elim (cases_eq card c) as (λ _. has_card (take_out card ys) c ≡ false) [
+        | inl same ↦ ap (has_card (take_out card ys)) (sym same) ∙ take_out-gone card ys
+        | inr other ↦ absurd (false≢true (rw (ne_eqb card c other) at e))
+      ]
+    ]
 
 -- ---- a sound position after a card
 
 pub held_low : (t : Table) → IsSound t → (card : ℕ) (seat : Seat) → has_card (held_by t seat) card ≡ true → card < 52
-held_low t sound card Declarer h = IsCardSet-low t.declarer sound.declarer_set card h
-held_low t sound card Dummy h = IsCardSet-low t.dummy sound.dummy_set card h
-held_low t sound card Left h = IsCardSet-low t.unseen sound.unseen_set card h
-held_low t sound card Right h = IsCardSet-low t.unseen sound.unseen_set card h
+held_low t sound card Declarer h = has_card-below t.declarer card sound.declarer_set h
+held_low t sound card Dummy h = has_card-below t.dummy card sound.dummy_set h
+held_low t sound card Left h = has_card-below t.unseen card sound.unseen_set h
+held_low t sound card Right h = has_card-below t.unseen card sound.unseen_set h
 
 -- no card of the trick is held
-trick_held : (t : Table) → IsSound t → (seat : Seat) → Apart (held_by t seat) t.trick.cards
+pub trick_held : (t : Table) → IsSound t → (seat : Seat) → Apart (held_by t seat) t.trick.cards
 trick_held t sound Declarer = Apart-sym t.trick.cards t.declarer sound.trick_declarer
 trick_held t sound Dummy = Apart-sym t.trick.cards t.dummy sound.trick_dummy
 trick_held t sound Left = Apart-sym t.trick.cards t.unseen sound.trick_unseen
@@ -79,8 +83,9 @@ absent_differs [] card h k d low e = absurd (omega arith)
 absent_differs (x ∷ xs) card h zero d low e = false≢true (sym h ∙ rw (eq-eqb x card e) refl)
 absent_differs (x ∷ xs) card h (suc k) d low e =
     elim (cases_Bool (eqb x card)) as (λ _. ⊥) [
-      inl same ↦ false≢true (sym h ∙ rw same refl)
-    | inr other ↦ absent_differs xs card (rw other at h) k d (omega arith) e ]
+      | inl same ↦ false≢true (sym h ∙ rw same refl)
+      | inr other ↦ absent_differs xs card (rw other at h) k d (omega arith) e
+    ]
 
 pub after_short : (t : Table) (card : ℕ) → length t.trick.cards < 3 → after_card t card ≡ put_card t card
 after_short t card h = rw (ne_eqb (length t.trick.cards) 3 (λ e. omega arith)) refl
@@ -120,10 +125,33 @@ counts_third t card next sound can third =
     let low : n < 4 = omega arith in
     let full : (seat : Seat) → count_in leader (suc n) seat ≡ 1 = λ seat. ap (λ m. count_in leader (suc m) seat) third ∙ count_in-all leader seat in
     record {
-      dummy_count = omega (arith, before.dummy_count, falls.declarer, falls.dummy, count_in-suc n leader Dummy low, count_in-suc n leader Declarer low,
-          full Dummy, full Declarer, count_in-none next Dummy, count_in-none next Declarer);
-      unseen_count = omega (arith, before.unseen_count, falls.declarer, falls.unseen, count_in-suc n leader Left low, count_in-suc n leader Right low,
-          count_in-suc n leader Declarer low, full Left, full Right, full Declarer, count_in-none next Left, count_in-none next Right, count_in-none next Declarer);
+      dummy_count = omega (
+        arith,
+        before.dummy_count,
+        falls.declarer,
+        falls.dummy,
+        count_in-suc n leader Dummy low,
+        count_in-suc n leader Declarer low,
+        full Dummy,
+        full Declarer,
+        count_in-none next Dummy,
+        count_in-none next Declarer,
+      );
+      unseen_count = omega (
+        arith,
+        before.unseen_count,
+        falls.declarer,
+        falls.unseen,
+        count_in-suc n leader Left low,
+        count_in-suc n leader Right low,
+        count_in-suc n leader Declarer low,
+        full Left,
+        full Right,
+        full Declarer,
+        count_in-none next Left,
+        count_in-none next Right,
+        count_in-none next Declarer,
+      );
     }
 
 -- what holds of the hands after a card, whether or not the trick ends
@@ -155,14 +183,14 @@ put_sound t card sound can short =
     let trick = (put_card t card).trick in
     let long = length_push t.trick.cards card in
     put_sets t card sound trick t.need
-        (Apart-push card t.trick.cards t.declarer sound.trick_declarer)
-        (Apart-push card t.trick.cards t.dummy sound.trick_dummy)
-        (Apart-push card t.trick.cards t.unseen sound.trick_unseen)
-        (omega (arith, long))
-        (All-push (λ c. c < 52) t.trick.cards card sound.trick_cards (held_low t sound card (to_play t) can))
-        (all_pairs_push (λ c d. c ≢ d) t.trick.cards card sound.trick_differs (absent_differs t.trick.cards card (trick_held t sound (to_play t) card can)))
-        sound.need_fits
-        (rw (long, add-one) (counts_short t card sound can short))
+    (Apart-push card t.trick.cards t.declarer sound.trick_declarer)
+    (Apart-push card t.trick.cards t.dummy sound.trick_dummy)
+    (Apart-push card t.trick.cards t.unseen sound.trick_unseen)
+    (omega (arith, long))
+    (All-push (λ c. c < 52) t.trick.cards card sound.trick_cards (held_low t sound card (to_play t) can))
+    (all_pairs_push (λ c d. c ≢ d) t.trick.cards card sound.trick_differs (absent_differs t.trick.cards card (trick_held t sound (to_play t) card can)))
+    sound.need_fits
+    (rw (long, add-one) (counts_short t card sound can short))
 
 nothing_apart : (xs : List ℕ) → Apart [] xs
 nothing_apart xs c h = absurd (false≢true h)
@@ -175,17 +203,28 @@ end_sound : (t : Table) (card : ℕ) → IsSound t → CanPlay t card → length
 end_sound t card sound can third =
     let trick = (end_trick (put_card t card)).trick in
     put_sets t card sound trick (end_trick (put_card t card)).need
-        (nothing_apart (take_out card t.declarer)) (nothing_apart (take_out card t.dummy)) (nothing_apart (take_out card t.unseen))
-        (omega arith)
-        (All-nil (λ c. c < 52))
-        (λ i j d low high. absurd (omega arith))
-        (less_fits (is_declarers trick.leader) t.need 13 sound.need_fits)
-        (counts_third t card trick.leader sound can third)
+    (nothing_apart (take_out card t.declarer)) (nothing_apart (take_out card t.dummy)) (nothing_apart (take_out card t.unseen))
+    (omega arith)
+    (All-nil (λ c. c < 52))
+    (λ i j d low high. absurd (omega arith))
+    (less_fits (is_declarers trick.leader) t.need 13 sound.need_fits)
+    (counts_third t card trick.leader sound can third)
 
 -- the position after a card that the seat to play may hold is sound
 pub after_card_sound : (t : Table) (card : ℕ) → IsSound t → CanPlay t card → IsSound (after_card t card)
 after_card_sound t card sound can =
     elim (cases_eq (length t.trick.cards) 3) as (λ _. IsSound (after_card t card)) [
-      inl third ↦ rw (after_third t card third) (end_sound t card sound can third)
-    | inr other ↦ (let short : length t.trick.cards < 3 = omega (arith, sound.trick_short, other) in
-                   rw (after_short t card short) (put_sound t card sound can short)) ]
+      | inl third ↦ rw (after_third t card third) (end_sound t card sound can third)
+      | inr other ↦ (let short : length t.trick.cards < 3 = omega (arith, sound.trick_short, other) in
+          rw (after_short t card short) (put_sound t card sound can short))
+    ]
+
+-- the position after a card, put together from its parts
+pub after_card-parts : (t : Table) (card : ℕ) (declarer dummy unseen : List ℕ) (trick : Played) (need : ℕ)
+    → declarer ≡ take_out card t.declarer → dummy ≡ take_out card t.dummy → unseen ≡ take_out card t.unseen → trick ≡ (after_card t card).trick → need ≡ (after_card t card).need
+    → record { declarer = declarer; dummy = dummy; unseen = unseen; trick = trick; need = need; trump = t.trump } ≡ after_card t card
+after_card-parts t card declarer dummy unseen trick need a b c d e = rw (a, b, c, d, e) (whole (eqb (length t.trick.cards) 3) (end_trick (put_card t card)) (put_card t card) refl refl)
+  where
+    whole : (b : Bool) (u v : Table) → u ≡ end_trick (put_card t card) → v ≡ put_card t card → record { declarer = take_out card t.declarer; dummy = take_out card t.dummy; unseen = take_out card t.unseen; trick = (cond b u v).trick; need = (cond b u v).need; trump = t.trump } ≡ cond b u v
+    whole true u v e f = rw e refl
+    whole false u v e f = rw f refl

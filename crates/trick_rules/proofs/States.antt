@@ -9,7 +9,8 @@ use Rattle.card_sets.specs.Cards.{suit_of, same_suit}
 use Rattle.card_sets.specs.SetWords.{has_card, IsCardSet, IsSubset, Apart}
 use Rattle.trick_rules.specs.Table.{Played, Table, State, seat_after, to_play, has_played, played_count, tricks_left, IsSound, FitsLeft, IsState}
 use Rattle.trick_rules.specs.Play.{take_out, put_card, end_trick, after_card, after, held_by, hand_of, right_of, CanPlay, is_declarers, winner_of, legal_in, legal_cards, of_suit, or_whole, cards_left, is_over, decided}
-use Rattle.trick_rules.proofs.CardLists.{filter_same, has_card-filter, IsCardSet-filter, has_card-take_out, take_out-low, take_out-absent, length-take_out, length-without, some_from_length, length_from_some, first_has}
+use Rattle.card_sets.proofs.Sets.{has_card-filter, IsCardSet-filter}
+use Rattle.trick_rules.proofs.CardLists.{has_card-take_out, take_out-low, take_out-absent, length-take_out, length-without, some_from_length, length_from_some, first_has}
 use Rattle.trick_rules.proofs.Turns.{count_in, same_seat, count_in-suc, count_in-none, count_in-all, count_in-turn}
 use Rattle.trick_rules.proofs.Soundness.{HandsFall, hands_fall, after_short, after_third, after_card_sound, Apart-sym}
 
@@ -50,8 +51,9 @@ legal_can_play s ok card h =
 not_part : (s : State) → IsState s → (card : ℕ) → has_card s.table.unseen card ≡ false → has_card s.left card ≡ false
 not_part s ok card gone =
     elim (cases_Bool (has_card s.left card)) as (λ _. has_card s.left card ≡ false) [
-      inl e ↦ absurd (false≢true (sym gone ∙ ok.fits.part card e))
-    | inr e ↦ e ]
+      | inl e ↦ absurd (false≢true (sym gone ∙ ok.fits.part card e))
+      | inr e ↦ e
+    ]
 
 -- Left's cards are fewer by the card where Left played it
 left_falls : (s : State) → IsState s → (card : ℕ) (seat : Seat) → has_card (hand_of s seat) card ≡ true
@@ -102,9 +104,10 @@ pub tricks_left-after : (t : Table) (card : ℕ) → IsSound t → CanPlay t car
     → tricks_left (after_card t card) + cond (eqb (length t.trick.cards) 3) 1 0 ≡ tricks_left t
 tricks_left-after t card sound can =
     elim (cases_eq (length t.trick.cards) 3) as (λ _. tricks_left (after_card t card) + cond (eqb (length t.trick.cards) 3) 1 0 ≡ tricks_left t) [
-      inl third ↦ rw (after_third t card third, eq-eqb (length t.trick.cards) 3 third) (tricks_third t card sound can third)
-    | inr other ↦ (let short : length t.trick.cards < 3 = omega (arith, sound.trick_short, other) in
-                   rw (after_short t card short, ne_eqb (length t.trick.cards) 3 other) (omega (arith, tricks_short t card sound can short))) ]
+      | inl third ↦ rw (after_third t card third, eq-eqb (length t.trick.cards) 3 third) (tricks_third t card sound can third)
+      | inr other ↦ (let short : length t.trick.cards < 3 = omega (arith, sound.trick_short, other) in
+          rw (after_short t card short, ne_eqb (length t.trick.cards) 3 other) (omega (arith, tricks_short t card sound can short)))
+    ]
 
 -- ---- Left's count after a card
 
@@ -120,17 +123,24 @@ left_third : (s : State) → IsState s → (card : ℕ) → has_card (hand_of s 
 left_third s ok card h third =
     let t = s.table in
     let can = hand_held s ok (to_play t) card h in
-    omega (arith, tricks_third t card ok.sound can third, count_full t third Left, count_in-none (end_trick (put_card t card)).trick.leader Left,
-        left_falls s ok card (to_play t) h, ok.fits.count)
+    omega (
+      arith,
+      tricks_third t card ok.sound can third,
+      count_full t third Left,
+      count_in-none (end_trick (put_card t card)).trick.leader Left,
+      left_falls s ok card (to_play t) h,
+      ok.fits.count,
+    )
 
 left_count : (s : State) → IsState s → (card : ℕ) → has_card (hand_of s (to_play s.table)) card ≡ true
     → length (take_out card s.left) + played_count (after_card s.table card) Left ≡ tricks_left (after_card s.table card)
 left_count s ok card h =
     let t = s.table in
     elim (cases_eq (length t.trick.cards) 3) as (λ _. length (take_out card s.left) + played_count (after_card t card) Left ≡ tricks_left (after_card t card)) [
-      inl third ↦ rw (after_third t card third) (left_third s ok card h third)
-    | inr other ↦ (let short : length t.trick.cards < 3 = omega (arith, ok.sound.trick_short, other) in
-                   rw (after_short t card short) (left_short s ok card h short)) ]
+      | inl third ↦ rw (after_third t card third) (left_third s ok card h third)
+      | inr other ↦ (let short : length t.trick.cards < 3 = omega (arith, ok.sound.trick_short, other) in
+          rw (after_short t card short) (left_short s ok card h short))
+    ]
 
 -- ---- a state after a legal card
 
@@ -157,8 +167,16 @@ pub cards_left-after : (t : Table) (card : ℕ) → IsSound t → CanPlay t card
 cards_left-after t card sound can =
     let falls = hands_fall t sound card (to_play t) can in
     let one = one_seat (to_play t) in
-    omega (arith, falls.declarer, falls.dummy, falls.unseen, one,
-        ap (length {A = ℕ}) (after_card-declarer t card), ap (length {A = ℕ}) (after_card-dummy t card), ap (length {A = ℕ}) (after_card-unseen t card))
+    omega (
+      arith,
+      falls.declarer,
+      falls.dummy,
+      falls.unseen,
+      one,
+      ap (length {A = ℕ}) (after_card-declarer t card),
+      ap (length {A = ℕ}) (after_card-dummy t card),
+      ap (length {A = ℕ}) (after_card-unseen t card),
+    )
   where
     one_seat : (seat : Seat) → same_seat seat Declarer + same_seat seat Dummy + same_seat seat Left + same_seat seat Right ≡ 1
     one_seat Declarer = refl

@@ -1,9 +1,9 @@
 -- A node: a position and the layouts that are thought possible, each by Left's hand.
-use Rattle.std.specs.Prelude.{ℕ, ◌≤◌, Bool, List, length, map, filter, All}
+use Rattle.std.specs.Prelude.{ℕ, ◌≤◌, Bool, ◌||◌, List, length, map, filter, All, is_some, ◌==◌}
 use Rattle.std.specs.List.{list_any}
 use Rattle.card_sets.specs.SetWords.{has_card, cards_where}
-use Rattle.trick_rules.specs.Table.{Table, IsSound, FitsLeft}
-use Rattle.trick_rules.specs.Play.{after_card, take_out, legal_in}
+use Rattle.trick_rules.specs.Table.{Table, State, IsSound, FitsLeft}
+use Rattle.trick_rules.specs.Play.{after_card, take_out, legal_in, decided}
 
 -- a position, and Left's hand in each layout
 pub record Layouts : Type 0 where
@@ -16,6 +16,14 @@ pub record IsNode (n : Layouts) : Type 0 where
   pub fits : All (FitsLeft n.table) n.lefts
   pub some : 1 ≤ length n.lefts
   pub few : length n.lefts ≤ 64
+
+-- the position with Left's hand, for each layout in order
+abbrev pub states : Layouts → List State
+states n = map (λ left. record { table = n.table; left = left }) n.lefts
+
+-- where a plan stops: no moves of declarer's side are left, or the result is decided
+abbrev pub stops : Layouts → ℕ → Bool
+stops n moves = (moves == 0) || is_some (decided n.table)
 
 -- whether a card is legal for the seat to play where Left holds these cards
 abbrev pub is_legal : Table → ℕ → List ℕ → Bool

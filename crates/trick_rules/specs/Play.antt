@@ -1,5 +1,5 @@
 -- The rules of play: which cards are legal, who takes a trick, what follows a card, and who can make the contract.
-use Rattle.std.specs.Prelude.{◌≡◌, ℕ, zero, suc, ◌+◌, ◌-◌, Bool, true, false, not, Option, None, Some, List, [], ◌∷◌, ◌++◌, length, map, filter, if◌then◌else◌, ◌==◌, max, nat_lt}
+use Rattle.std.specs.Prelude.{◌≡◌, ◌≢◌, ◌<◌, slice_index, ℕ, zero, suc, ◌+◌, ◌-◌, Bool, true, false, not, ◌&&◌, ◌||◌, Option, None, Some, List, [], ◌∷◌, ◌++◌, length, map, filter, if◌then◌else◌, ◌==◌, max, nat_lt}
 use Rattle.std.specs.List.{list_any, list_all, position_or_len}
 use Rattle.card_sets.specs.declared.card.Suit.{Suit}
 use Rattle.card_sets.specs.declared.seat.Seat.{Seat}
@@ -26,6 +26,11 @@ abbrev pub legal_cards : List ℕ → List ℕ → List ℕ
 legal_cards [] hand = hand
 legal_cards (led ∷ rest) hand = or_whole (of_suit (suit_of led) hand) hand
 
+-- the suit led, where the trick has a card
+abbrev pub suit_led : List ℕ → Option Suit
+suit_led [] = None
+suit_led (led ∷ rest) = Some (suit_of led)
+
 -- ---- who takes a trick
 
 abbrev pub is_trump : Trump → ℕ → Bool
@@ -45,6 +50,19 @@ abbrev pub winning_place : Trump → List ℕ → ℕ
 winning_place trump [] = 0
 winning_place trump (led ∷ rest) =
     let strengths = map (strength trump (suit_of led)) (led ∷ rest) in position_or_len (λ x. x == greatest strengths) strengths
+
+-- whether one card beats another in a trick: the higher of two trumps; a trump and no trump; with no trump, a card of the
+-- suit led and one of another suit, or the higher of two of the suit led
+abbrev pub beats : Trump → Suit → ℕ → ℕ → Bool
+beats trump led card other =
+    if is_trump trump other then is_trump trump card && nat_lt (rank_of other) (rank_of card)
+    else is_trump trump card || same_suit (suit_of card) led && (not (same_suit (suit_of other) led) || nat_lt (rank_of other) (rank_of card))
+
+-- the card at this place beats each other card of the trick
+pub record IsWonBy (trump : Trump) (cards : List ℕ) (place : ℕ) : Type 0 where
+  pub within : place < length cards
+  pub beats_each : (other : ℕ) → other < length cards → other ≢ place
+      → beats trump (suit_of (slice_index cards 0)) (slice_index cards place) (slice_index cards other) ≡ true
 
 -- who played that card
 abbrev pub winner_of : Trump → Played → Seat

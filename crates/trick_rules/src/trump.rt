@@ -1,7 +1,8 @@
+//! Trumps.
 use card_sets::card::Suit;
 
-/// Trumps: a suit, or none.
-#[derive(Clone, Copy, PartialEq, Eq, Debug)]
+/// The trump suit, or none.
+#[derive(Clone, Copy, Debug, PartialEq, Eq, Hash)]
 pub enum Trump {
     Suit(Suit),
     NoTrump,

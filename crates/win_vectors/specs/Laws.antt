@@ -1,5 +1,5 @@
 -- What the reduced list of a list of vectors is, said in other ways, and what it keeps.
-use Rattle.std.specs.Prelude.{◌≡◌, ◌↔◌, ◌++◌, List, AllPairs, Contains, IsPermutation}
+use Rattle.std.specs.Prelude.{◌≡◌, ◌↔◌, ◌++◌, List, AllPairs, Contains}
 use Rattle.win_vectors.specs.Fronts.{Vector, Dominates, Precedes, Covers, IsReduced, meets}
 
 -- v is of the list, and no other vector of the list dominates it

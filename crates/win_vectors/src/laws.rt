@@ -1,6 +1,28 @@
-//! Laws of the reduced list. A call does nothing: its contract is the law.
+//! Laws of vectors and of the reduced list. A call does nothing: its contract is the law.
 
+ghost use Rattle.win_vectors.specs.VectorLaws.{DominanceIsPartialOrder, MeetIsGreatest, PrintingOrderIsTotal, SpreadUndoesRestrict};
 ghost use Rattle.win_vectors.specs.Laws.{ReducedExists, ReducedIsUnique, ReducedListsTheBest, ReducedIsTheCover, ReducedIgnoresOrder, ReducedOfReducedPart, ReducedOfMeets, ReducedIsItsOwn};
+
+/// Dominance is a partial order.
+pub fn dominance_is_partial_order()
+    ensures { DominanceIsPartialOrder }
+{}
+
+/// The printing order is a strict total order, in which a vector stands before those that it dominates.
+pub fn printing_order_is_total()
+    ensures { PrintingOrderIsTotal }
+{}
+
+/// The meet of two vectors is the greatest vector that both dominate.
+pub fn meet_is_greatest()
+    ensures { MeetIsGreatest }
+{}
+
+/// To restrict a vector that was spread by the same mask gives it back, and a spread vector dominates where the vector
+/// itself dominates what the mask picks.
+pub fn spread_undoes_restrict()
+    ensures { SpreadUndoesRestrict }
+{}
 
 /// Every list of vectors has a reduced list.
 pub fn reduced_exists()

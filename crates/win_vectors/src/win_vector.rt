@@ -1,6 +1,10 @@
 //! A list of bits in a machine word.
 
 ghost use Rattle.std.specs.Prelude.{◌≡◌, ◌↔◌, ◌≤◌, ◌<◌, ◌^◌, ◌-◌, IsTrue, true, false, length, replicate, slice_get, slice_set};
+ghost use Rattle.std.proofs.Common.{rules};
+ghost use Rattle.std.proofs.Math.Bool.{beq};
+ghost use Rattle.std.specs.Cmp.Lexicographic.{pointwise};
+ghost use Rattle.std.specs.Cmp.Rules.{comparing};
 ghost use Rattle.win_vectors.specs.Fronts.{Dominates};
 ghost use Rattle.win_vectors.specs.Vectors.{dominates as is_above, meet_of, ones_of, restrict_of, spread_of, vector_order};
 
@@ -13,7 +17,7 @@ pub const MAX_WIDTH: u8 = 64;
 /// One bit for each layout of a list, 1 where the layout is made: 1 to 64 bits.
 ///
 /// The first layout has the lowest bit of the word.
-#[derive(Clone, Copy, PartialEq, Eq, Debug)]
+#[derive(Clone, Copy, Debug)]
 pub struct WinVector {
     width: u8,
     bits: u64,
@@ -37,6 +41,20 @@ impl Model for WinVector {
       width = length-bools a.width a.bits i;
       bits = number_of-bools a.width a.bits h.fits i;
     } };
+}
+
+impl PartialEq for WinVector {
+    ghost eq = { pointwise beq };
+
+    ghost laws = { Prim.search (comparing, rules) };
+
+    fn eq(&self, other: &WinVector) -> bool {
+        self.equals(*other)
+    }
+}
+
+impl Eq for WinVector {
+    ghost laws = { Prim.search (comparing, rules) };
 }
 
 impl WinVector {
@@ -140,10 +158,10 @@ impl WinVector {
             return theirs.cmp(&ours);
         }
         let apart = self.bits ^ other.bits;
-        let lowest = apart & apart.wrapping_neg();
         if apart == 0 {
-            Ordering::Equal
-        } else if self.bits & lowest != 0 {
+            return Ordering::Equal;
+        }
+        if (self.bits >> apart.trailing_zeros()) & 1 == 1 {
             Ordering::Less
         } else {
             Ordering::Greater
