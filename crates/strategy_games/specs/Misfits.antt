@@ -25,19 +25,19 @@ abbrev pub or_else : Option ℕ → Option ℕ → Option ℕ
 or_else None j = j
 or_else (Some i) j = Some i
 
-module _ {N S C : Type 0} (g : Game N S C) (same : C → C → Bool) where
-  -- are these the same cards in the same order?
-  abbrev pub same_cards : List C → List C → Bool
-  same_cards [] [] = true
-  same_cards [] (d ∷ ds) = false
-  same_cards (c ∷ cs) [] = false
-  same_cards (c ∷ cs) (d ∷ ds) = same c d && same_cards cs ds
+-- are these the same cards in the same order?
+abbrev pub same_cards : {C : Type 0} → (C → C → Bool) → List C → List C → Bool
+same_cards same [] [] = true
+same_cards same [] (d ∷ ds) = false
+same_cards same (c ∷ cs) [] = false
+same_cards same (c ∷ cs) (d ∷ ds) = same c d && same_cards same cs ds
 
+module _ {N S C : Type 0} (g : Game N S C) (same : C → C → Bool) where
   -- does the first node of the plan fit?
   abbrev pub belongs : Plan C → N → ℕ → Bool
   belongs Stop n m = stops g n m
   belongs (Play c q) n m = not (stops g n m) && g.is_ours n && list_any (λ d. same d c) (g.choices n)
-  belongs (Hear rs) n m = not (stops g n m) && not (g.is_ours n) && same_cards (cards_of rs) (g.choices n)
+  belongs (Hear rs) n m = not (stops g n m) && not (g.is_ours n) && same_cards same (cards_of rs) (g.choices n)
 
   abbrev mutual
     -- the number of the first node of the plan that doesn't fit
