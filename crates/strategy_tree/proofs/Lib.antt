@@ -3,4 +3,5 @@ pub mod Reading
 pub mod ReadingNodes
 pub mod CardLists
 pub mod Rules
-pub mod Laws
+pub mod BridgeLaws
+pub mod BridgeNodes
