@@ -180,3 +180,8 @@ mutual
           (here ∙ sym (append_assoc before first (plan_text plan ++ (replies_text later ++ rest))) ∙ sym (append_assoc (before ++ first) (plan_text plan) (replies_text later ++ rest))) in
       replies_read-reply (λ place. node_read levels bytes place) bytes (length before) card (length (before ++ first)) plan (length (before ++ first ++ plan_text plan)) later _ (length (cards_of later)) said below after
       ∙ ap (λ text. Ok (games.Reply card plan later, length text)) (ap (λ text. text ++ replies_text later) (append_assoc before first (plan_text plan)) ∙ append_assoc before (first ++ plan_text plan) (replies_text later))
+
+-- what is written behind some bytes is read back from there, whatever follows
+pub reads_back : (plan : Plan ℕ) (old rest : List ℕ) → levels_of plan ≤ 64 → HasReplies plan → HasCards plan → plan_read ((old ++ plan_text plan) ++ rest) (length old) ≡ Ok (plan, length (old ++ plan_text plan))
+unfolding plan_read
+reads_back plan old rest fits replies cards = reads_plan plan 64 ((old ++ plan_text plan) ++ rest) old rest fits replies cards (append_assoc old (plan_text plan) rest)
