@@ -66,7 +66,11 @@ pub fn read_plan(alloc: Global, bytes: &[u8], start: usize) -> Result<(Plan, usi
 /// whatever follows, and ends where the text ended.
 ///
 /// Appends the lines of the plan to a text, and reads them from the text's old end.
-pub fn plan_text_reads_back(alloc: Global, plan: &Plan, out: &mut Text) -> Result<(Plan, usize), PlanFault>
+pub fn plan_text_reads_back(
+    alloc: Global,
+    plan: &Plan,
+    out: &mut Text,
+) -> Result<(Plan, usize), PlanFault>
     ensures appended { (out.new ≡ out.old ++ plan_text (plan_of plan.now))
         ⊎ ((out.new ≡ out.old) × (result ≡ Err PlanFault.Memory)) }
     ensures same_plan { levels_of (plan_of plan.now) ≤ 64 → HasReplies (plan_of plan.now)
@@ -75,7 +79,7 @@ pub fn plan_text_reads_back(alloc: Global, plan: &Plan, out: &mut Text) -> Resul
         → IfErr result (λ fault. fault ≡ PlanFault.Memory) }
     ensures whatever_follows { levels_of (plan_of plan.now) ≤ 64 → HasReplies (plan_of plan.now)
         → (rest : List ℕ) → IfOk result
-            (λ _. plan_read (out.new ++ rest) (length out.old) ≡ Ok (plan_of plan.now, length out.new)) }
+        (λ _. plan_read (out.new ++ rest) (length out.old) ≡ Ok (plan_of plan.now, length out.new)) }
 {
     let start = out.bytes().len();
     plan.lines(alloc, out)?;
@@ -113,7 +117,13 @@ fn read_node(alloc: Global, bytes: &[u8], at: usize, levels: u8) -> Result<(Plan
 
 // So many replies, whose plans may have so many levels.
 #[cycle(read)]
-fn read_replies(alloc: Global, bytes: &[u8], start: usize, levels: u8, count: u8) -> Result<(Vec<Reply>, usize), PlanFault>
+fn read_replies(
+    alloc: Global,
+    bytes: &[u8],
+    start: usize,
+    levels: u8,
+    count: u8,
+) -> Result<(Vec<Reply>, usize), PlanFault>
     requires { start ≤ length bytes.now }
     ensures read { IfOk result
         (λ read. replies_read (λ at. node_read levels bytes.now at) count bytes.now start ≡ Ok (replies_of read.0.items, read.1)) }

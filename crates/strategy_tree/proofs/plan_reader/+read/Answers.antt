@@ -23,14 +23,14 @@ pub read_node-returns-in_err-rest-in-Play-clause-fault :
 read_node-returns-in_err-rest-in-Play-clause-fault t c =
     let p = err_from_is_err_and c.from_residual.result c.from_residual.ensures.1 in
     let said : Some (Play c.in-Play.card, c.in-Some.next) ≡ said_at plan_line c.args.bytes.now c.args.at = search rules in
-    rw (p.1, p.2) (same_fault c.in_err-rest-in-Play.ensures.fault (node_read-play_fault c.args.levels c.args.bytes.now c.args.at c.in-Play.card c.in-Some.next c.in_err-rest-in-Play.field-0.0 (omega arith) said))
+    rw (p.1, p.2) (same_fault {x = node_read (c.args.levels - 1) c.args.bytes.now c.in-Some.next} {y = node_read c.args.levels c.args.bytes.now c.args.at} c.in_err-rest-in-Play.ensures.fault (node_read-play_fault c.args.levels c.args.bytes.now c.args.at c.in-Play.card c.in-Some.next c.in_err-rest-in-Play.field-0.0 (omega arith) said))
 
 pub read_node-returns-in_err-replies-in-Hear-clause-fault :
     goal.read_node-returns-in_err-replies-in-Hear-clause-fault
 read_node-returns-in_err-replies-in-Hear-clause-fault t c =
     let p = err_from_is_err_and c.from_residual-in_err-replies-in-Hear.result c.from_residual-in_err-replies-in-Hear.ensures.1 in
     let said : Some (Hear c.in-Hear.count, c.in-Some.next) ≡ said_at plan_line c.args.bytes.now c.args.at = search rules in
-    rw (p.1, p.2) (same_fault c.in_err-replies-in-Hear.ensures.fault (node_read-hear_fault c.args.levels c.args.bytes.now c.args.at c.in-Hear.count c.in-Some.next c.in_err-replies-in-Hear.field-0.0 (omega arith) said))
+    rw (p.1, p.2) (same_fault {x = replies_read (λ place. node_read (c.args.levels - 1) c.args.bytes.now place) c.in-Hear.count c.args.bytes.now c.in-Some.next} {y = node_read c.args.levels c.args.bytes.now c.args.at} c.in_err-replies-in-Hear.ensures.fault (node_read-hear_fault c.args.levels c.args.bytes.now c.args.at c.in-Hear.count c.in-Some.next c.in_err-replies-in-Hear.field-0.0 (omega arith) said))
 
 pub read_node-returns-in-Stop-clause-read : goal.read_node-returns-in-Stop-clause-read
 read_node-returns-in-Stop-clause-read t c =
@@ -61,7 +61,7 @@ pub read_replies-returns-in_err-plan-clause-fault :
 read_replies-returns-in_err-plan-clause-fault t c =
     let p = err_from_is_err_and c.from_residual.result c.from_residual.ensures.1 in
     let said : Some (c.in-Some.said.0, c.in-Some.said.1) ≡ said_at reply_line c.args.bytes.now c.loop.at = search rules in
-    rw (p.1, p.2) (same_fault c.in_err-plan.ensures.fault (λ e. c.loop.invariant.so_far ∙ ap (after_answers (map answer_of c.loop.replies.items)) (replies_read-fault (λ at. node_read c.args.levels c.args.bytes.now at) c.args.bytes.now (c.args.count - c.loop.counter) c.loop.at c.in-Some.said.0 c.in-Some.said.1 c.in_err-plan.field-0.0 (omega arith) said e)))
+    rw (p.1, p.2) (same_fault {x = node_read c.args.levels c.args.bytes.now c.in-Some.said.1} {y = replies_read (λ at. node_read c.args.levels c.args.bytes.now at) c.args.count c.args.bytes.now c.args.start} c.in_err-plan.ensures.fault (λ e. c.loop.invariant.so_far ∙ ap (after_answers (map answer_of c.loop.replies.items)) (replies_read-fault (λ at. node_read c.args.levels c.args.bytes.now at) c.args.bytes.now (c.args.count - c.loop.counter) c.loop.at c.in-Some.said.0 c.in-Some.said.1 c.in_err-plan.field-0.0 (omega arith) said e)))
 
 pub read_replies-loop-preserved : goal.read_replies-loop-preserved
 read_replies-loop-preserved t c =
@@ -71,7 +71,7 @@ read_replies-loop-preserved t c =
     let left : c.args.count - (c.loop.counter + 1) ≡ c.args.count - c.loop.counter - 1 = omega arith in
     record {
       within = c.in_ok-plan.ensures.within;
-      so_far = rw (items, left) (replies_read-turn (λ at. node_read c.args.levels c.args.bytes.now at) c.args.bytes.now _ (map answer_of c.loop.replies.items) (c.args.count - c.loop.counter) c.loop.at c.in-Some.said.0 c.in-Some.said.1 (plan_of c.in_ok-plan.plan) c.in_ok-plan.end (omega arith) said c.in_ok-plan.ensures.read c.loop.invariant.so_far)
+      so_far = rw (items, left) (replies_read-turn (λ at. node_read c.args.levels c.args.bytes.now at) c.args.bytes.now _ (map answer_of c.loop.replies.items) (c.args.count - c.loop.counter) c.loop.at c.in-Some.said.0 c.in-Some.said.1 (plan_of c.in_ok-plan.plan) c.in_ok-plan.end (omega arith) said c.in_ok-plan.ensures.read c.loop.invariant.so_far);
     }
 
 pub read_replies-returns-clause-read : goal.read_replies-returns-clause-read

@@ -32,5 +32,5 @@ write_replies-loop-reply-preserved t c =
     record {
       written = written_turn c.loop-reply.out (on_line c.reply-item.result.card) (plan_text (plan_of c.reply-item.result.plan)) _ _ c.write_card.new.out c.write_plan.new.out _
           c.in_ok-write_card.ensures.appended c.in_ok-write_plan.ensures.appended (ap replies_text next) c.loop-reply.invariant.written;
-      cards = λ later. c.loop-reply.invariant.cards (rw next (c.in_ok-write_card.ensures.one_of_52, c.in_ok-write_plan.ensures.cards, later))
+      cards = λ later. c.loop-reply.invariant.cards (rw next (c.in_ok-write_card.ensures.one_of_52, c.in_ok-write_plan.ensures.cards, later));
     }
