@@ -38,7 +38,10 @@ pub trait Shelf {
     /// How many faults there were at a name. A shelf starts at 0, and a count at 2^64 - 1 stays there.
     ghost faults: { Self → List ℕ → ℕ };
 
-    /// Reads the whole file of that name, of at most `limit` bytes.
+    /// Reads the whole file of that name, which may have at most `limit` bytes.
+    ///
+    /// Errors: `Failed` where the file isn't there or can't be read, a fault at that name; `TooLong` where it
+    /// has more bytes; `Memory`. The files stay as they are.
     fn read(&mut self, alloc: Global, name: &str, limit: u64) -> Result<Text, ShelfFault>
         ensures within { IfOk result (λ text. length text ≤ limit) }
         ensures failed { IsErrOf result ShelfFault.Failed → Rose (faults self.old name.now) (faults self.new name.now) }

@@ -22,7 +22,8 @@ pub trait Sink {
     /// How many writes were asked for, where the sink counts them.
     ghost writes: { Self → ℕ } = { λ _. 0 };
 
-    /// Writes the first bytes of a piece, and answers how many. An error wrote nothing.
+    /// Writes the first bytes of a piece, and answers how many: 0 of a piece that has bytes only by a fault.
+    /// An error is a fault too, and wrote nothing.
     fn write(&mut self, piece: &[u8]) -> Result<usize, SinkFailed>
         ensures within { IfOk result (λ n. n ≤ length piece.now) }
         ensures appended { IfOk result (λ n. told self.new ≡ append_known (told self.old) (take n piece.now)) }
@@ -34,6 +35,7 @@ pub trait Sink {
 }
 
 /// Writes a whole piece, by at most as many writes as it has bytes. It takes no memory.
+/// It ends at the first fault, with a proper prefix written.
 pub fn write_whole<O: Sink>(out: &mut O, piece: &[u8]) -> Result<(), SinkFailed>
     ensures whole { OnOk result (O.told out.new ≡ append_known (O.told out.old) piece.now) }
     ensures part { OnErr result (AppendsPart (O.told out.old) piece.now (O.told out.new)) }
