@@ -1,5 +1,5 @@
 -- Which options each job requires, allows and refuses.
-use Rattle.std.specs.Prelude.{◌||◌, Bool, true, not, [], ◌∷◌, Option, Some, None, is_some, option_and_then, if◌then◌else◌}
+use Rattle.std.specs.Prelude.{◌||◌, Bool, true, not, [], ◌∷◌, is_some}
 use Rattle.std.specs.List.{list_all}
 use Rattle.job_words.specs.declared.Job.{Job}
 use Rattle.job_words.specs.declared.Job.TheVariants.{Solve, Card}

@@ -10,6 +10,8 @@ ghost use Rattle.job_words.specs.Asks.{ask_of, texts_of};
 
 mod options;
 mod table;
+#[cfg(test)]
+mod tests;
 mod values;
 
 use options::{Options, read_options};

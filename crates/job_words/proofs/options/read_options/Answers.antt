@@ -1,6 +1,5 @@
-use Rattle.std.proofs.Common.{◌≡◌, ◌∙◌, ap, Some, option_map}
+use Rattle.std.proofs.Common.{◌∙◌, ap, Some}
 use Rattle.clap.specs.Words.{app_of}
-use Rattle.job_words.specs.Options.{options_of}
 use Rattle.job_words.proofs.CommandLemmas.{refused, taken}
 use Rattle.job_words.proofs.options.read_options.Goals as goal
 

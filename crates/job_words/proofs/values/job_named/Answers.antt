@@ -1,4 +1,4 @@
-use Rattle.std.proofs.Common.{◌≡◌, sym, ap, refl, codes}
+use Rattle.std.proofs.Common.{sym, ap, refl, codes}
 use Rattle.job_words.specs.Values.{job_named}
 use Rattle.job_words.proofs.TextLemmas.{bytes_ne}
 use Rattle.job_words.proofs.values.job_named.Goals as goal

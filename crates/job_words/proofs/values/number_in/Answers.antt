@@ -1,8 +1,7 @@
-use Rattle.std.proofs.Common.{◌≡◌, ◌∙◌, ◌^◌, ◌<◌, Some, None, Option, ℕ, sym, ap, arith, false, true, refl}
+use Rattle.std.proofs.Common.{◌≡◌, ◌∙◌, Some, None, Option, ℕ, sym, ap, arith}
 use Rattle.std.specs.Prelude.{option_and_then}
-use Rattle.std.specs.Result.{result_ok}
 use Rattle.std.proofs.lemmas.Bool.Decides.{nat_tests}
-use Rattle.job_words.specs.Values.{in_range, number_in}
+use Rattle.job_words.specs.Values.{in_range}
 use Rattle.job_words.proofs.NumberLemmas.{no_digits, parsed}
 use Rattle.job_words.proofs.values.number_in.Goals as goal
 

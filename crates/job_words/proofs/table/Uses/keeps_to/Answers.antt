@@ -1,4 +1,4 @@
-use Rattle.std.proofs.Common.{◌≡◌, ◌∙◌, sym, Bool, rules, tests}
+use Rattle.std.proofs.Common.{◌∙◌, sym, Bool, rules, tests}
 use Rattle.std.proofs.lemmas.Iterator.Search.{all_from_yields_List}
 use Rattle.std.proofs.lemmas.Iterator.{YieldsList-from_slice}
 use Rattle.job_words.specs.Table.{is_used_so, keeps_to}
