@@ -243,3 +243,6 @@ fn place_of(vectors: &[WinVector], vector: WinVector) -> usize
     }
     vectors.len()
 }
+
+#[cfg(test)]
+mod tests;
