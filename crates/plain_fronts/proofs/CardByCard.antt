@@ -1,5 +1,5 @@
 -- The front of a node, card by card.
-use Rattle.std.proofs.Common.{◌≡◌, ℕ, zero, suc, ◌+◌, ◌-◌, ◌*◌, ◌<◌, ◌≤◌, Bool, true, false, ◌||◌, ◌==◌, is_some, List, [], ◌∷◌, ◌++◌, map, replicate, length, Contains, refl, sym, ap, subst, ◌∙◌, arith, append_assoc, append-nil}
+use Rattle.std.proofs.Common.{◌≡◌, ℕ, zero, suc, ◌+◌, ◌-◌, true, false, is_some, List, [], ◌∷◌, ◌++◌, map, replicate, length, Contains, refl, sym, ap, subst, ◌∙◌, arith, append_assoc, append-nil}
 use Rattle.std.proofs.lemmas.Bool.{false≢true}
 use Rattle.card_sets.specs.SetWords.{has_card}
 use Rattle.win_vectors.specs.Vectors.{ones_of}
@@ -69,7 +69,7 @@ pub declarer_end : (n : Layouts) (moves : ℕ) (earlier rest : List ℕ) (front 
 declarer_end n moves earlier rest front sound off ours are none so_far =
     subst (λ m. IsFront bridge n m front) (more_moves n moves off)
     (steps.all_cards n (moves - 1) front sound (going_on n.table (live n moves off)) ours
-      (subst (λ cards. IsFrontOf (WinsByCard bridge n (moves - 1) cards) front) (sym (are ∙ ap (λ cards. earlier ++ cards) none ∙ append-nil earlier)) so_far))
+    (subst (λ cards. IsFrontOf (WinsByCard bridge n (moves - 1) cards) front) (sym (are ∙ ap (λ cards. earlier ++ cards) none ∙ append-nil earlier)) so_far))
 
 -- ---- at a defender
 
@@ -80,10 +80,12 @@ defender_start n m width front is reduced =
 pub defender_turn : (n kept : Layouts) (m : ℕ) (earlier rest : List ℕ) (card : ℕ) (mask : Vector) (front won join : List Vector) → IsNode n → choices n ≡ earlier ++ card ∷ rest → IsFrontOf (WinsByReply bridge n m earlier) front
     → kept ≡ child n card → mask ≡ child_mask n card → IsFront bridge kept m won → IsReduced (meets front (spreads mask won)) join
     → (x : List ℕ) × (choices n ≡ x ++ rest) × IsFrontOf (WinsByReply bridge n m x) join
-defender_turn n kept m earlier rest card mask front won join sound are so_far is mask_is child_front best =
-    (earlier ++ card ∷ [], are ∙ sym (append_assoc earlier (card ∷ []) rest),
-      steps.more_replies n m earlier card front won join sound (member n earlier rest card are) so_far (subst (λ k. IsFront bridge k m won) is child_front)
-      (subst (λ bits. IsReduced (meets front (spreads bits won)) join) (mask_is ∙ sym (mask-bridge n card)) best))
+defender_turn n kept m earlier rest card mask front won join sound are so_far is mask_is child_front best = (
+  earlier ++ card ∷ [],
+  are ∙ sym (append_assoc earlier (card ∷ []) rest),
+  steps.more_replies n m earlier card front won join sound (member n earlier rest card are) so_far (subst (λ k. IsFront bridge k m won) is child_front)
+      (subst (λ bits. IsReduced (meets front (spreads bits won)) join) (mask_is ∙ sym (mask-bridge n card)) best),
+)
 
 pub defender_end : (n : Layouts) (moves : ℕ) (earlier rest : List ℕ) (front : List Vector) → IsNode n → stops n moves ≡ false → is_declarers (to_play n.table) ≡ false
     → choices n ≡ earlier ++ rest → rest ≡ [] → IsFrontOf (WinsByReply bridge n moves earlier) front → IsFront bridge n moves front
@@ -91,5 +93,5 @@ defender_end n moves earlier rest front sound off theirs are none so_far =
     let more = more_moves n moves off in
     subst (λ m. IsFront bridge n m front) more
     (steps.all_replies n (moves - 1) front sound (going_on n.table (live n moves off)) theirs
-      (subst (λ m. IsFrontOf (WinsByReply bridge n m (choices n)) front) (sym more)
-        (subst (λ cards. IsFrontOf (WinsByReply bridge n moves cards) front) (sym (are ∙ ap (λ cards. earlier ++ cards) none ∙ append-nil earlier)) so_far)))
+    (subst (λ m. IsFrontOf (WinsByReply bridge n m (choices n)) front) (sym more)
+    (subst (λ cards. IsFrontOf (WinsByReply bridge n moves cards) front) (sym (are ∙ ap (λ cards. earlier ++ cards) none ∙ append-nil earlier)) so_far)))

@@ -1,8 +1,8 @@
 -- The best meets, vector by vector.
-use Rattle.std.proofs.Common.{◌≡◌, ℕ, suc, ◌+◌, ◌<◌, ◌≤◌, Bool, true, false, List, [], ◌∷◌, ◌++◌, map, take, replicate, length, get_or, Contains, All, refl, sym, ap, subst, ◌∙◌, arith, append_assoc}
-use Rattle.std.proofs.lemmas.List.{map_more, take_all}
+use Rattle.std.proofs.Common.{◌≡◌, ℕ, suc, ◌+◌, ◌<◌, true, false, List, [], ◌∷◌, ◌++◌, map, take, length, get_or, refl, sym, ap, subst, ◌∙◌, arith, append_assoc}
+use Rattle.std.proofs.lemmas.List.{map_more}
 use Rattle.win_vectors.specs.Vectors.{ones_of, meet_of, spread_of}
-use Rattle.win_vectors.specs.Fronts.{Vector, HaveWidth, IsFrontOf, IsReduced, meets}
+use Rattle.win_vectors.specs.Fronts.{Vector, IsFrontOf, IsReduced, meets}
 use Rattle.win_vectors.proofs.Reduction.{reduced-push, reduced-of_part, reduced-ignores_order, reduced-unique, meets-push}
 use Rattle.strategy_games.proofs.Vectors.{Dominates-refl}
 use Rattle.strategy_games.specs.Joins.{spreads}

@@ -1,9 +1,8 @@
 -- Double dummy's results, layout by layout.
-use Rattle.std.proofs.Common.{◌≡◌, ℕ, zero, suc, ◌+◌, ◌-◌, ◌<◌, ◌≤◌, Bool, true, false, List, [], ◌∷◌, ◌++◌, map, take, set, replicate, length, get_or, refl, sym, ap, subst, ◌∙◌, arith, append_assoc, append-nil, length-append}
+use Rattle.std.proofs.Common.{◌≡◌, ℕ, suc, ◌+◌, ◌-◌, ◌<◌, ◌≤◌, Bool, false, List, [], ◌∷◌, ◌++◌, map, take, set, replicate, length, get_or, refl, sym, ap, subst, ◌∙◌, arith, append_assoc, append-nil, length-append}
 use Rattle.std.proofs.lemmas.List.{length-map, length-take, length-replicate, take_all, map_more}
 use Rattle.trick_rules.specs.Table.{Table}
 use Rattle.trick_rules.specs.Play.{makes}
-use Rattle.trick_rules.specs.Nodes.{Layouts, states}
 
 -- the results of the first i layouts, and 0 for the others
 abbrev pub results_upto : (List ℕ → Bool) → List (List ℕ) → ℕ → List Bool
@@ -33,7 +32,7 @@ results_upto-more p xs i x low is =
     let here : map p (take (i + 1) xs) ≡ first ++ p x ∷ [] = map_more p xs i x low ∙ ap (λ y. first ++ p y ∷ []) (sym is) in
     subst (λ n. set (first ++ replicate n false) i (p x) ≡ results_upto p xs (i + 1)) (sym left)
     (subst (λ n. set (first ++ false ∷ rest) n (p x) ≡ results_upto p xs (i + 1)) (length_first p xs i (omega arith))
-      (set-between first rest false (p x) ∙ sym (append_assoc first (p x ∷ []) rest) ∙ ap (λ bits. bits ++ rest) (sym here)))
+    (set-between first rest false (p x) ∙ sym (append_assoc first (p x ∷ []) rest) ∙ ap (λ bits. bits ++ rest) (sym here)))
 
 pub results_upto-all : (t : Table) (xs : List (List ℕ)) (i : ℕ) → length xs ≤ i → results_upto (λ left. makes (record { table = t; left = left })) xs i ≡ map (λ s. makes s) (map (λ left. record { table = t; left = left }) xs)
 results_upto-all t xs i all =

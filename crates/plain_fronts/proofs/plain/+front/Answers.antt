@@ -1,9 +1,6 @@
-use Rattle.std.proofs.Common.{◌≡◌, ◌+◌, ◌-◌, ◌*◌, ◌<◌, ℕ, List, [], ◌∷◌, ◌++◌, length, refl, sym, ap, subst, ◌∙◌, arith, rules}
+use Rattle.std.proofs.Common.{◌-◌, [], ◌∷◌, ◌++◌, sym, ap, subst, ◌∙◌, arith, rules}
 use Rattle.win_vectors.specs.Vectors.{ones_of}
-use Rattle.win_vectors.specs.Fronts.{IsReduced, meets}
-use Rattle.trick_rules.specs.Play.{cards_left}
-use Rattle.trick_rules.specs.Nodes.{choices, child}
-use Rattle.strategy_games.specs.Joins.{spreads}
+use Rattle.win_vectors.specs.Fronts.{IsReduced}
 use Rattle.plain_fronts.proofs.CardByCard.{falls, our_width, their_width, declarer_turn, declarer_end, defender_start, defender_turn, defender_end}
 use Rattle.plain_fronts.proofs.plain.+front.Goals as goal
 
@@ -39,9 +36,12 @@ front_at_declarer-returns t c =
 pub front_at_defender-cards-init : goal.front_at_defender-cards-init
 front_at_defender-cards-init t c = record {
   width = c.in_ok-insert.ensures.width ∙ c.new-front.ensures.width ∙ c.width.ensures.value;
-  so_far = ([], sym c.choices-cards.ensures,
+  so_far = (
+    [],
+    sym c.choices-cards.ensures,
     defender_start c.args.node.now c.args.moves c.width-2.result c.insert.new.self.vectors c.width-2.ensures.value
-      (subst (λ v. IsReduced (v ∷ []) c.insert.new.self.vectors) c.all.ensures (subst (λ old. IsReduced (c.all.result ∷ old) c.insert.new.self.vectors) c.new-front.ensures.empty c.in_ok-insert.ensures.ok)));
+        (subst (λ v. IsReduced (v ∷ []) c.insert.new.self.vectors) c.all.ensures (subst (λ old. IsReduced (c.all.result ∷ old) c.insert.new.self.vectors) c.new-front.ensures.empty c.in_ok-insert.ensures.ok)),
+  );
 }
 
 pub front_at_defender-plain_front-requires : goal.front_at_defender-plain_front-requires

@@ -18,7 +18,7 @@ decreases-front_at_defender l = 2 * cards_left l.node.now.table
 abbrev pub invariant-front_at_declarer-cards : goal.invariant-front_at_declarer-cards
 invariant-front_at_declarer-cards l = record {
   width : l.front.width ≡ length l.node.lefts;
-  so_far : (earlier : List ℕ) × (choices l.node ≡ earlier ++ l.cards) × IsFrontOf (WinsByCard bridge l.node (l.moves - 1) earlier) l.front.vectors
+  so_far : (earlier : List ℕ) × (choices l.node ≡ earlier ++ l.cards) × IsFrontOf (WinsByCard bridge l.node (l.moves - 1) earlier) l.front.vectors;
 }
 
 abbrev pub decreases-front_at_declarer-cards : goal.decreases-front_at_declarer-cards
@@ -27,7 +27,7 @@ decreases-front_at_declarer-cards l = length l.cards
 abbrev pub invariant-front_at_defender-cards : goal.invariant-front_at_defender-cards
 invariant-front_at_defender-cards l = record {
   width : l.front.width ≡ length l.node.lefts;
-  so_far : (earlier : List ℕ) × (choices l.node ≡ earlier ++ l.cards) × IsFrontOf (WinsByReply bridge l.node l.moves earlier) l.front.vectors
+  so_far : (earlier : List ℕ) × (choices l.node ≡ earlier ++ l.cards) × IsFrontOf (WinsByReply bridge l.node l.moves earlier) l.front.vectors;
 }
 
 abbrev pub decreases-front_at_defender-cards : goal.decreases-front_at_defender-cards

@@ -8,5 +8,5 @@ abbrev pub invariant-loop-vector : goal.invariant-loop-vector
 invariant-loop-vector l = record {
   front : IsFront l.best;
   width : l.best.width ≡ l.initial.best.width;
-  best : IsReduced (l.initial.best.vectors ++ map (λ v. meet_of v l.other) (take l.vector-index l.vectors)) l.best.vectors
+  best : IsReduced (l.initial.best.vectors ++ map (λ v. meet_of v l.other) (take l.vector-index l.vectors)) l.best.vectors;
 }

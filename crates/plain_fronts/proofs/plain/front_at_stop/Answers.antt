@@ -1,4 +1,4 @@
-use Rattle.std.proofs.Common.{◌≡◌, ◌∷◌, sym, ap, subst, ◌∙◌}
+use Rattle.std.proofs.Common.{◌∷◌, subst, ◌∙◌}
 use Rattle.win_vectors.specs.Fronts.{IsReduced}
 use Rattle.plain_fronts.proofs.CardByCard.{at_stop}
 use Rattle.plain_fronts.proofs.plain.front_at_stop.Goals as goal

@@ -21,5 +21,5 @@ loop-won-preserved c = record {
   width = c.in_ok-add_meets.ensures.width ∙ c.loop-won.invariant.width;
   best = join_turn c.args.mask c.args.front.now.vectors c.args.child.now.vectors c.loop-won.won-index c.won-item.result c.loop-won.joined.vectors c.add_meets.new.best.vectors (search rules) (search rules) c.loop-won.invariant.best
       (subst (λ vectors. IsReduced (c.loop-won.joined.vectors ++ map (λ u. meet_of u (spread_of c.won-item.result c.args.mask)) vectors) c.add_meets.new.best.vectors) c.as_slice.ensures.value
-        (subst (λ spread. IsReduced (c.loop-won.joined.vectors ++ map (λ u. meet_of u spread) c.as_slice.result.now) c.add_meets.new.best.vectors) c.spread.ensures c.in_ok-add_meets.ensures.best));
+      (subst (λ spread. IsReduced (c.loop-won.joined.vectors ++ map (λ u. meet_of u spread) c.as_slice.result.now) c.add_meets.new.best.vectors) c.spread.ensures c.in_ok-add_meets.ensures.best));
 }
