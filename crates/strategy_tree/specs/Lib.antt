@@ -1,0 +1,3 @@
+pub mod PlanMeaning
+pub mod PlanText
+pub mod Bridge
