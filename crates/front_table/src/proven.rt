@@ -1,0 +1,58 @@
+//! A front that is proved to be the front of its node.
+ghost use Rattle.std.specs.Prelude.{◌≡◌};
+ghost use Rattle.strategy_games.specs.Plans.{IsFront};
+ghost use Rattle.strategy_tree.specs.Bridge.{bridge};
+
+use pareto_fronts::Front;
+use std::marker::Model;
+use trick_rules::Node;
+
+/// A node, a number of moves of declarer's side, and the front that the definitions give for them.
+#[derive(Drop)]
+pub struct ProvenFront {
+    node: Node,
+    moves: u8,
+    front: Front,
+}
+
+impl Model for ProvenFront {
+    ghost use Rattle.strategy_games.specs.Plans.{IsFront};
+    ghost use Rattle.strategy_tree.specs.Bridge.{bridge};
+    ghost use Rattle.front_table.specs.Proven.{ProvenValue};
+
+    ghost Value = { ProvenValue };
+
+    ghost view = { λ proven. record { node = proven.node; moves = proven.moves; front = proven.front } };
+
+    ghost invariant = { λ proven. IsFront bridge proven.node proven.moves proven.front.vectors };
+}
+
+impl ProvenFront {
+    /// An entry, of a front that is proved.
+    pub fn new(node: Node, moves: u8, front: Front) -> ProvenFront
+        requires { IsFront bridge node moves front.vectors }
+        ensures { result ≡ record { node = node; moves = moves; front = front } }
+    {
+        ProvenFront { node, moves, front }
+    }
+
+    pub fn node(&self) -> &Node
+        ensures { result.now ≡ self.now.node }
+    {
+        &self.node
+    }
+
+    /// How many cards of declarer's side the front looks ahead.
+    pub fn moves(&self) -> u8
+        ensures { result ≡ self.now.moves }
+    {
+        self.moves
+    }
+
+    pub fn front(&self) -> &Front
+        ensures value { result.now ≡ self.now.front }
+        ensures proven { IsFront bridge self.now.node self.now.moves self.now.front.vectors }
+    {
+        &self.front
+    }
+}
