@@ -1,3 +1,4 @@
-pub mod Sets
 pub mod SetCounts
+pub mod Sets
+pub mod Suits
 pub mod Words
