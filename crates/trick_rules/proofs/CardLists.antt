@@ -5,7 +5,7 @@ use Rattle.std.proofs.lemmas.List.Filters.{length-filter_both}
 use Rattle.std.proofs.lemmas.List.Folds.{list_any-append}
 use Rattle.std.proofs.lemmas.Bool.{false≢true, eqb-true, eq-eqb, ne_eqb, and_parts, cases_Bool, cases_eq}
 use Rattle.card_sets.specs.SetWords.{has_card, IsCardSet, IsSubset}
-use Rattle.card_sets.proofs.Sets.{has_card-filter, IsCardSet-filter, IsCardSet-tail, take_out-head, same_set}
+use Rattle.card_sets.proofs.Sets.{has_card-filter, has_card-below, IsCardSet-filter, IsCardSet-tail, take_out-head, tail-after, same_set}
 use Rattle.trick_rules.specs.Play.{take_out}
 
 pub has_card-append : (xs ys : List ℕ) (c : ℕ) → has_card (xs ++ ys) c ≡ (has_card xs c || has_card ys c)
@@ -40,8 +40,9 @@ pub length-take_out : (card : ℕ) (xs : List ℕ) → IsCardSet xs → has_card
 length-take_out card [] set h = absurd (false≢true h)
 length-take_out card (x ∷ xs) set h =
     elim (cases_eq x card) as (λ _. length (take_out card (x ∷ xs)) + 1 ≡ length (x ∷ xs)) [
-      inl e ↦ subst (λ d. length (take_out d (x ∷ xs)) + 1 ≡ length (x ∷ xs)) e (ap (λ ys. length ys + 1) (take_out-head x xs set) ∙ add-one (length xs))
-    | inr e ↦ rw (ne_eqb x card e) (omega (arith, length-take_out card xs (IsCardSet-tail x xs set) (rw (ne_eqb x card e) at h))) ]
+      | inl e ↦ subst (λ d. length (take_out d (x ∷ xs)) + 1 ≡ length (x ∷ xs)) e (ap (λ ys. length ys + 1) (take_out-head x xs set) ∙ add-one (length xs))
+      | inr e ↦ rw (ne_eqb x card e) (omega (arith, length-take_out card xs (IsCardSet-tail x xs set) (rw (ne_eqb x card e) at h)))
+    ]
 
 -- the rest of a set without a part of it
 pub length-without : (part whole : List ℕ) → IsCardSet part → IsCardSet whole → IsSubset part whole
@@ -106,3 +107,14 @@ cards_from_list_all p (x ∷ xs) h c k =
       | inl e ↦ sym (ap p e) ∙ both.0
       | inr e ↦ cards_from_list_all p xs both.1 c (rw (ne_eqb x c e) at k)
     ]
+
+-- ---- a set has at most 52 cards
+
+length_and_first : (x : ℕ) (xs : List ℕ) → IsCardSet (x ∷ xs) → length (x ∷ xs) + x ≤ 52
+length_and_first x [] set = omega (arith, has_card-below (x ∷ []) x set (first_has x []))
+length_and_first x (y ∷ ys) set =
+    omega (arith, length_and_first y ys (IsCardSet-tail x (y ∷ ys) set), tail-after x (y ∷ ys) set y (first_has y ys))
+
+pub at_most_52 : (xs : List ℕ) → IsCardSet xs → length xs ≤ 52
+at_most_52 [] set = omega arith
+at_most_52 (x ∷ xs) set = omega (arith, length_and_first x xs set)

@@ -52,13 +52,15 @@ unfolding makes_within
 rules_within zero s h = absurd (false≢true h)
 rules_within (suc n) s h =
     elim (cases_Bool (is_over s.table)) as (λ _. Makes s) [
-      inl over ↦ ended over (eqb-true s.table.need 0 (rw over at h))
-    | inr left ↦ elim (cases_Bool (is_declarers (to_play s.table))) as (λ _. Makes s) [
-        inl ours ↦ (let some : (c : ℕ) × (has_card (legal_in s) c ≡ true) × (makes_within n (after s c) ≡ true) =
-                        card_from_list_any (λ c. makes_within n (after s c)) (legal_in s) (rw (left, ours) at h) in
-                    some_card left ours some.0 some.1 (rules_within n (after s some.0) some.2))
-      | inr theirs ↦ each_card left theirs (λ c k. rules_within n (after s c)
-                        (cards_from_list_all (λ d. makes_within n (after s d)) (legal_in s) (rw (left, theirs) at h) c k)) ] ]
+      | inl over ↦ ended over (eqb-true s.table.need 0 (rw over at h))
+      | inr left ↦ elim (cases_Bool (is_declarers (to_play s.table))) as (λ _. Makes s) [
+        | inl ours ↦ (let some : (c : ℕ) × (has_card (legal_in s) c ≡ true) × (makes_within n (after s c) ≡ true) =
+            card_from_list_any (λ c. makes_within n (after s c)) (legal_in s) (rw (left, ours) at h) in
+            some_card left ours some.0 some.1 (rules_within n (after s some.0) some.2))
+        | inr theirs ↦ each_card left theirs (λ c k. rules_within n (after s c)
+            (cards_from_list_all (λ d. makes_within n (after s d)) (legal_in s) (rw (left, theirs) at h) c k))
+      ]
+    ]
 
 pub Makes-from_makes : (s : State) → makes s ≡ true → Makes s
 unfolding makes
@@ -77,8 +79,8 @@ any_constant : (p : ℕ → Bool) (xs : List ℕ) (b : Bool) (card : ℕ) → ha
 any_constant p xs true card h same = list_any-from_card p xs card h (same card h)
 any_constant p xs false card h same =
     false_from_ne_true (list_any p xs) (λ e.
-        let some : (c : ℕ) × (has_card xs c ≡ true) × (p c ≡ true) = card_from_list_any p xs e in
-        both_ways (p some.0) (same some.0 some.1) some.2)
+    let some : (c : ℕ) × (has_card xs c ≡ true) × (p c ≡ true) = card_from_list_any p xs e in
+    both_ways (p some.0) (same some.0 some.1) some.2)
 
 all_constant : (p : ℕ → Bool) (xs : List ℕ) (b : Bool) (card : ℕ) → has_card xs card ≡ true → ((c : ℕ) → has_card xs c ≡ true → p c ≡ b) → list_all p xs ≡ b
 all_constant p xs true card h same = list_all-from_cards p xs same
@@ -88,15 +90,17 @@ decided_within : (n : ℕ) (s : State) → IsState s → cards_left s.table < n 
 decided_within zero s ok low made h = absurd (omega arith)
 decided_within (suc n) s ok low made h =
     elim (cases_Bool (is_over s.table)) as (λ _. makes s ≡ made) [
-      inl over ↦ makes-over s over ∙ sym (decided-need s.table made h)
-    | inr left ↦
-        (let each : (c : ℕ) → has_card (legal_in s) c ≡ true → makes (after s c) ≡ made = λ c k.
-             (let can = legal_can_play s ok c k in
-              decided_within n (after s c) (after-IsState s ok c k) (omega (arith, cards_left-after s.table c ok.sound can)) made (decided-after s.table c made ok.sound can h)) in
-         let some = some_legal s ok left in
-         elim (cases_Bool (is_declarers (to_play s.table))) as (λ _. makes s ≡ made) [
-           inl ours ↦ makes-ours s ok left ours ∙ any_constant (λ c. makes (after s c)) (legal_in s) made some.0 some.1 each
-         | inr theirs ↦ makes-theirs s ok left theirs ∙ all_constant (λ c. makes (after s c)) (legal_in s) made some.0 some.1 each ]) ]
+      | inl over ↦ makes-over s over ∙ sym (decided-need s.table made h)
+      | inr left ↦
+          (let each : (c : ℕ) → has_card (legal_in s) c ≡ true → makes (after s c) ≡ made = λ c k.
+          (let can = legal_can_play s ok c k in
+          decided_within n (after s c) (after-IsState s ok c k) (omega (arith, cards_left-after s.table c ok.sound can)) made (decided-after s.table c made ok.sound can h)) in
+          let some = some_legal s ok left in
+          elim (cases_Bool (is_declarers (to_play s.table))) as (λ _. makes s ≡ made) [
+            | inl ours ↦ makes-ours s ok left ours ∙ any_constant (λ c. makes (after s c)) (legal_in s) made some.0 some.1 each
+            | inr theirs ↦ makes-theirs s ok left theirs ∙ all_constant (λ c. makes (after s c)) (legal_in s) made some.0 some.1 each
+          ])
+    ]
 
 pub makes-decided : (s : State) → IsState s → (made : Bool) → decided s.table ≡ Some made → makes s ≡ made
 makes-decided s ok made h = decided_within (suc (cards_left s.table)) s ok (omega arith) made h

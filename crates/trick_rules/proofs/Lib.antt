@@ -5,3 +5,5 @@ pub mod States
 pub mod Decisions
 pub mod DoubleDummy
 pub mod NodeLemmas
+pub mod TrickLemmas
+pub mod PlayLaws

@@ -1,13 +1,13 @@
 -- Nodes: the choices of a node, and its children.
-use Rattle.std.proofs.Common.{◌≡◌, ℕ, zero, suc, ◌+◌, ◌<◌, ◌≤◌, Bool, true, false, ◌||◌, cond, eqb, List, [], ◌∷◌, length, map, filter, get_or, All, Contains, refl, sym, ap, ◌∙◌, subst, inl, inr, arith}
+use Rattle.std.proofs.Common.{◌≡◌, ℕ, zero, suc, ◌+◌, ◌<◌, ◌≤◌, Bool, true, false, ◌||◌, cond, eqb, List, [], ◌∷◌, length, map, filter, get_or, take, All, Contains, refl, sym, ap, ◌∙◌, subst, inl, inr, arith}
 use Rattle.std.specs.List.{list_any, Any}
 use Rattle.std.proofs.lemmas.Bool.{false≢true, cases_Bool, cases_lt}
 use Rattle.std.proofs.lemmas.List.Elements.{All-map, All-filter, All-weaker, All-contains, filter_passes}
-use Rattle.std.proofs.lemmas.List.Folds.{Any-from_list_any, list_any-from_Any}
+use Rattle.std.proofs.lemmas.List.Folds.{Any-from_list_any, list_any-from_Any, list_any_more}
 use Rattle.card_sets.specs.declared.seat.Seat.{Seat}
 use Rattle.card_sets.specs.declared.seat.Seat.TheVariants.{Declarer, Left, Dummy, Right}
-use Rattle.card_sets.specs.SetWords.{has_card}
-use Rattle.card_sets.proofs.Sets.{has_card-cards_where, has_card-cards_where_past}
+use Rattle.card_sets.specs.SetWords.{has_card, cards_where}
+use Rattle.card_sets.proofs.Sets.{has_card-cards_where, has_card-cards_where_past, cards_where-agree}
 use Rattle.trick_rules.specs.Table.{Table, State, to_play, IsSound, FitsLeft, IsState}
 use Rattle.trick_rules.specs.Play.{take_out, after_card, after, held_by, hand_of, CanPlay, is_declarers, is_over, legal_in, legal_cards}
 use Rattle.trick_rules.specs.Nodes.{Layouts, IsNode, states, is_legal, choices, child}
@@ -42,8 +42,9 @@ layout_of n s h = layout_at n.table n.lefts s h.0 h.1 h.2
 choices-low : (n : Layouts) (card : ℕ) → has_card (choices n) card ≡ true → card < 52
 choices-low n card h =
     elim (cases_lt card 52) as (λ _. card < 52) [
-      inl low ↦ low
-    | inr past ↦ absurd (false≢true (sym (has_card-cards_where_past (λ c. list_any (is_legal n.table c) n.lefts) card past) ∙ h)) ]
+      | inl low ↦ low
+      | inr past ↦ absurd (false≢true (sym (has_card-cards_where_past (λ c. list_any (is_legal n.table c) n.lefts) card past) ∙ h))
+    ]
 
 pub legal_from_choices : (n : Layouts) (card : ℕ) → has_card (choices n) card ≡ true → list_any (is_legal n.table card) n.lefts ≡ true
 legal_from_choices n card h = sym (has_card-cards_where (λ c. list_any (is_legal n.table c) n.lefts) card (choices-low n card h)) ∙ h
@@ -74,15 +75,17 @@ length_some : (p : List ℕ → Bool) (xs : List (List ℕ)) → list_any p xs �
 length_some p [] h = absurd (false≢true h)
 length_some p (x ∷ xs) h =
     elim (cases_Bool (p x)) as (λ _. 1 ≤ length (filter p (x ∷ xs))) [
-      inl e ↦ rw e (omega arith)
-    | inr e ↦ rw e (length_some p xs (rw e at h)) ]
+      | inl e ↦ rw e (omega arith)
+      | inr e ↦ rw e (length_some p xs (rw e at h))
+    ]
 
 length-filter_le : (p : List ℕ → Bool) (xs : List (List ℕ)) → length (filter p xs) ≤ length xs
 length-filter_le p [] = omega arith
 length-filter_le p (x ∷ xs) =
     elim (cases_Bool (p x)) as (λ _. length (filter p (x ∷ xs)) ≤ length (x ∷ xs)) [
-      inl e ↦ rw e (omega (arith, length-filter_le p xs))
-    | inr e ↦ rw e (omega (arith, length-filter_le p xs)) ]
+      | inl e ↦ rw e (omega (arith, length-filter_le p xs))
+      | inr e ↦ rw e (omega (arith, length-filter_le p xs))
+    ]
 
 length-taken : (card : ℕ) (xs : List (List ℕ)) → length (map (take_out card) xs) ≡ length xs
 length-taken card [] = refl
@@ -107,8 +110,9 @@ states-kept : (t : Table) (card : ℕ) (lefts : List (List ℕ))
 states-kept t card [] = refl
 states-kept t card (left ∷ lefts) =
     elim (cases_Bool (is_legal t card left)) as (λ _. map (state_of (after_card t card)) (map (take_out card) (filter (is_legal t card) (left ∷ lefts))) ≡ map (λ s. after s card) (filter (λ s. has_card (legal_in s) card) (map (state_of t) (left ∷ lefts)))) [
-      inl e ↦ rw e (ap (λ rest. after (state_of t left) card ∷ rest) (states-kept t card lefts))
-    | inr e ↦ rw e (states-kept t card lefts) ]
+      | inl e ↦ rw e (ap (λ rest. after (state_of t left) card ∷ rest) (states-kept t card lefts))
+      | inr e ↦ rw e (states-kept t card lefts)
+    ]
 
 pub states-child : (n : Layouts) (card : ℕ) → states (child n card) ≡ map (λ s. after s card) (filter (λ s. has_card (legal_in s) card) (states n))
 states-child n card = states-kept n.table card n.lefts
@@ -129,9 +133,9 @@ pub ours_everywhere : (n : Layouts) (card : ℕ) → is_declarers (to_play n.tab
 ours_everywhere n card ours h =
     let some = Any-from_list_any (is_legal n.table card) n.lefts (legal_from_choices n card h) in
     let shown : has_card (legal_cards n.table.trick.cards (held_by n.table (to_play n.table))) card ≡ true =
-        ap (λ cards. has_card cards card) (sym (legal_in-ours n.table some.1 ours)) ∙ some.4 in
+    ap (λ cards. has_card cards card) (sym (legal_in-ours n.table some.1 ours)) ∙ some.4 in
     All-map (λ s. has_card (legal_in s) card ≡ true) (state_of n.table) n.lefts
-        (λ k d low. ap (λ cards. has_card cards card) (legal_in-ours n.table (get_or n.lefts k d) ours) ∙ shown)
+    (λ k d low. ap (λ cards. has_card cards card) (legal_in-ours n.table (get_or n.lefts k d) ours) ∙ shown)
 
 -- ---- there is a card to play
 
@@ -154,3 +158,17 @@ choice_somewhere n ok left =
     let some = first_state n ok in
     let card = choice_everywhere n some.0 ok left some.1 in
     (card.0, card.1)
+
+-- ---- for a loop over the layouts
+
+-- the choices of one layout more
+pub choices_more : (t : Table) (lefts : List (List ℕ)) (i : ℕ) (left : List ℕ) → i < length lefts → left ≡ get_or lefts i left
+    → cards_where (λ c. has_card (cards_where (λ card. list_any (is_legal t card) (take i lefts))) c || has_card (legal_in (state_of t left)) c)
+      ≡ cards_where (λ card. list_any (is_legal t card) (take (i + 1) lefts))
+choices_more t lefts i left h here =
+    cards_where-agree (λ c. has_card (cards_where (λ card. list_any (is_legal t card) (take i lefts))) c || has_card (legal_in (state_of t left)) c)
+        (λ card. list_any (is_legal t card) (take (i + 1) lefts))
+        (λ c low.
+            ap (λ b. b || is_legal t c left) (has_card-cards_where (λ card. list_any (is_legal t card) (take i lefts)) c low)
+            ∙ ap (λ hand. list_any (is_legal t c) (take i lefts) || is_legal t c hand) here
+            ∙ sym (list_any_more (is_legal t c) lefts i left h))

@@ -72,7 +72,7 @@ held_low t sound card Left h = has_card-below t.unseen card sound.unseen_set h
 held_low t sound card Right h = has_card-below t.unseen card sound.unseen_set h
 
 -- no card of the trick is held
-trick_held : (t : Table) → IsSound t → (seat : Seat) → Apart (held_by t seat) t.trick.cards
+pub trick_held : (t : Table) → IsSound t → (seat : Seat) → Apart (held_by t seat) t.trick.cards
 trick_held t sound Declarer = Apart-sym t.trick.cards t.declarer sound.trick_declarer
 trick_held t sound Dummy = Apart-sym t.trick.cards t.dummy sound.trick_dummy
 trick_held t sound Left = Apart-sym t.trick.cards t.unseen sound.trick_unseen
@@ -218,3 +218,13 @@ after_card_sound t card sound can =
       | inr other ↦ (let short : length t.trick.cards < 3 = omega (arith, sound.trick_short, other) in
           rw (after_short t card short) (put_sound t card sound can short))
     ]
+
+-- the position after a card, put together from its parts
+pub after_card-parts : (t : Table) (card : ℕ) (declarer dummy unseen : List ℕ) (trick : Played) (need : ℕ)
+    → declarer ≡ take_out card t.declarer → dummy ≡ take_out card t.dummy → unseen ≡ take_out card t.unseen → trick ≡ (after_card t card).trick → need ≡ (after_card t card).need
+    → record { declarer = declarer; dummy = dummy; unseen = unseen; trick = trick; need = need; trump = t.trump } ≡ after_card t card
+after_card-parts t card declarer dummy unseen trick need a b c d e = rw (a, b, c, d, e) (whole (eqb (length t.trick.cards) 3) (end_trick (put_card t card)) (put_card t card) refl refl)
+  where
+    whole : (b : Bool) (u v : Table) → u ≡ end_trick (put_card t card) → v ≡ put_card t card → record { declarer = take_out card t.declarer; dummy = take_out card t.dummy; unseen = take_out card t.unseen; trick = (cond b u v).trick; need = (cond b u v).need; trump = t.trump } ≡ cond b u v
+    whole true u v e f = rw e refl
+    whole false u v e f = rw f refl

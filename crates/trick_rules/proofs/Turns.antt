@@ -1,8 +1,9 @@
 -- Whose turn it is, and how many cards of a trick are a seat's.
-use Rattle.std.proofs.Common.{◌≡◌, ℕ, zero, suc, ◌+◌, ◌*◌, ◌<◌, ◌≤◌, Bool, true, false, List, length, refl, sym, ap, ◌∙◌, arith}
+use Rattle.std.proofs.Common.{◌≡◌, ℕ, zero, suc, ◌+◌, ◌<◌, refl, arith, add-one}
 use Rattle.std.specs.Prelude.{nat_lt, if◌then◌else◌, ◌==◌}
 use Rattle.card_sets.specs.declared.seat.Seat.{Seat}
 use Rattle.card_sets.specs.declared.seat.Seat.TheVariants.{Declarer, Left, Dummy, Right}
+use Rattle.card_sets.specs.Seats.{next_seat}
 use Rattle.trick_rules.specs.Table.{seat_after, seat_place, places_on}
 
 -- how many cards of a trick of n cards are a seat's
@@ -63,3 +64,11 @@ count_in-turn (suc zero) leader h = each_seat (λ l. count_in l 1 (seat_after 1 
 count_in-turn (suc (suc zero)) leader h = each_seat (λ l. count_in l 2 (seat_after 2 l) ≡ 0) refl refl refl refl leader
 count_in-turn (suc (suc (suc zero))) leader h = each_seat (λ l. count_in l 3 (seat_after 3 l) ≡ 0) refl refl refl refl leader
 count_in-turn (suc (suc (suc (suc n)))) leader h = absurd (omega arith)
+
+-- one place further
+pub seat_after_more : (n : ℕ) (seat : Seat) → seat_after (n + 1) seat ≡ next_seat (seat_after n seat)
+seat_after_more n seat = rw add-one (one_more n seat)
+  where
+    one_more : (n : ℕ) (seat : Seat) → seat_after n (next_seat seat) ≡ next_seat (seat_after n seat)
+    one_more zero seat = refl
+    one_more (suc n) seat = one_more n (next_seat seat)

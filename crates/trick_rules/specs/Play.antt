@@ -26,6 +26,11 @@ abbrev pub legal_cards : List ℕ → List ℕ → List ℕ
 legal_cards [] hand = hand
 legal_cards (led ∷ rest) hand = or_whole (of_suit (suit_of led) hand) hand
 
+-- the suit led, where the trick has a card
+abbrev pub suit_led : List ℕ → Option Suit
+suit_led [] = None
+suit_led (led ∷ rest) = Some (suit_of led)
+
 -- ---- who takes a trick
 
 abbrev pub is_trump : Trump → ℕ → Bool

@@ -4,7 +4,7 @@ ghost use Rattle.card_sets.specs.SetWords.{has_card, IsCardSet};
 ghost use Rattle.trick_rules.specs.Table.{to_play as seat_to_play, tricks_left as count_of_tricks, has_played as seat_has_played, places_on as count_of_places, seat_place, IsSound, FitsLeft};
 ghost use Rattle.trick_rules.specs.Play.{is_over, decided as result_of, is_declarers, legal_cards, legal_in as legal_cards_in, hand_of, after_card, CanPlay};
 
-use crate::trick::{Trick, winner};
+use crate::trick::{Trick, seat_after, winner};
 use crate::trump::Trump;
 use card_sets::card::Card;
 use card_sets::seat::Seat;
@@ -56,14 +56,11 @@ impl Position {
         ensures value { result ≡ seat_to_play self.now }
         ensures sound { IsSound self.now }
     {
-        let mut seat = self.trick.leader;
-        for _played in 0..self.trick.cards.len() {
-            seat = seat.next();
-        }
-        seat
+        seat_after(self.trick.cards.len(), self.trick.leader)
     }
 
     /// The tricks left, the present one among them.
+    #[tactic(auto, using(crate::proofs::CardLists::at_most_52))]
     pub fn tricks_left(&self) -> u8
         ensures value { result ≡ count_of_tricks self.now }
         ensures sound { IsSound self.now }
@@ -108,10 +105,11 @@ impl Position {
     pub fn is_ours(&self) -> bool
         ensures { result ≡ is_declarers (seat_to_play self.now) }
     {
-        matches!(self.to_play(), Seat::Declarer | Seat::Dummy)
+        is_ours(self.to_play())
     }
 
     /// Whether Left may hold just these cards: a part of the unseen cards, with Left's number of cards.
+    #[tactic(auto, using(crate::proofs::CardLists::at_most_52))]
     pub fn fits(&self, left: CardSet) -> bool
         ensures { IsTrue result ↔ FitsLeft self.now left }
     {
@@ -179,15 +177,44 @@ fn place(seat: Seat) -> u8
 pub fn legal(position: &Position, hand: CardSet) -> CardSet
     ensures { result ≡ legal_cards position.now.trick.cards hand }
 {
-    let Some(led) = position.trick.cards.first() else {
+    let Some(suit) = position.trick.suit_led() else {
         return hand;
     };
-    let following = hand.of_suit(led.suit());
+    let following = hand.of_suit(suit);
     if following.is_empty() {
         hand
     } else {
         following
     }
+}
+
+// Whether the seat is declarer's or dummy's.
+fn is_ours(seat: Seat) -> bool
+    ensures { result ≡ is_declarers seat }
+{
+    match seat {
+        Seat::Declarer | Seat::Dummy => true,
+        Seat::Left | Seat::Right => false,
+    }
+}
+
+// The trick and the need after a card. The fourth card ends the trick.
+fn trick_after(position: &Position, card: Card) -> (Trick, u8)
+    ensures trick { result.0 ≡ (after_card position.now card).trick }
+    ensures need { result.1 ≡ (after_card position.now card).need }
+{
+    let mut trick = position.trick.copy();
+    trick.cards.push(card);
+    if trick.cards.len() < 4 {
+        return (trick, position.need);
+    }
+    let taker = winner(&trick, position.trump);
+    let need = if is_ours(taker) {
+        position.need.saturating_sub(1)
+    } else {
+        position.need
+    };
+    (Trick::led_by(taker), need)
 }
 
 /// The position after the seat to play has played a card of its hand or, for a defender, an unseen card.
@@ -198,16 +225,7 @@ pub fn play(position: &Position, card: Card) -> Position
     ensures value { result ≡ after_card position.now card }
     ensures sound { IsSound result }
 {
-    let mut trick = position.trick.copy();
-    trick.cards.push(card);
-    let mut need = position.need;
-    if trick.cards.len() == 4 {
-        let taker = winner(&trick, position.trump);
-        if matches!(taker, Seat::Declarer | Seat::Dummy) {
-            need = need.saturating_sub(1);
-        }
-        trick = Trick::led_by(taker);
-    }
+    let (trick, need) = trick_after(position, card);
     Position {
         declarer: position.declarer.without(card),
         dummy: position.dummy.without(card),

@@ -1,6 +1,7 @@
 //! A trick, and who takes it.
 ghost use Rattle.std.specs.Prelude.{◌≡◌, ◌≤◌, ◌<◌, length, [], IsTrue, ◌↔◌};
-ghost use Rattle.trick_rules.specs.Play.{is_trump as is_trump_card, strength as strength_of, winner_of};
+ghost use Rattle.trick_rules.specs.Table.{seat_after as seat_that_many_on};
+ghost use Rattle.trick_rules.specs.Play.{suit_led, is_trump as is_trump_card, strength as strength_of, winner_of};
 
 use crate::trump::Trump;
 use arrayvec::ArrayVec;
@@ -32,6 +33,13 @@ impl Trick {
             leader,
             cards: ArrayVec::new(),
         }
+    }
+
+    /// The suit led: `None` exactly where the trick has no card.
+    pub fn suit_led(&self) -> Option<Suit>
+        ensures { result ≡ suit_led self.now.cards }
+    {
+        Some(self.cards.first()?.suit())
     }
 
     /// An equal trick. It takes no memory.
@@ -73,22 +81,29 @@ fn is_trump(trump: Trump, card: Card) -> bool
     }
 }
 
+// The seat that many places on, clockwise.
+#[tactic(auto, using(crate::proofs::Turns::seat_after_more))]
+pub(crate) fn seat_after(places: usize, seat: Seat) -> Seat
+    ensures { result ≡ seat_that_many_on places seat }
+{
+    let mut there = seat;
+    for _place in 0..places {
+        there = there.next();
+    }
+    there
+}
+
 /// Who takes a trick of four cards: the highest trump, or where there is none the highest card of the suit led.
 pub fn winner(trick: &Trick, trump: Trump) -> Seat
     requires { length trick.now.cards ≡ 4 }
     ensures { result ≡ winner_of trump trick.now }
 {
     let led = trick.cards[0].suit();
-    let mut most = strength(trump, led, trick.cards[0]);
-    let mut seat = trick.leader;
-    let mut best = trick.leader;
+    let mut best = 0;
     for place in 1..trick.cards.len() {
-        let here = strength(trump, led, trick.cards[place]);
-        seat = seat.next();
-        if most < here {
-            most = here;
-            best = seat;
+        if strength(trump, led, trick.cards[best]) < strength(trump, led, trick.cards[place]) {
+            best = place;
         }
     }
-    best
+    seat_after(best, trick.leader)
 }
