@@ -43,6 +43,17 @@ impl Model for WinVector {
     } };
 }
 
+/// One layout that isn't made: what a collection puts into places that it doesn't use.
+impl Default for WinVector {
+    ghost use Rattle.std.specs.Prelude.{◌≡◌, false, [], ◌∷◌};
+
+    ghost is_default = { λ v. v ≡ false ∷ [] };
+
+    fn default() -> WinVector {
+        WinVector::none(1)
+    }
+}
+
 impl PartialEq for WinVector {
     ghost eq = { pointwise beq };
 
