@@ -1,7 +1,7 @@
 -- The first plan node at fault: there is none exactly where the plan fits.
-use Rattle.std.proofs.Common.{◌≡◌, ◌⊎◌, ◌&&◌, ◌+◌, ◌∙◌, ◌≤◌, ℕ, zero, suc, Bool, true, false, not, cond, List, [], ◌∷◌, Contains, Option, Some, None, Decides, refl, sym, ap, ap₂, subst, true≢false, inl, inr, ⊎_elim, arith}
+use Rattle.std.proofs.Common.{◌≡◌, ◌⊎◌, ◌&&◌, ◌+◌, ◌≤◌, ℕ, zero, suc, Bool, true, false, not, cond, List, [], ◌∷◌, Contains, Option, Some, None, Decides, refl, sym, ap, ap₂, subst, true≢false, inl, inr, ⊎_elim, arith}
 use Rattle.std.specs.List.{list_any}
-use Rattle.std.proofs.lemmas.Bool.{cases_Bool, and_parts, and_from, or_cases, or_left, or_right, not-true, not_from_false}
+use Rattle.std.proofs.lemmas.Bool.{and_parts, and_from, or_cases, or_left, or_right, not-true, not_from_false}
 use Rattle.strategy_games.specs.Games.{Game}
 use Rattle.strategy_games.specs.Plans.{Plan, Replies, Stop, Play, Hear, NoReply, Reply, cards_of, stops, Fits, FitEach}
 use Rattle.strategy_games.specs.Misfits.{node_count, node_counts, further, or_else, same_cards, belongs, first_misfit, first_misfit_each}
@@ -62,18 +62,18 @@ module _ {N S C : Type 0} (g : Game N S C) (same : C → C → Bool) (tells : (c
 
   play_belongs : (n : N) (m : ℕ) (c : C) (q : Plan C) → belongs g same (Play c q) n (suc m) ≡ true → (g.is_decided n ≡ false) × (g.is_ours n ≡ true) × Contains (g.choices n) c
   play_belongs n m c q h =
-    let parts = and_parts (not (g.is_decided n) && g.is_ours n) (list_any (λ d. same d c) (g.choices n)) h in
-    let more = and_parts (not (g.is_decided n)) (g.is_ours n) parts.0 in
-    (not-true (g.is_decided n) more.0, more.1, any_gives (g.choices n) c parts.1)
+      let parts = and_parts (not (g.is_decided n) && g.is_ours n) (list_any (λ d. same d c) (g.choices n)) h in
+      let more = and_parts (not (g.is_decided n)) (g.is_ours n) parts.0 in
+      (not-true (g.is_decided n) more.0, more.1, any_gives (g.choices n) c parts.1)
 
   belongs_hear : (n : N) (m : ℕ) (rs : Replies C) → stops g n m ≡ false → g.is_ours n ≡ false → cards_of rs ≡ g.choices n → belongs g same (Hear rs) n m ≡ true
   belongs_hear n m rs live theirs e = and_from (not (stops g n m) && not (g.is_ours n)) (same_cards same (cards_of rs) (g.choices n)) (and_from (not (stops g n m)) (not (g.is_ours n)) (not_from_false (stops g n m) live) (not_from_false (g.is_ours n) theirs)) (same_cards_from (cards_of rs) (g.choices n) e)
 
   hear_belongs : (n : N) (m : ℕ) (rs : Replies C) → belongs g same (Hear rs) n m ≡ true → (stops g n m ≡ false) × (g.is_ours n ≡ false) × (cards_of rs ≡ g.choices n)
   hear_belongs n m rs h =
-    let parts = and_parts (not (stops g n m) && not (g.is_ours n)) (same_cards same (cards_of rs) (g.choices n)) h in
-    let more = and_parts (not (stops g n m)) (not (g.is_ours n)) parts.0 in
-    (not-true (stops g n m) more.0, not-true (g.is_ours n) more.1, same_cards_gives (cards_of rs) (g.choices n) parts.1)
+      let parts = and_parts (not (stops g n m) && not (g.is_ours n)) (same_cards same (cards_of rs) (g.choices n)) h in
+      let more = and_parts (not (stops g n m)) (not (g.is_ours n)) parts.0 in
+      (not-true (stops g n m) more.0, not-true (g.is_ours n) more.1, same_cards_gives (cards_of rs) (g.choices n) parts.1)
 
   mutual
     no_misfit : (p : Plan C) (n : N) (m : ℕ) → Fits g p n m → first_misfit g same p n m ≡ None
@@ -91,19 +91,19 @@ module _ {N S C : Type 0} (g : Game N S C) (same : C → C → Bool) (tells : (c
     fits_from_none Stop n m h = (if_none (stops g n m) None h).0
     fits_from_none (Play c q) n zero h = absurd cc
     fits_from_none (Play c q) n (suc m) h =
-      let parts = if_none (belongs g same (Play c q) n (suc m)) (further 1 (first_misfit g same q (g.child n c) m)) h in
-      let here = play_belongs n m c q parts.0 in
-      (here.0, here.1, here.2, fits_from_none q (g.child n c) m (further_none 1 (first_misfit g same q (g.child n c) m) parts.1))
+        let parts = if_none (belongs g same (Play c q) n (suc m)) (further 1 (first_misfit g same q (g.child n c) m)) h in
+        let here = play_belongs n m c q parts.0 in
+        (here.0, here.1, here.2, fits_from_none q (g.child n c) m (further_none 1 (first_misfit g same q (g.child n c) m) parts.1))
     fits_from_none (Hear rs) n m h =
-      let parts = if_none (belongs g same (Hear rs) n m) (further 1 (first_misfit_each g same rs n m)) h in
-      let here = hear_belongs n m rs parts.0 in
-      (here.0, here.1, here.2, fit_each_from_none rs n m (further_none 1 (first_misfit_each g same rs n m) parts.1))
+        let parts = if_none (belongs g same (Hear rs) n m) (further 1 (first_misfit_each g same rs n m)) h in
+        let here = hear_belongs n m rs parts.0 in
+        (here.0, here.1, here.2, fit_each_from_none rs n m (further_none 1 (first_misfit_each g same rs n m) parts.1))
 
     fit_each_from_none : (rs : Replies C) (n : N) (m : ℕ) → first_misfit_each g same rs n m ≡ None → FitEach g rs n m
     fit_each_from_none NoReply n m h = tt
     fit_each_from_none (Reply c q rs) n m h =
-      let parts = or_else_none (first_misfit g same q (g.child n c) m) (further (node_count q) (first_misfit_each g same rs n m)) h in
-      (fits_from_none q (g.child n c) m parts.0, fit_each_from_none rs n m (further_none (node_count q) (first_misfit_each g same rs n m) parts.1))
+        let parts = or_else_none (first_misfit g same q (g.child n c) m) (further (node_count q) (first_misfit_each g same rs n m)) h in
+        (fits_from_none q (g.child n c) m parts.0, fit_each_from_none rs n m (further_none (node_count q) (first_misfit_each g same rs n m) parts.1))
 
   mutual
     misfit_within : (p : Plan C) (n : N) (m i : ℕ) → first_misfit g same p n m ≡ Some i → (1 ≤ i) × (i ≤ node_count p)
@@ -114,20 +114,20 @@ module _ {N S C : Type 0} (g : Game N S C) (same : C → C → Bool) (tells : (c
         go false e = let is : 1 ≡ i = cc in omega arith
     misfit_within (Play c q) n zero i h = let is : 1 ≡ i = cc in omega arith
     misfit_within (Play c q) n (suc m) i h = ⊎_elim
-      (λ (e : i ≡ 1). omega arith)
-      (λ (e : (j : ℕ) × (first_misfit g same q (g.child n c) m ≡ Some j) × (i ≡ 1 + j)). let below = misfit_within q (g.child n c) m e.0 e.1 in omega arith)
-      (if_some (belongs g same (Play c q) n (suc m)) (first_misfit g same q (g.child n c) m) i h)
+        (λ (e : i ≡ 1). omega arith)
+        (λ (e : (j : ℕ) × (first_misfit g same q (g.child n c) m ≡ Some j) × (i ≡ 1 + j)). let below = misfit_within q (g.child n c) m e.0 e.1 in omega arith)
+        (if_some (belongs g same (Play c q) n (suc m)) (first_misfit g same q (g.child n c) m) i h)
     misfit_within (Hear rs) n m i h = ⊎_elim
-      (λ (e : i ≡ 1). omega arith)
-      (λ (e : (j : ℕ) × (first_misfit_each g same rs n m ≡ Some j) × (i ≡ 1 + j)). let below = misfit_within_each rs n m e.0 e.1 in omega arith)
-      (if_some (belongs g same (Hear rs) n m) (first_misfit_each g same rs n m) i h)
+        (λ (e : i ≡ 1). omega arith)
+        (λ (e : (j : ℕ) × (first_misfit_each g same rs n m ≡ Some j) × (i ≡ 1 + j)). let below = misfit_within_each rs n m e.0 e.1 in omega arith)
+        (if_some (belongs g same (Hear rs) n m) (first_misfit_each g same rs n m) i h)
 
     misfit_within_each : (rs : Replies C) (n : N) (m i : ℕ) → first_misfit_each g same rs n m ≡ Some i → (1 ≤ i) × (i ≤ node_counts rs)
     misfit_within_each NoReply n m i h = absurd cc
     misfit_within_each (Reply c q rs) n m i h = ⊎_elim
-      (λ (e : first_misfit g same q (g.child n c) m ≡ Some i). let below = misfit_within q (g.child n c) m i e in omega arith)
-      (λ (e : (j : ℕ) × (first_misfit_each g same rs n m ≡ Some j) × (i ≡ node_count q + j)). let below = misfit_within_each rs n m e.0 e.1 in omega arith)
-      (or_else_some (node_count q) (first_misfit g same q (g.child n c) m) (first_misfit_each g same rs n m) i h)
+        (λ (e : first_misfit g same q (g.child n c) m ≡ Some i). let below = misfit_within q (g.child n c) m i e in omega arith)
+        (λ (e : (j : ℕ) × (first_misfit_each g same rs n m ≡ Some j) × (i ≡ node_count q + j)). let below = misfit_within_each rs n m e.0 e.1 in omega arith)
+        (or_else_some (node_count q) (first_misfit g same q (g.child n c) m) (first_misfit_each g same rs n m) i h)
 
   pub misfits : HasFirstMisfit g same
   misfits = record { none = λ p n m. (no_misfit p n m, fits_from_none p n m); within = misfit_within }

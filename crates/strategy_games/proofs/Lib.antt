@@ -11,3 +11,4 @@ pub mod Counts
 pub mod Cuts
 pub mod Chosen
 pub mod Faults
+pub mod FinesseLemmas

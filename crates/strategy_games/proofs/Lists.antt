@@ -1,5 +1,5 @@
 -- Members of lists, and the first of a list of which something holds.
-use Rattle.std.proofs.Common.{◌≡◌, ◌⊎◌, ◌<◌, ◌++◌, ◌∙◌, ℕ, zero, suc, Bool, true, false, cond, List, [], ◌∷◌, length, get_or, map, filter, Contains, All, refl, sym, ap, subst, inl, inr, ⊎_elim, arith, zero-lt-suc, suc-le-suc, le_of_suc-le-suc, true≢false}
+use Rattle.std.proofs.Common.{◌≡◌, ◌⊎◌, ◌<◌, ◌++◌, ◌∙◌, ℕ, zero, suc, Bool, true, false, cond, List, [], ◌∷◌, length, get_or, map, filter, Contains, All, refl, sym, ap, subst, inl, inr, ⊎_elim, arith, zero-lt-suc, suc-le-suc, le_of_suc-le-suc}
 use Rattle.std.specs.List.{AllZip}
 use Rattle.strategy_games.specs.Choosing.{IsFirstOf}
 
@@ -38,9 +38,9 @@ module _ {X : Type 0} where
   pub Contains-append : (xs ys : List X) (x : X) → Contains (xs ++ ys) x → Contains xs x ⊎ Contains ys x
   Contains-append [] ys x h = inr h
   Contains-append (y ∷ xs) ys x h = ⊎_elim
-    (λ (e : y ≡ x). inl (subst (λ z. Contains (y ∷ xs) z) e (Contains-here y xs)))
-    (λ (k : Contains (xs ++ ys) x). ⊎_elim (λ (l : Contains xs x). inl (Contains-there y xs x l)) (λ (l : Contains ys x). inr l) (Contains-append xs ys x k))
-    (Contains-cons y (xs ++ ys) x h)
+      (λ (e : y ≡ x). inl (subst (λ z. Contains (y ∷ xs) z) e (Contains-here y xs)))
+      (λ (k : Contains (xs ++ ys) x). ⊎_elim (λ (l : Contains xs x). inl (Contains-there y xs x l)) (λ (l : Contains ys x). inr l) (Contains-append xs ys x k))
+      (Contains-cons y (xs ++ ys) x h)
 
   -- `All` of a list, from each of its members
   pub All-from : (P : X → Type 0) (xs : List X) → ((x : X) → Contains xs x → P x) → All P xs
@@ -54,8 +54,8 @@ module _ {X : Type 0} where
   pub Contains-filter : (p : X → Bool) (xs : List X) (x : X) → Contains xs x → p x ≡ true → Contains (filter p xs) x
   Contains-filter p [] x h e = absurd (Contains-nil x h)
   Contains-filter p (y ∷ ys) x h e = ⊎_elim
-    (λ (same : y ≡ x). rw (subst (λ z. p z ≡ true) (sym same) e) (subst (λ z. Contains (y ∷ filter p ys) z) same (Contains-here y (filter p ys))))
-    (λ (k : Contains ys x). go (p y) (Contains-filter p ys x k e)) (Contains-cons y ys x h)
+      (λ (same : y ≡ x). rw (subst (λ z. p z ≡ true) (sym same) e) (subst (λ z. Contains (y ∷ filter p ys) z) same (Contains-here y (filter p ys))))
+      (λ (k : Contains ys x). go (p y) (Contains-filter p ys x k e)) (Contains-cons y ys x h)
     where
       go : (b : Bool) → Contains (filter p ys) x → Contains (cond b (y ∷ filter p ys) (filter p ys)) x
       go true k = Contains-there y (filter p ys) x k
@@ -98,13 +98,13 @@ module _ {X : Type 0} where
   split_cases [] (b ∷ f) x y l m h = inr (inl (subst (λ z. Contains (b ∷ f) z) (sym (cons_parts x b l (f ++ y ∷ m) h).0) (Contains-here b f)))
   split_cases (a ∷ e) [] x y l m h = inr (inr (subst (λ z. Contains (a ∷ e) z) (cons_parts a y (e ++ x ∷ l) m h).0 (Contains-here a e)))
   split_cases (a ∷ e) (b ∷ f) x y l m h = ⊎_elim (λ (s : x ≡ y). inl s)
-    (⊎_elim (λ (k : Contains f x). inr (inl (Contains-there b f x k))) (λ (k : Contains e y). inr (inr (Contains-there a e y k))))
-    (split_cases e f x y l m (cons_parts a b (e ++ x ∷ l) (f ++ y ∷ m) h).1)
+      (⊎_elim (λ (k : Contains f x). inr (inl (Contains-there b f x k))) (λ (k : Contains e y). inr (inr (Contains-there a e y k))))
+      (split_cases e f x y l m (cons_parts a b (e ++ x ∷ l) (f ++ y ∷ m) h).1)
 
   pub first_unique : (P : X → Type 0) (xs : List X) (x y : X) → IsFirstOf P xs x → IsFirstOf P xs y → x ≡ y
   first_unique P xs x y f h = ⊎_elim (λ (e : x ≡ y). e)
-    (⊎_elim (λ (k : Contains h.0 x). absurd (h.3 x k f.4)) (λ (k : Contains f.0 y). absurd (f.3 y k h.4)))
-    (split_cases f.0 h.0 x y f.1 h.1 (sym f.2 ∙ h.2))
+      (⊎_elim (λ (k : Contains h.0 x). absurd (h.3 x k f.4)) (λ (k : Contains f.0 y). absurd (f.3 y k h.4)))
+      (split_cases f.0 h.0 x y f.1 h.1 (sym f.2 ∙ h.2))
 
 module _ {X Y : Type 0} where
   pub Contains-map : (f : X → Y) (xs : List X) (x : X) → Contains xs x → Contains (map f xs) (f x)

@@ -1,5 +1,5 @@
 -- Vectors that a test makes of a list of layouts: dominance, meets, spreads and parts, layout by layout.
-use Rattle.std.proofs.Common.{◌≡◌, ◌<◌, ◌&&◌, ◌∙◌, ℕ, Bool, true, false, cond, List, [], ◌∷◌, length, map, filter, replicate, Contains, All, refl, sym, ap, subst, true≢false, arith}
+use Rattle.std.proofs.Common.{◌≡◌, ◌&&◌, Bool, true, false, cond, List, [], ◌∷◌, length, map, filter, replicate, Contains, refl, sym, ap, true≢false, arith}
 use Rattle.win_vectors.specs.Vectors.{ones_of, meet_of, spread_of, restrict_of}
 use Rattle.win_vectors.specs.Fronts.{Vector, IsAtLeast, Dominates}
 use Rattle.strategy_games.proofs.Lists.{Contains-here, Contains-there, Contains-nil, each_cons}

@@ -1,5 +1,5 @@
 -- The size of the tree.
-use Rattle.std.proofs.Common.{◌≡◌, ◌⊎◌, ◌+◌, ◌∙◌, ◌<◌, ◌≤◌, ℕ, zero, suc, Bool, true, false, cond, List, [], ◌∷◌, Contains, sum_by, refl, sym, ap, ap₂, subst, true≢false, inl, inr, ⊎_elim, arith}
+use Rattle.std.proofs.Common.{◌≡◌, ◌⊎◌, ◌+◌, ◌∙◌, ◌≤◌, ℕ, zero, suc, true, false, List, [], ◌∷◌, Contains, sum_by, refl, sym, ap, ap₂, inl, inr, ⊎_elim, arith}
 use Rattle.std.proofs.lemmas.Bool.{cases_Bool, cond-true, cond-false, cond_both}
 use Rattle.std.proofs.lemmas.List.Sums.{sum_by-cons}
 use Rattle.strategy_games.specs.Games.{Game, IsLawful}
@@ -19,9 +19,9 @@ module _ {X : Type 0} where
   sum_by-part : (f : X → ℕ) (xs : List X) (x : X) → Contains xs x → f x ≤ sum_by f xs
   sum_by-part f [] x m = absurd (Contains-nil x m)
   sum_by-part f (y ∷ ys) x m = ⊎_elim
-    (λ (e : y ≡ x). let same : f y ≡ f x = ap f e in omega (arith, sum_by-cons f y ys))
-    (λ (k : Contains ys x). let later = sum_by-part f ys x k in omega (arith, sum_by-cons f y ys))
-    (Contains-cons y ys x m)
+      (λ (e : y ≡ x). let same : f y ≡ f x = ap f e in omega (arith, sum_by-cons f y ys))
+      (λ (k : Contains ys x). let later = sum_by-part f ys x k in omega (arith, sum_by-cons f y ys))
+      (Contains-cons y ys x m)
 
 module _ {N S C : Type 0} (g : Game N S C) where
   size-stopped : (k : ℕ) (n : N) (m : ℕ) → stops g n m ≡ true → size_within g k n m ≡ 1
@@ -83,12 +83,12 @@ module _ {N S C : Type 0} (g : Game N S C) where
     tree_size-ours : (n : N) (m : ℕ) → Sound n → g.is_decided n ≡ false → g.is_ours n ≡ true → tree_size g n (suc m) ≡ 1 + sum_by (λ c. tree_size g (g.child n c) m) (g.choices n)
     tree_size-ours n m sound live ours = size-bound (g.cards_left n) (suc (g.cards_left n)) n (suc m) sound (omega arith) (omega arith) ∙ size-ours (g.cards_left n) n m live ours
         ∙ ap (λ (x : ℕ). 1 + x) (sum_by-agree (λ c. size_within g (g.cards_left n) (g.child n c) m) (λ c. tree_size g (g.child n c) m) (g.choices n)
-          (λ c mem. let less = law.falls n c sound live mem in size-bound (g.cards_left n) (g.cards_left (g.child n c)) (g.child n c) m (law.holds n c sound mem) (omega arith) (omega arith)))
+        (λ c mem. let less = law.falls n c sound live mem in size-bound (g.cards_left n) (g.cards_left (g.child n c)) (g.child n c) m (law.holds n c sound mem) (omega arith) (omega arith)))
 
     tree_size-theirs : (n : N) (m : ℕ) → Sound n → g.is_decided n ≡ false → g.is_ours n ≡ false → tree_size g n (suc m) ≡ 1 + sum_by (λ c. tree_size g (g.child n c) (suc m)) (g.choices n)
     tree_size-theirs n m sound live theirs = size-bound (g.cards_left n) (suc (g.cards_left n)) n (suc m) sound (omega arith) (omega arith) ∙ size-theirs (g.cards_left n) n m live theirs
         ∙ ap (λ (x : ℕ). 1 + x) (sum_by-agree (λ c. size_within g (g.cards_left n) (g.child n c) (suc m)) (λ c. tree_size g (g.child n c) (suc m)) (g.choices n)
-          (λ c mem. let less = law.falls n c sound live mem in size-bound (g.cards_left n) (g.cards_left (g.child n c)) (g.child n c) (suc m) (law.holds n c sound mem) (omega arith) (omega arith)))
+        (λ c mem. let less = law.falls n c sound live mem in size-bound (g.cards_left n) (g.cards_left (g.child n c)) (g.child n c) (suc m) (law.holds n c sound mem) (omega arith) (omega arith)))
 
     pub sizes : HasSizes g Sound
     sizes = record {

@@ -1,9 +1,8 @@
 -- Vectors: dominance, order and meets.
-use Rattle.std.proofs.Common.{◌≡◌, ◌⊎◌, ◌+◌, ◌<◌, ◌≤◌, ◌&&◌, ◌∙◌, ℕ, zero, suc, Bool, true, false, cond, List, [], ◌∷◌, length, map, refl, sym, ap, subst, inl, inr, ⊎_elim, arith, true≢false, lt-ltb, le-ltb, ltb-true, ltb-false, ltb}
-use Rattle.std.specs.declared.cmp.Ordering.{Ordering}
-use Rattle.std.specs.declared.cmp.Ordering.TheVariants.{Less, Equal, Greater}
+use Rattle.std.proofs.Common.{◌≡◌, ◌⊎◌, ◌<◌, ◌≤◌, ◌&&◌, ◌∙◌, Bool, true, false, cond, [], ◌∷◌, refl, sym, ap, inl, inr, ⊎_elim, arith, lt-ltb, le-ltb, ltb-true, ltb-false, ltb}
+use Rattle.std.specs.declared.cmp.Ordering.TheVariants.{Less, Greater}
 use Rattle.std.proofs.lemmas.Bool.{cases_lt, cond-true, cond-false}
-use Rattle.win_vectors.specs.Vectors.{ones_of, meet_of, spread_of, earlier_one, vector_order}
+use Rattle.win_vectors.specs.Vectors.{ones_of, meet_of, spread_of, earlier_one}
 use Rattle.win_vectors.specs.Fronts.{Vector, IsAtLeast, Dominates, Precedes}
 
 pub Dominates-refl : (u : Vector) → Dominates u u
@@ -100,9 +99,9 @@ Precedes-cases u v h = go (ltb (ones_of v) (ones_of u)) (ltb (ones_of u) (ones_o
 
 pub Precedes-trans : (u v w : Vector) → Precedes u v → Precedes v w → Precedes u w
 Precedes-trans u v w h k = ⊎_elim
-  (λ (a : ones_of v < ones_of u). ⊎_elim (λ (b : ones_of w < ones_of v). Precedes-more u w (omega arith)) (λ (b : (ones_of v ≡ ones_of w) × (earlier_one v w ≡ Less)). Precedes-more u w (omega arith)) (Precedes-cases v w k))
-  (λ (a : (ones_of u ≡ ones_of v) × (earlier_one u v ≡ Less)). ⊎_elim (λ (b : ones_of w < ones_of v). Precedes-more u w (omega arith)) (λ (b : (ones_of v ≡ ones_of w) × (earlier_one v w ≡ Less)). Precedes-same u w (a.0 ∙ b.0) (earlier_trans u v w a.1 b.1)) (Precedes-cases v w k))
-  (Precedes-cases u v h)
+    (λ (a : ones_of v < ones_of u). ⊎_elim (λ (b : ones_of w < ones_of v). Precedes-more u w (omega arith)) (λ (b : (ones_of v ≡ ones_of w) × (earlier_one v w ≡ Less)). Precedes-more u w (omega arith)) (Precedes-cases v w k))
+    (λ (a : (ones_of u ≡ ones_of v) × (earlier_one u v ≡ Less)). ⊎_elim (λ (b : ones_of w < ones_of v). Precedes-more u w (omega arith)) (λ (b : (ones_of v ≡ ones_of w) × (earlier_one v w ≡ Less)). Precedes-same u w (a.0 ∙ b.0) (earlier_trans u v w a.1 b.1)) (Precedes-cases v w k))
+    (Precedes-cases u v h)
 
 pub Precedes-irrefl : (u : Vector) → Precedes u u → ⊥
 Precedes-irrefl u h = ⊎_elim (λ (a : ones_of u < ones_of u). omega arith) (λ (a : (ones_of u ≡ ones_of u) × (earlier_one u u ≡ Less)). earlier_irrefl u a.1) (Precedes-cases u u h)

@@ -1,14 +1,13 @@
 -- What plans win: a card of declarer's side, a defender's replies, and double dummy as a bound.
-use Rattle.std.proofs.Common.{◌≡◌, ◌⊎◌, ◌&&◌, ◌++◌, ◌∙◌, ℕ, zero, suc, Bool, true, false, cond, List, [], ◌∷◌, length, map, filter, replicate, Contains, refl, sym, ap, ap₂, subst, true≢false}
+use Rattle.std.proofs.Common.{◌≡◌, ◌&&◌, ◌++◌, ◌∙◌, ℕ, Bool, true, false, cond, List, [], ◌∷◌, map, filter, Contains, refl, sym, ap, ap₂, subst}
 use Rattle.std.specs.List.{list_all}
-use Rattle.std.proofs.lemmas.Bool.{and_parts}
 use Rattle.std.proofs.lemmas.List.Folds.{list_all-append}
 use Rattle.win_vectors.specs.Vectors.{meet_of, spread_of, restrict_of}
-use Rattle.win_vectors.specs.Fronts.{Vector, Dominates}
-use Rattle.strategy_games.specs.Games.{Game, mask, IsLawful, IsDoubleDummy, IsSettled}
-use Rattle.strategy_games.specs.Plans.{Plan, Replies, Stop, Play, Hear, NoReply, Reply, cards_of, stops, Fits, FitEach, ends, ends_each, wins, wins_vector}
-use Rattle.strategy_games.proofs.Lists.{Contains-here, Contains-there, Contains-nil, Contains-map, Contains-filter, map-agree, All-at}
-use Rattle.strategy_games.proofs.Masks.{Dominates-map, Dominates-of_map, meet-map, spread-map, restrict-map, filter_all, map-map}
+use Rattle.win_vectors.specs.Fronts.{Vector}
+use Rattle.strategy_games.specs.Games.{Game, mask, IsLawful}
+use Rattle.strategy_games.specs.Plans.{Plan, Replies, Stop, Play, Hear, NoReply, Reply, cards_of, Fits, FitEach, ends, ends_each, wins, wins_vector}
+use Rattle.strategy_games.proofs.Lists.{Contains-map, Contains-filter, map-agree, All-at}
+use Rattle.strategy_games.proofs.Masks.{meet-map, spread-map, restrict-map, filter_all, map-map}
 
 -- ---- one reply more, at the end
 
@@ -21,18 +20,22 @@ unfolding with_reply
 cards_of-with_reply NoReply c q = refl
 cards_of-with_reply {C} (Reply d p rs) c q = ap (λ (l : List C). d ∷ l) (cards_of-with_reply rs c q)
 
+again : {C : Type 0} (d : C) (q : Plan C) (rs : Replies C) (d' : C) (cs : List C) (c : C) → d ≡ d' → (less : Replies C) × (p : Plan C) × (cards_of less ≡ cs) × (rs ≡ with_reply less c p)
+    → (less : Replies C) × (p : Plan C) × (cards_of less ≡ d' ∷ cs) × (Reply d q rs ≡ with_reply less c p)
+unfolding with_reply
+again {C} d q rs d' cs c heads r = (Reply d q r.0, r.1, ap₂ (λ (x : C) (l : List C). x ∷ l) heads r.2, ap (λ (l : Replies C). Reply d q l) r.3)
+
 -- replies to some cards and one more end with a reply to that one
 pub split_reply : {C : Type 0} (rs : Replies C) (cs : List C) (c : C) → cards_of rs ≡ cs ++ c ∷ [] → (less : Replies C) × (q : Plan C) × (cards_of less ≡ cs) × (rs ≡ with_reply less c q)
 unfolding with_reply
 split_reply NoReply [] c e = absurd cc
 split_reply NoReply (d ∷ cs) c e = absurd cc
-split_reply {C} (Reply d q NoReply) [] c e = (NoReply, q, refl, ap (λ (x : C). Reply x q NoReply) cc)
+split_reply {C} (Reply d q NoReply) [] c e = let heads : d ≡ c = cc in (NoReply, q, refl, ap (λ (x : C). Reply x q NoReply) heads)
 split_reply (Reply d q (Reply d' q' rs)) [] c e = absurd cc
 split_reply {C} (Reply d q rs) (d' ∷ cs) c e =
     let tails : cards_of rs ≡ cs ++ c ∷ [] = cc in
     let heads : d ≡ d' = cc in
-    let r = split_reply rs cs c tails in
-    (Reply d q r.0, r.1, ap₂ (λ (x : C) (l : List C). x ∷ l) heads r.2, ap (λ (l : Replies C). Reply d q l) r.3)
+    again d q rs d' cs c heads (split_reply rs cs c tails)
 
 module _ {N S C : Type 0} (g : Game N S C) where
   pub FitEach-with_reply : (rs : Replies C) (c : C) (q : Plan C) (n : N) (m : ℕ) → FitEach g rs n m → Fits g q (g.child n c) m → FitEach g (with_reply rs c q) n m

@@ -4,7 +4,7 @@ use Rattle.std.specs.List.{AllZip}
 use Rattle.win_vectors.specs.Vectors.{spread_of}
 use Rattle.win_vectors.specs.Fronts.{Vector, meets}
 use Rattle.strategy_games.specs.Games.{Game}
-use Rattle.strategy_games.specs.Plans.{Plan, Replies, Hear, cards_of, FitEach, wins_vector, CanWin, IsFront}
+use Rattle.strategy_games.specs.Plans.{Replies, Hear, cards_of, FitEach, wins_vector, CanWin, IsFront}
 
 -- at declarer's side: the fronts one after the other
 abbrev pub unions : List (List Vector) → List Vector

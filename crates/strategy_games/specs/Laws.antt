@@ -1,19 +1,24 @@
 -- The laws of strategies and fronts, for any game whose rules hold at sound nodes.
-use Rattle.std.specs.Prelude.{◌≡◌, ◌⊎◌, ◌↔◌, ◌+◌, ◌<◌, ◌≤◌, ℕ, suc, Bool, true, false, List, [], ◌∷◌, ◌++◌, map, replicate, length, Contains, None, Some, Decides, sum_by, Option}
-use Rattle.win_vectors.specs.Vectors.{ones_of}
-use Rattle.win_vectors.specs.Fronts.{Vector, Covers, CoversAll, IsFrontOf, IsFirstAbove, IsReduced, meets}
+use Rattle.std.specs.Prelude.{◌≡◌, ◌⊎◌, ◌↔◌, ◌+◌, ◌<◌, ◌≤◌, ℕ, suc, Bool, true, false, List, [], ◌∷◌, ◌++◌, map, replicate, length, Contains, None, Some, sum_by}
+use Rattle.win_vectors.specs.Vectors.{ones_of, restrict_of}
+use Rattle.win_vectors.specs.Fronts.{Vector, HaveWidth, Covers, CoversAll, IsFrontOf, IsFirstAbove, IsReduced, meets}
 use Rattle.strategy_games.specs.Games.{Game, mask}
-use Rattle.strategy_games.specs.Plans.{Plan, Play, stops, Fits, wins_vector, IsFront, IsBelow, tree_size}
+use Rattle.strategy_games.specs.Plans.{Plan, Play, stops, Fits, ends, wins_vector, IsFront, IsBelow, tree_size}
 use Rattle.strategy_games.specs.Joins.{unions, spreads, joins, AreFronts, WinsByCard, WinsByReply}
-use Rattle.strategy_games.specs.Choosing.{IsChosenPlan, IsBestCount, IsNamedCard}
+use Rattle.strategy_games.specs.Choosing.{Keeps, IsChosenPlan, IsBestCount, IsNamedCard}
 use Rattle.strategy_games.specs.Misfits.{node_count, first_misfit}
 
 module _ {N S C : Type 0} (g : Game N S C) (Sound : N → Type 0) where
-  -- each node has exactly one front, and it has a vector
+  -- each strategy ends somewhere in each layout of its node
+  abbrev pub EndsSomewhere : Type 0
+  EndsSomewhere = (p : Plan C) (n : N) (m : ℕ) (s : S) → Sound n → Fits g p n m → Contains (g.states n) s → ends g p s ≡ [] → ⊥
+
+  -- each node has exactly one front; it has a vector, and each of its vectors has a bit for each layout
   pub record HasOneFront : Type 0 where
     pub exists : (n : N) (m : ℕ) → Sound n → (f : List Vector) × IsFront g n m f
     pub unique : (n : N) (m : ℕ) (f h : List Vector) → IsFront g n m f → IsFront g n m h → f ≡ h
     pub filled : (n : N) (m : ℕ) (f : List Vector) → Sound n → IsFront g n m f → f ≡ [] → ⊥
+    pub wide : (n : N) (m : ℕ) (f : List Vector) → IsFront g n m f → HaveWidth (length (g.states n)) f
 
   -- the recursion on fronts
   pub record HasRecursion : Type 0 where
@@ -31,6 +36,9 @@ module _ {N S C : Type 0} (g : Game N S C) (Sound : N → Type 0) where
     pub no_card : (n : N) (m : ℕ) → IsFrontOf (WinsByCard g n m []) []
     pub more_cards : (n : N) (m : ℕ) (cs : List C) (c : C) (f h union : List Vector)
         → IsFrontOf (WinsByCard g n m cs) f → IsFront g (g.child n c) m h → IsReduced (f ++ h) union → IsFrontOf (WinsByCard g n m (cs ++ c ∷ [])) union
+    -- a card that the front so far covers adds nothing, and the order of the cards doesn't matter
+    pub covered_card : (n : N) (m : ℕ) (cs : List C) (c : C) (f : List Vector) → IsFrontOf (WinsByCard g n m cs) f → IsBelow g (g.child n c) m f → IsFrontOf (WinsByCard g n m (cs ++ c ∷ [])) f
+    pub any_order : (n : N) (m : ℕ) (cs ds : List C) (f : List Vector) → ((c : C) → Contains cs c ↔ Contains ds c) → IsFrontOf (WinsByCard g n m cs) f → IsFrontOf (WinsByCard g n m ds) f
     pub all_cards : (n : N) (m : ℕ) (f : List Vector) → Sound n → g.is_over n ≡ false → g.is_ours n ≡ true → IsFrontOf (WinsByCard g n m (g.choices n)) f → IsFront g n (suc m) f
     pub no_reply : (n : N) (m : ℕ) → IsFrontOf (WinsByReply g n m []) (replicate (length (g.states n)) true ∷ [])
     pub more_replies : (n : N) (m : ℕ) (cs : List C) (c : C) (f h join : List Vector) → Sound n → Contains (g.choices n) c
@@ -47,6 +55,10 @@ module _ {N S C : Type 0} (g : Game N S C) (Sound : N → Type 0) where
     pub exists : (n : N) (m : ℕ) (t : Vector) (f : List Vector) → Sound n → IsFront g n m f → Covers f t → (p : Plan C) × IsChosenPlan g p n m t
     pub unique : (p q : Plan C) (n : N) (m : ℕ) (t : Vector) → IsChosenPlan g p n m t → IsChosenPlan g q n m t → p ≡ q
     pub wins : (p : Plan C) (n : N) (m : ℕ) (t : Vector) (f : List Vector) → Sound n → IsFront g n m f → Covers f t → IsChosenPlan g p n m t → Fits g p n m × IsFirstAbove f t (wins_vector g p n)
+    -- at declarer's side some card keeps each vector of the front, and at a defender each card keeps its part
+    pub kept : (n : N) (m : ℕ) (u : Vector) (f : List Vector) → Sound n → g.is_decided n ≡ false → g.is_ours n ≡ true → IsFront g n (suc m) f → Contains f u → (c : C) × Contains (g.choices n) c × Keeps g n m u c
+    pub part : (n : N) (m : ℕ) (u : Vector) (f h : List Vector) (c : C) → Sound n → g.is_decided n ≡ false → g.is_ours n ≡ false → IsFront g n (suc m) f → Contains f u
+        → Contains (g.choices n) c → IsFront g (g.child n c) (suc m) h → Covers h (restrict_of u (mask g n c))
 
   -- the size of the tree, and how it changes
   pub record HasSizes : Type 0 where
@@ -80,7 +92,9 @@ module _ {N S C : Type 0} (g : Game N S C) (Sound : N → Type 0) where
   pub record HasCuts : Type 0 where
     -- a list that covers the front covers what every strategy wins,
     pub covered : (n : N) (m : ℕ) (f alpha : List Vector) → IsFront g n m f → CoversAll alpha f → IsBelow g n m alpha
-    -- and so does one that covers the front with a move less.
+    -- as does one that covers such a list,
+    pub wider : (n : N) (m : ℕ) (alpha beta : List Vector) → IsBelow g n m alpha → CoversAll beta alpha → IsBelow g n m beta
+    -- and one that covers the front with a move less.
     pub deeper : (n : N) (m : ℕ) (less alpha : List Vector) → Sound n → IsFront g n m less → CoversAll alpha less → IsBelow g n (suc m) alpha
     -- An empty list covers nothing.
     pub never : (n : N) (m : ℕ) → Sound n → IsBelow g n m [] → ⊥
@@ -89,6 +103,12 @@ module _ {N S C : Type 0} (g : Game N S C) (Sound : N → Type 0) where
     -- and at a defender that the replies to the first of the cards are: their vectors have 1 at each layout that no card of theirs is legal in.
     pub at_defender : (n : N) (m : ℕ) (cs later : List C) (f alpha : List Vector) → Sound n → g.is_decided n ≡ false → g.is_ours n ≡ false → g.choices n ≡ cs ++ later
         → IsFrontOf (WinsByReply g n (suc m) cs) f → CoversAll alpha f → IsBelow g n (suc m) alpha
+    -- Some cards of declarer's side are enough where what they win covers the front with a move less,
+    pub same_front : (n : N) (m : ℕ) (cs : List C) (f less : List Vector) → Sound n → g.is_over n ≡ false → g.is_ours n ≡ true → ((c : C) → Contains cs c → Contains (g.choices n) c)
+        → IsFrontOf (WinsByCard g n m cs) f → IsFront g n m less → CoversAll f less → IsFront g n (suc m) f
+    -- and for the best count where one of their vectors has the best count with a move less.
+    pub same_count : (n : N) (m b : ℕ) (cs : List C) (v : Vector) → Sound n → g.is_over n ≡ false → g.is_ours n ≡ true → ((c : C) → Contains cs c → Contains (g.choices n) c)
+        → WinsByCard g n m cs v → ones_of v ≡ b → IsBestCount g n m b → IsBestCount g n (suc m) b
 
 -- by a test of equal cards: no node of a plan is at fault exactly where the plan fits, and a node at fault is one of its nodes
 pub record HasFirstMisfit {N S C : Type 0} (g : Game N S C) (same : C → C → Bool) : Type 0 where

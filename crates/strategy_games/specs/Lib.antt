@@ -4,3 +4,4 @@ pub mod Joins
 pub mod Choosing
 pub mod Misfits
 pub mod Laws
+pub mod Finesse

@@ -1,3 +1,4 @@
 pub mod PlanMeaning
 pub mod PlanText
+pub mod PlanRead
 pub mod Bridge

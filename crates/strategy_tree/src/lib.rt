@@ -4,6 +4,8 @@
 #![tactic(auto)]
 
 pub mod plan;
+pub mod plan_reader;
 pub mod plan_text;
 
 pub use plan::{Plan, Reply};
+pub use plan_reader::{PlanFault, read_plan};
