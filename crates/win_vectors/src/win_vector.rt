@@ -6,7 +6,7 @@ ghost use Rattle.std.proofs.Math.Bool.{beq};
 ghost use Rattle.std.specs.Cmp.Lexicographic.{pointwise};
 ghost use Rattle.std.specs.Cmp.Rules.{comparing};
 ghost use Rattle.win_vectors.specs.Fronts.{Dominates};
-ghost use Rattle.win_vectors.specs.Vectors.{dominates as is_above, meet_of, ones_of, restrict_of, spread_of, vector_order};
+ghost use Rattle.win_vectors.specs.Vectors.{dominates as is_above, either_of, meet_of, ones_of, restrict_of, spread_of, vector_order};
 
 use std::cmp::Ordering;
 use std::marker::Model;
@@ -139,6 +139,17 @@ impl WinVector {
         WinVector {
             width: self.width,
             bits: self.bits & other.bits,
+        }
+    }
+
+    /// 1 where either has 1.
+    pub fn either(self, other: WinVector) -> WinVector
+        requires { length self ≡ length other }
+        ensures { result ≡ either_of self other }
+    {
+        WinVector {
+            width: self.width,
+            bits: self.bits | other.bits,
         }
     }
 
