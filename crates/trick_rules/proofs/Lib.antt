@@ -5,5 +5,6 @@ pub mod States
 pub mod Decisions
 pub mod DoubleDummy
 pub mod NodeLemmas
+pub mod KeptLayouts
 pub mod TrickLemmas
 pub mod PlayLaws
