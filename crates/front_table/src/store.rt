@@ -2,7 +2,6 @@
 ghost use Rattle.std.specs.Prelude.{◌≡◌, ◌≢◌, ◌≤◌, ⊤, Bool, true, length, IsTrue};
 ghost use Rattle.strategy_games.specs.Plans.{IsFront};
 ghost use Rattle.strategy_tree.specs.Bridge.{bridge};
-ghost use Rattle.pareto_fronts.specs.FrontValue.{room_of};
 ghost use Rattle.front_table.specs.Stores.{HandsBack};
 
 use crate::ProvenFront;
@@ -45,10 +44,10 @@ pub trait FrontStore {
     /// Looks for the front of a node with so many moves. A hit leaves it in `out`; every other answer leaves `out` as it was.
     fn look(&mut self, node: &Node, moves: u8, out: &mut Front) -> Look
         requires width { out.old.width ≡ length node.now.lefts }
-        requires room { 64 ≤ room_of out.old }
+        requires room { 64 ≤ out.old.room }
         ensures hit { result ≡ Look.Hit → IsFront bridge node.now moves out.new.vectors }
         ensures width { out.new.width ≡ out.old.width }
-        ensures room { room_of out.old ≤ room_of out.new }
+        ensures room { out.old.room ≤ out.new.room }
         ensures unchanged { result ≢ Look.Hit → out.new ≡ out.old }
         ensures blind { blind ≡ true → result ≢ Look.Hit }
         ensures grown { grown self.old self.new };
@@ -84,7 +83,7 @@ impl FrontStore for NoStore {
     fn look(&mut self, _node: &Node, _moves: u8, out: &mut Front) -> Look
         ensures answer { result ≡ Look.Miss }
         ensures width { out.new.width ≡ out.old.width }
-        ensures room { room_of out.old ≤ room_of out.new }
+        ensures room { out.old.room ≤ out.new.room }
         ensures unchanged { out.new ≡ out.old }
     {
         Look::Miss
