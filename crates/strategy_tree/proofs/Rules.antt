@@ -36,7 +36,7 @@ result_of t h = go (decided t) h
     go None h = absurd (false≢true h)
     go (Some made) h = (made, refl)
 
-no_result : (t : Table) → is_some (decided t) ≡ false → decided t ≡ None
+pub no_result : (t : Table) → is_some (decided t) ≡ false → decided t ≡ None
 no_result t h = go (decided t) h
   where
     go : (o : Option Bool) → is_some o ≡ false → o ≡ None

@@ -3,6 +3,7 @@
 //! A contract speaks of a plan as a tree of cards, and each law is the contract of a function.
 #![tactic(auto)]
 
+pub mod laws;
 pub mod plan;
 pub mod plan_reader;
 pub mod plan_text;
