@@ -1,7 +1,7 @@
 //! How many nodes a search may still enter.
-ghost use Rattle.std.specs.Prelude.{◌≡◌, ◌+◌, ◌<◌, IsTrue, ◌↔◌, OnOk, OnErr};
+ghost use Rattle.std.specs.Prelude.{◌≡◌, ◌+◌, IsOkUnless, OnOk, OnErr};
 
-use crate::search::SearchFault;
+use crate::answers::SearchFault;
 use std::marker::Model;
 
 /// A number of nodes that a search may still enter. Each node entered costs one.
@@ -19,6 +19,7 @@ impl Model for Budget {
 }
 
 impl Budget {
+    /// A budget for so many nodes.
     pub fn new(nodes: u64) -> Budget
         ensures { result ≡ nodes }
     {
@@ -33,10 +34,10 @@ impl Budget {
     }
 
     // Pays for one node, or is spent.
-    pub fn enter(&mut self) -> Result<(), SearchFault>
+    pub(crate) fn enter(&mut self) -> Result<(), SearchFault>
         ensures paid { OnOk result (self.new + 1 ≡ self.old) }
         ensures spent { OnErr result ((self.old ≡ 0) × (self.new ≡ 0)) }
-        ensures fault { result ≡ Err SearchFault.Memory → ⊥ }
+        ensures only { IsOkUnless result SearchFault.Spent }
     {
         if self.left == 0 {
             return Err(SearchFault::Spent);

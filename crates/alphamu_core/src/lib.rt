@@ -3,9 +3,11 @@
 //! An exact answer is the definition's front; an answer below says that alpha covers every strategy; spent says that the tree is larger than the budget.
 #![tactic(auto)]
 
+mod answers;
 mod budget;
+mod node_search;
 mod plain;
-mod search;
 
+pub use answers::{Found, RootFault, SearchFault};
 pub use budget::Budget;
-pub use search::{Found, RootFault, SearchFault, search};
+pub use node_search::search;

@@ -1,13 +1,14 @@
 // The plain recursion: fronts from the leaves upward.
-ghost use Rattle.std.specs.Prelude.{◌≡◌, ◌+◌, ◌<◌, ◌≤◌, ◌∷◌, [], false, true, map, length, is_some, IfOk, IsErrOf, OnOk};
-ghost use Rattle.trick_rules.specs.Play.{decided, is_declarers, makes};
-ghost use Rattle.trick_rules.specs.Table.{to_play};
-ghost use Rattle.strategy_games.specs.Plans.{IsFront, stops, tree_size};
-ghost use Rattle.strategy_tree.specs.Bridge.{bridge, states_of};
-ghost use Rattle.alphamu_core.specs.Costs.{IsFrontAt, Costs};
+ghost use Rattle.std.specs.Prelude.{◌≡◌, ◌+◌, false, true, map, IfOk};
+ghost use Rattle.trick_rules.specs.Play.{makes};
+ghost use Rattle.trick_rules.specs.Nodes.{states};
+ghost use Rattle.strategy_games.specs.Plans.{stops, tree_size};
+ghost use Rattle.strategy_tree.specs.Bridge.{bridge};
+ghost use Rattle.alphamu_core.specs.Costs.{Costs};
+ghost use Rattle.alphamu_core.specs.Findings.{IsFrontAt};
 
+use crate::answers::SearchFault;
 use crate::budget::Budget;
-use crate::search::SearchFault;
 use dd_solver::Solver;
 use front_join::Joiner;
 use pareto_fronts::Front;
@@ -23,7 +24,7 @@ pub fn node_front(alloc: Global, solver: &mut Solver, budget: &mut Budget, node:
 {
     budget.enter()?;
     if node.stops(moves) {
-        Ok(leaf_front(alloc, solver, node)?)
+        Ok(leaf_front(alloc, solver, node, moves)?)
     } else if node.is_ours() {
         declarers_front(alloc, solver, budget, node, moves)
     } else {
@@ -31,7 +32,7 @@ pub fn node_front(alloc: Global, solver: &mut Solver, budget: &mut Budget, node:
     }
 }
 
-// The best of the fronts after each card of declarer's side, each with a move less.
+// The best of the fronts after each card of declarer's side, each with a move less. The node itself is paid for.
 #[cycle(front)]
 fn declarers_front(alloc: Global, solver: &mut Solver, budget: &mut Budget, node: &Node, moves: u8) -> Result<Front, SearchFault>
     requires goes_on { stops bridge node.now moves ≡ false }
@@ -41,7 +42,7 @@ fn declarers_front(alloc: Global, solver: &mut Solver, budget: &mut Budget, node
 {
     let mut front = Front::new(alloc, node.width());
     let mut cards = node.choices();
-    while let Some(card) = cards.pop_first() {
+    'cards: while let Some(card) = cards.pop_first() {
         let (child, _) = node.child(alloc, card)?;
         let won = node_front(alloc, solver, budget, &child, moves - 1)?;
         front.union(&won)?;
@@ -49,7 +50,7 @@ fn declarers_front(alloc: Global, solver: &mut Solver, budget: &mut Budget, node
     Ok(front)
 }
 
-// The best of all meets of what is won after each card of a defender.
+// The best of all meets of what is won after each card of a defender. The node itself is paid for.
 #[cycle(front)]
 fn defenders_front(alloc: Global, solver: &mut Solver, budget: &mut Budget, node: &Node, moves: u8) -> Result<Front, SearchFault>
     requires goes_on { stops bridge node.now moves ≡ false }
@@ -59,7 +60,7 @@ fn defenders_front(alloc: Global, solver: &mut Solver, budget: &mut Budget, node
 {
     let mut joiner = Joiner::new(alloc, node.width());
     let mut cards = node.choices();
-    while let Some(card) = cards.pop_first() {
+    'cards: while let Some(card) = cards.pop_first() {
         let (child, mask) = node.child(alloc, card)?;
         let won = node_front(alloc, solver, budget, &child, moves)?;
         joiner.add(&won, &mask)?;
@@ -68,9 +69,9 @@ fn defenders_front(alloc: Global, solver: &mut Solver, budget: &mut Budget, node
 }
 
 // Where a strategy stops: double dummy's result in each layout.
-fn leaf_front(alloc: Global, solver: &mut Solver, node: &Node) -> Result<Front, AllocError>
-    ensures vectors { IfOk result (λ front. front.vectors ≡ map makes (states_of node.now) ∷ []) }
-    ensures width { IfOk result (λ front. front.width ≡ length node.now.lefts) }
+fn leaf_front(alloc: Global, solver: &mut Solver, node: &Node, moves: u8) -> Result<Front, AllocError>
+    requires { stops bridge node.now moves ≡ true }
+    ensures { IfOk result (IsFrontAt node.now moves) }
 {
     let mut front = Front::new(alloc, node.width());
     front.insert(results(solver, node))?;
@@ -79,12 +80,13 @@ fn leaf_front(alloc: Global, solver: &mut Solver, node: &Node) -> Result<Front, 
 
 // Double dummy's result in each layout.
 fn results(solver: &mut Solver, node: &Node) -> WinVector
-    ensures { result ≡ map makes (states_of node.now) }
+    ensures { result ≡ map makes (states node.now) }
 {
     let mut made = WinVector::none(node.width());
     for place in 0..node.width() {
-        let makes = solver.makes(node.position(), node.left(place));
-        made = made.set(place, makes);
+        if solver.makes(node.position(), node.left(place)) {
+            made = made.set(place, true);
+        }
     }
     made
 }

@@ -1,59 +1,19 @@
 //! The search of a node.
-ghost use Rattle.std.specs.Prelude.{◌≡◌, ◌+◌, ◌<◌, ◌≤◌, ◌⊎◌, ⊥, [], true, length, IfOk, IsErrOf};
+ghost use Rattle.std.specs.Prelude.{◌≡◌, ◌+◌, ◌<◌, ◌≤◌, ◌⊎◌, [], true, length, IfOk, IsErrOf};
 ghost use Rattle.strategy_games.specs.Plans.{tree_size};
 ghost use Rattle.strategy_tree.specs.Bridge.{bridge};
 ghost use Rattle.cut_rules.specs.Rules.{no_cuts};
 ghost use Rattle.alphamu_core.specs.Findings.{IsFound, IsExact};
 
+use crate::answers::{Found, SearchFault};
 use crate::budget::Budget;
 use crate::plain::node_front;
-use card_sets::Card;
 use cut_rules::CutRules;
 use dd_solver::Solver;
 use front_table::FrontStore;
 use pareto_fronts::Front;
-use std::alloc::{AllocError, Global};
-use thiserror::Error;
+use std::alloc::Global;
 use trick_rules::Node;
-
-/// What a search finds.
-#[derive(Drop)]
-pub enum Found {
-    /// The front of the node.
-    Exact(Front),
-    /// Alpha dominates what every strategy wins here.
-    Below,
-}
-
-/// Why a search ends with no answer.
-#[derive(Clone, Copy, Debug, PartialEq, Eq, Error)]
-pub enum SearchFault {
-    /// The tree is larger than the budget.
-    #[error("nodes spent")]
-    Spent,
-    #[error("out of memory")]
-    Memory,
-}
-
-impl From<AllocError> for SearchFault {
-    ghost use Rattle.alphamu_core.specs.declared.search.SearchFault.TheVariants.{Memory};
-
-    ghost from_gives = { λ _ fault. fault ≡ Memory };
-
-    fn from(_: AllocError) -> Self {
-        SearchFault::Memory
-    }
-}
-
-/// Why a loop over root cards ends with no answer.
-#[derive(Clone, Copy, Debug, PartialEq, Eq, Error)]
-pub enum RootFault {
-    /// The tree after this card is larger than its budget.
-    #[error("nodes spent")]
-    Spent(Card),
-    #[error("out of memory")]
-    Memory,
-}
 
 /// Searches a node with so many moves of declarer's side, at most 26.
 ///
@@ -73,10 +33,15 @@ pub fn search<S: FrontStore>(
     requires few_moves { moves ≤ 26 }
     ensures found { IfOk result (IsFound node.now moves alpha.now.vectors) }
     ensures never { (alpha.now.vectors ≡ []) ⊎ (rules ≡ no_cuts) → IfOk result IsExact }
+
+    // Each node entered costs one.
     ensures spent { IsErrOf result SearchFault.Spent → budget.old < tree_size bridge node.now moves }
-    ensures counts { rules ≡ no_cuts → S.blind ≡ true → IfOk result (λ _. budget.new + tree_size bridge node.now moves ≡ budget.old) }
+    ensures counts { rules ≡ no_cuts → S.blind ≡ true
+        → IfOk result (λ _. budget.new + tree_size bridge node.now moves ≡ budget.old) }
+    ensures entered { IfOk result (λ _. budget.new < budget.old) }
     ensures never_rises { budget.new ≤ budget.old }
     ensures falls { budget.old ≤ budget.new + tree_size bridge node.now moves }
+
     ensures grown { S.grown store.old store.new }
 {
     let front = node_front(alloc, solver, budget, node, moves)?;
