@@ -1,18 +1,16 @@
 -- Steps of the calls of a front.
 use Rattle.std.proofs.Common.{◌≡◌, ◌≢◌, ℕ, suc, zero, ◌+◌, ◌<◌, ◌≤◌, true, false, List, [], ◌∷◌, ◌++◌, length, refl, sym, ap, subst, ◌∙◌, arith, get_or, inl, inr, AllPairs, All, insert, take, Result, Ok, Err, IsOk, OnOk}
 use Rattle.std.proofs.lemmas.Bool.{false≢true, cases_Bool, cases_order}
-use Rattle.std.proofs.lemmas.List.Elements.{Contains-get_or, All-contains, Contains-append_cases, Contains-append_left, Contains-append_right}
+use Rattle.std.proofs.lemmas.List.Elements.{Contains-get_or, All-contains}
 use Rattle.std.proofs.lemmas.List.{get_or_default, get_or-take, length-take, take_more, append_assoc}
 use Rattle.std.specs.List.{HoldsAt}
 use Rattle.win_vectors.specs.Vectors.{dominates}
 use Rattle.win_vectors.specs.Fronts.{Vector, Dominates, Precedes, Covers, HaveWidth, IsReduced, IsFirstAbove}
-use Rattle.pareto_fronts.specs.FrontValue.{FrontValue}
-use Rattle.win_vectors.specs.Laws.{SameMembers}
+use Rattle.pareto_fronts.specs.FrontValue.{FrontValue, IsFront}
 use Rattle.win_vectors.proofs.VectorLemmas.{Decides-dominates}
 use Rattle.win_vectors.proofs.Orders.{Dominates-length}
-use Rattle.win_vectors.proofs.Members.{Contains-none, Contains-first, Contains-rest, Contains-same, Contains-cases}
 use Rattle.win_vectors.proofs.Insertion.{is_before, placed, undominated, covered-reduced, Decides-is_before}
-use Rattle.win_vectors.proofs.Reduction.{reduced-its_own, reduced-of_part, reduced-ignores_order}
+use Rattle.win_vectors.proofs.Reduction.{reduced-its_own, reduced-push}
 
 -- what an Ok says
 pub on_ok : {T E : Type 0} {P : Type 0} (r : Result T E) → IsOk r → OnOk r P → P
@@ -76,34 +74,22 @@ added v old kept new place is_kept is_new within before not_at = is_new ∙ plac
 
 -- the first vectors of a list were put into a front
 pub record Unites (old : FrontValue) (vectors : List Vector) (done : ℕ) (new : FrontValue) : Type 0 where
+  pub front : IsFront new
   pub width : new.width ≡ old.width
   pub reduced : IsReduced (old.vectors ++ take done vectors) new.vectors
   pub spare : length new.vectors + length vectors ≤ new.room + done
   pub room : old.room ≤ new.room
 
--- a vector put at the end, or at the start
-SameMembers-push : (v : Vector) (us : List Vector) → SameMembers (v ∷ us) (us ++ v ∷ [])
-SameMembers-push v us w = (
-  λ m. elim (Contains-cases v us w m) [
-    | inl same ↦ Contains-append_right us (v ∷ []) w (Contains-same (v ∷ []) v w same (Contains-first v []))
-    | inr member ↦ Contains-append_left us (v ∷ []) w member
-  ],
-  λ m. elim (Contains-append_cases us (v ∷ []) w m) [
-    | inl member ↦ Contains-rest v us w member
-    | inr last ↦ elim (Contains-cases v [] w last) [ inl same ↦ Contains-same (v ∷ us) v w same (Contains-first v us) | inr none ↦ absurd (Contains-none w none) ]
-  ],
-)
-
 -- one vector more
 pub Unites-more : (old : FrontValue) (vectors : List Vector) (done : ℕ) (v : Vector) (new next : FrontValue) → done < length vectors → v ≡ get_or vectors done v → Unites old vectors done new
-    → next.width ≡ new.width → IsReduced (v ∷ new.vectors) next.vectors → length next.vectors ≤ length new.vectors + 1 → next.room ≡ new.room → Unites old vectors (done + 1) next
-Unites-more old vectors done v new next within is h width reduced longer room =
+    → IsFront next → next.width ≡ new.width → IsReduced (v ∷ new.vectors) next.vectors → length next.vectors ≤ length new.vectors + 1 → next.room ≡ new.room → Unites old vectors (done + 1) next
+Unites-more old vectors done v new next within is h front width reduced longer room =
     let part = old.vectors ++ take done vectors in
-    let ordered = reduced-ignores_order (v ∷ new.vectors) (new.vectors ++ v ∷ []) next.vectors (SameMembers-push v new.vectors) reduced in
-    let whole = (reduced-of_part part new.vectors (v ∷ []) next.vectors h.reduced).0 ordered in
+    let whole = reduced-push part new.vectors next.vectors v h.reduced reduced in
     let list : old.vectors ++ take (done + 1) vectors ≡ part ++ v ∷ [] =
     rw (take_more vectors done v within, ← is) (sym (append_assoc old.vectors (take done vectors) (v ∷ []))) in
     record {
+      front = front;
       width = width ∙ h.width;
       reduced = rw list whole;
       spare = omega (arith, h.spare);
@@ -115,4 +101,4 @@ pub Unites-covered : (old : FrontValue) (vectors : List Vector) (done : ℕ) (v 
     → Covers new.vectors v → Unites old vectors (done + 1) new
 Unites-covered old vectors done v new within is h above =
     let own = reduced-its_own (old.vectors ++ take done vectors) new.vectors h.reduced in
-    Unites-more old vectors done v new new within is h refl (covered-reduced v new.vectors new.vectors own above) (omega arith) refl
+    Unites-more old vectors done v new new within is h h.front refl (covered-reduced v new.vectors new.vectors own above) (omega arith) refl

@@ -49,6 +49,7 @@ impl Front {
         ensures width { result.width ≡ width }
         ensures empty { result.vectors ≡ [] }
         ensures room { result.room ≡ INLINE_VECTORS }
+        ensures front { IsFront result }
     {
         Front {
             width,
@@ -84,6 +85,14 @@ impl Front {
         ensures { slice_get self.now.vectors place ≡ Some result }
     {
         self.vectors[place]
+    }
+
+    /// The vectors, in printing order.
+    pub fn as_slice(&self) -> &[WinVector]
+        ensures value { result.now ≡ self.now.vectors }
+        ensures front { IsFront self.now }
+    {
+        self.vectors.as_slice()
     }
 
     /// Whether some vector dominates this one.
@@ -131,6 +140,7 @@ impl Front {
     /// there is no spare room.
     pub fn insert(&mut self, vector: WinVector) -> Result<(), AllocError>
         requires { length vector ≡ self.old.width }
+        ensures front { IsFront self.new }
         ensures width { self.new.width ≡ self.old.width }
         ensures ok { OnOk result (IsReduced (vector ∷ self.old.vectors) self.new.vectors) }
         ensures succeeds { HasSpareRoom self.old 1 → IsOk result }
@@ -149,6 +159,7 @@ impl Front {
     /// spare room is less than the other's length.
     pub fn union(&mut self, other: &Front) -> Result<(), AllocError>
         requires { other.now.width ≡ self.old.width }
+        ensures front { IsFront self.new }
         ensures width { self.new.width ≡ self.old.width }
         ensures ok { OnOk result (IsReduced (self.old.vectors ++ other.now.vectors) self.new.vectors) }
         ensures succeeds { HasSpareRoom self.old (length other.now.vectors) → IsOk result }
@@ -166,7 +177,8 @@ impl Front {
 
     /// An equal front.
     pub fn copy(&self) -> Result<Front, AllocError>
-        ensures { IfOk result (HaveSameVectors self.now) }
+        ensures same { IfOk result (HaveSameVectors self.now) }
+        ensures front { IfOk result IsFront }
     {
         let vectors = SmallVec::from_slice(*self.vectors.allocator(), self.vectors.as_slice())?;
         Ok(Front {
@@ -189,6 +201,7 @@ impl Front {
         requires same_width { length vector ≡ self.old.width }
         requires spare { HasSpareRoom self.old 1 }
         requires new { ¬ Covers self.old.vectors vector }
+        ensures front { IsFront self.new }
         ensures width { self.new.width ≡ self.old.width }
         ensures reduced { IsReduced (vector ∷ self.old.vectors) self.new.vectors }
         ensures longer { length self.new.vectors ≤ length self.old.vectors + 1 }

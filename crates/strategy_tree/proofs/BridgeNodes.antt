@@ -107,4 +107,4 @@ pub front_at_defender : (n : Layouts) (moves : ℕ) (fronts : List (List Vector)
 front_at_defender n moves fronts front sound going theirs are =
     subst (λ width. IsFront bridge n (suc moves) front ↔ IsReduced (joins width (map (λ card. child_mask n card) (choices n)) fronts) front) (length-states n)
     (subst (λ (masks : ℕ → Vector). IsFront bridge n (suc moves) front ↔ IsReduced (joins (length (states n)) (map masks (choices n)) fronts) front) (fun_ext (mask-bridge n))
-      (recursion.at_defender n moves fronts front sound going theirs are))
+    (recursion.at_defender n moves fronts front sound going theirs are))

@@ -1,5 +1,5 @@
 -- The equations of `plan_of`.
-use Rattle.std.proofs.Common.{◌≡◌, ℕ, suc, length, List, [], ◌∷◌, map, refl, sym, ap, ◌∙◌, Vec, Global, Box}
+use Rattle.std.proofs.Common.{◌≡◌, ℕ, suc, ◌+◌, ◌<◌, length, get_or, drop, drop-cons, arith, List, [], ◌∷◌, map, refl, sym, ap, ◌∙◌, Vec, Global, Box}
 use Rattle.std.proofs.Math.Path.{fun_ext}
 use Rattle.strategy_games.specs.Plans as games
 use Rattle.strategy_games.specs.Plans.{cards_of}
@@ -25,3 +25,13 @@ plan_of-Play c b = ap plan_of (sym (rolls-Play c b)) ∙ fold-roll-Plan (games.P
 pub length-cards_of : (rs : List Reply) → length (cards_of (replies_of rs)) ≡ length rs
 length-cards_of [] = refl
 length-cards_of (r ∷ rs) = ap (λ n. suc n) (length-cards_of rs)
+
+-- the replies from the next one on
+pub replies_of-drop : (replies : List Reply) (i : ℕ) (r : Reply) → i < length replies → r ≡ get_or replies i r
+    → replies_of (drop i replies) ≡ games.Reply r.card (plan_of r.plan) (replies_of (drop (i + 1) replies))
+replies_of-drop replies i r low is =
+    let next : drop i replies ≡ r ∷ drop (i + 1) replies = drop-cons replies i r low ∙ ap (λ x. x ∷ drop (suc i) replies) (sym is) ∙ ap (λ j. r ∷ drop j replies) one_more in
+    ap replies_of next
+  where
+    one_more : suc i ≡ i + 1
+    one_more = omega arith

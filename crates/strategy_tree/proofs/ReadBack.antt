@@ -92,9 +92,9 @@ card_named-card_text card low =
 find-range : (p : ℕ → Bool) (a len n : ℕ) → a ≤ n → n < a + len → p n ≡ true → ((k : ℕ) → k < n → p k ≡ false) → find p (range_with_len a len) ≡ Some n
 find-range p a zero n from low holds fails = absurd (omega arith)
 find-range p a (suc len) n from low holds fails = elim (cases_eq a n) [
-    | inl same ↦ rw (subst (λ x. p x ≡ true) (sym same) holds) (ap (λ x. Some x) same)
-    | inr other ↦ let past : a < n = omega arith in rw (fails a past) (find-range p (a + 1) len n (omega arith) (omega arith) holds fails)
-  ]
+  | inl same ↦ rw (subst (λ x. p x ≡ true) (sym same) holds) (ap (λ x. Some x) same)
+  | inr other ↦ let past : a < n = omega arith in rw (fails a past) (find-range p (a + 1) len n (omega arith) (omega arith) holds fails)
+]
 
 number_named-decimal : (most n : ℕ) → 1 ≤ n → n ≤ most → n < 100 → number_named most (decimal n) ≡ Some n
 unfolding number_named
@@ -113,9 +113,9 @@ digit_line d rest low line = let other : (48 + d == 10) ≡ false = ne_eqb (48 +
 
 is_line-decimal : (n : ℕ) → n < 100 → is_line (decimal n) ≡ true
 is_line-decimal n small = elim (cases_lt n 10) [
-    | inl one ↦ rw (decimal_one n one) (digit_line (n % 10) [] (omega arith) refl)
-    | inr two ↦ rw (decimal_two n two small) (digit_line (n / 10 % 10) ((48 + n % 10) ∷ []) (omega arith) (digit_line (n % 10) [] (omega arith) refl))
-  ]
+  | inl one ↦ rw (decimal_one n one) (digit_line (n % 10) [] (omega arith) refl)
+  | inr two ↦ rw (decimal_two n two small) (digit_line (n / 10 % 10) ((48 + n % 10) ∷ []) (omega arith) (digit_line (n % 10) [] (omega arith) refl))
+]
 
 -- ---- the four lines
 
@@ -153,6 +153,7 @@ part before first second rest bytes are = are ∙ ap (λ more. before ++ more) (
 
 mutual
   unfolding stop_line play_line hear_line on_line
+
   pub reads_plan : (plan : Plan ℕ) (levels : ℕ) (bytes before rest : List ℕ) → levels_of plan ≤ levels → HasReplies plan → HasCards plan → bytes ≡ before ++ (plan_text plan ++ rest)
       → node_read levels bytes (length before) ≡ Ok (plan, length (before ++ plan_text plan))
   reads_plan games.Stop levels bytes before rest fits replies cards are =
@@ -177,6 +178,11 @@ mutual
       let said = line_here reply_line bytes before (codes "on " ++ card_text card) (plan_text plan ++ (replies_text later ++ rest)) _ card (card_named-card_text card cards.0).1 (on-said card cards.0) refl here in
       let below = reads_plan plan levels bytes (before ++ first) (replies_text later ++ rest) (omega arith) replies.0 cards.1 (here ∙ sym (append_assoc before first (plan_text plan ++ (replies_text later ++ rest)))) in
       let after = reads_replies later levels bytes (before ++ first ++ plan_text plan) rest (omega arith) replies.1 cards.2
-          (here ∙ sym (append_assoc before first (plan_text plan ++ (replies_text later ++ rest))) ∙ sym (append_assoc (before ++ first) (plan_text plan) (replies_text later ++ rest))) in
+      (here ∙ sym (append_assoc before first (plan_text plan ++ (replies_text later ++ rest))) ∙ sym (append_assoc (before ++ first) (plan_text plan) (replies_text later ++ rest))) in
       replies_read-reply (λ place. node_read levels bytes place) bytes (length before) card (length (before ++ first)) plan (length (before ++ first ++ plan_text plan)) later _ (length (cards_of later)) said below after
       ∙ ap (λ text. Ok (games.Reply card plan later, length text)) (ap (λ text. text ++ replies_text later) (append_assoc before first (plan_text plan)) ∙ append_assoc before (first ++ plan_text plan) (replies_text later))
+
+-- what is written behind some bytes is read back from there, whatever follows
+pub reads_back : (plan : Plan ℕ) (old rest : List ℕ) → levels_of plan ≤ 64 → HasReplies plan → HasCards plan → plan_read ((old ++ plan_text plan) ++ rest) (length old) ≡ Ok (plan, length (old ++ plan_text plan))
+unfolding plan_read
+reads_back plan old rest fits replies cards = reads_plan plan 64 ((old ++ plan_text plan) ++ rest) old rest fits replies cards (append_assoc old (plan_text plan) rest)

@@ -92,14 +92,24 @@ module _ (below : ℕ → Result (Plan ℕ × ℕ) PlanFault) (bytes : List ℕ)
   replies_read-more zero at card next plan end more said is = absurd (omega arith)
   replies_read-more (suc left) at card next plan end more said is = let one : suc left - 1 ≡ left = omega arith in rw (← said, is, one) (after_one card plan (replies_read below left bytes end))
 
-  -- one turn of a reader of replies
+  -- a reader of replies comes to a line that isn't one,
+  pub replies_read-stray : (whole : Result (Replies ℕ × ℕ) PlanFault) (earlier : List Answer) (left at : ℕ) → 0 < left → None ≡ said_at reply_line bytes at
+      → whole ≡ after_answers earlier (replies_read below left bytes at) → whole ≡ Err (Line at)
+  replies_read-stray whole earlier left at more said so_far = so_far ∙ ap (after_answers earlier) (replies_read-none left at more said)
+
+  -- to a fault in a reply's plan,
+  pub replies_read-broken : (whole : Result (Replies ℕ × ℕ) PlanFault) (earlier : List Answer) (left at card next : ℕ) (fault : PlanFault) → 0 < left → Some (card, next) ≡ said_at reply_line bytes at → below next ≡ Err fault
+      → whole ≡ after_answers earlier (replies_read below left bytes at) → whole ≡ Err fault
+  replies_read-broken whole earlier left at card next fault more said broken so_far = so_far ∙ ap (after_answers earlier) (replies_read-fault left at card next fault more said broken)
+
+  -- to one more reply,
   pub replies_read-turn : (whole : Result (Replies ℕ × ℕ) PlanFault) (earlier : List Answer) (left at card next : ℕ) (plan : Plan ℕ) (end : ℕ)
       → 0 < left → Some (card, next) ≡ said_at reply_line bytes at → below next ≡ Ok (plan, end) → whole ≡ after_answers earlier (replies_read below left bytes at)
       → whole ≡ after_answers (earlier ++ record { card = card; plan = plan } ∷ []) (replies_read below (left - 1) bytes end)
   replies_read-turn whole earlier left at card next plan end more said is so_far =
       so_far ∙ ap (after_answers earlier) (replies_read-more left at card next plan end more said is) ∙ sym (after_answers-append earlier (record { card = card; plan = plan } ∷ []) (replies_read below (left - 1) bytes end))
 
-  -- and its end
+  -- and to the end
   pub replies_read-end : (whole : Result (Replies ℕ × ℕ) PlanFault) (answers : List Answer) (left at : ℕ) → left ≡ 0
       → whole ≡ after_answers answers (replies_read below left bytes at) → whole ≡ Ok (answers_of answers, at)
   replies_read-end whole answers zero at none so_far = so_far ∙ ap (λ rs. Ok (rs, at)) (answers_onto-none answers)

@@ -74,8 +74,8 @@ double_dummy = record {
       let at = table_of n s among in
       play.makes_against_each_card s (state_of n s sound among) (rw at (going_on n.table live)) (rw at theirs)
       ∙ all_from (λ c. makes (after s c)) (legal_in s) (λ c h.
-        let legal = has_card-from_Contains (legal_in s) c h in
-        each c (Contains-from_has_card (choices n) c (play.what_is_legal_is_a_choice n c s sound among legal)) legal);
+      let legal = has_card-from_Contains (legal_in s) c h in
+      each c (Contains-from_has_card (choices n) c (play.what_is_legal_is_a_choice n c s sound among legal)) legal);
 }
 
 pub settled : IsSettled bridge IsNode

@@ -9,4 +9,7 @@ pub mod plan_reader;
 pub mod plan_text;
 
 pub use plan::{Plan, Reply};
-pub use plan_reader::{PlanFault, read_plan};
+pub use plan_reader::{PlanFault, plan_text_reads_back, read_plan};
+
+#[cfg(test)]
+mod tests;

@@ -1,11 +1,13 @@
 //! A plan read from text.
-ghost use Rattle.std.specs.Prelude.{◌≡◌, ◌≤◌, ◌<◌, ◌⊎◌, ◌+◌, length, IfOk, IfErr, IfSome, bytes_eq, position, ◌==◌, Ok, Err, List, ℕ};
+ghost use Rattle.std.specs.Prelude.{◌≡◌, ◌≤◌, ◌<◌, ◌⊎◌, ◌+◌, ◌++◌, length, IfOk, IfErr, IfSome, bytes_eq, position, ◌==◌, Ok, Err, List, ℕ};
 ghost use Rattle.std.specs.Fmt.{decimal};
 ghost use Rattle.std.specs.Option.{option_copied};
 ghost use Rattle.strategy_tree.specs.PlanMeaning.{plan_of, replies_of};
+ghost use Rattle.strategy_tree.specs.PlanText.{plan_text, levels_of, HasReplies};
 ghost use Rattle.strategy_tree.specs.PlanRead.{text_after, number_named, card_named, play_said, hear_said, plan_line, reply_line, line_at, said_at, node_read, replies_read, plan_read};
 
 use crate::plan::{Plan, Reply};
+use am_outside::Text;
 use card_letters::read_card;
 use card_sets::Card;
 use std::alloc::{AllocError, Global};
@@ -60,6 +62,30 @@ pub fn read_plan(alloc: Global, bytes: &[u8], start: usize) -> Result<(Plan, usi
     read_node(alloc, bytes, start, MAX_LEVELS)
 }
 
+/// Law: what is written of a plan of at most 64 levels, each defender's node of which has 1 to 52 replies, is read back,
+/// whatever follows, and ends where the text ended.
+///
+/// Appends the lines of the plan to a text, and reads them from the text's old end.
+pub fn plan_text_reads_back(
+    alloc: Global,
+    plan: &Plan,
+    out: &mut Text,
+) -> Result<(Plan, usize), PlanFault>
+    ensures appended { (out.new ≡ out.old ++ plan_text (plan_of plan.now))
+        ⊎ ((out.new ≡ out.old) × (result ≡ Err PlanFault.Memory)) }
+    ensures same_plan { levels_of (plan_of plan.now) ≤ 64 → HasReplies (plan_of plan.now)
+        → IfOk result (λ read. (plan_of read.0 ≡ plan_of plan.now) × (read.1 ≡ length out.new)) }
+    ensures memory { levels_of (plan_of plan.now) ≤ 64 → HasReplies (plan_of plan.now)
+        → IfErr result (λ fault. fault ≡ PlanFault.Memory) }
+    ensures whatever_follows { levels_of (plan_of plan.now) ≤ 64 → HasReplies (plan_of plan.now)
+        → (rest : List ℕ) → IfOk result
+        (λ _. plan_read (out.new ++ rest) (length out.old) ≡ Ok (plan_of plan.now, length out.new)) }
+{
+    let start = out.bytes().len();
+    plan.lines(alloc, out)?;
+    read_plan(alloc, out.bytes(), start)
+}
+
 // The same where a plan may have so many levels.
 #[cycle(read)]
 fn read_node(alloc: Global, bytes: &[u8], at: usize, levels: u8) -> Result<(Plan, usize), PlanFault>
@@ -91,7 +117,13 @@ fn read_node(alloc: Global, bytes: &[u8], at: usize, levels: u8) -> Result<(Plan
 
 // So many replies, whose plans may have so many levels.
 #[cycle(read)]
-fn read_replies(alloc: Global, bytes: &[u8], start: usize, levels: u8, count: u8) -> Result<(Vec<Reply>, usize), PlanFault>
+fn read_replies(
+    alloc: Global,
+    bytes: &[u8],
+    start: usize,
+    levels: u8,
+    count: u8,
+) -> Result<(Vec<Reply>, usize), PlanFault>
     requires { start ≤ length bytes.now }
     ensures read { IfOk result
         (λ read. replies_read (λ at. node_read levels bytes.now at) count bytes.now start ≡ Ok (replies_of read.0.items, read.1)) }

@@ -1,7 +1,8 @@
 //! A plan in text: its lines, as reports print them.
-ghost use Rattle.std.specs.Prelude.{◌≡◌, ◌<◌, ◌++◌, OnOk, OnErr, vec_len};
-ghost use Rattle.strategy_tree.specs.PlanMeaning.{plan_of, answer_of, replies_of};
-ghost use Rattle.strategy_tree.specs.PlanText.{stop_line, play_line, hear_line, on_line, plan_text, replies_text};
+ghost use Rattle.std.specs.Prelude.{◌≡◌, ◌<◌, ◌++◌, OnOk, OnErr};
+ghost use Rattle.card_letters.specs.Letters.{card_text};
+ghost use Rattle.strategy_tree.specs.PlanMeaning.{plan_of, replies_of};
+ghost use Rattle.strategy_tree.specs.PlanText.{line_of, hear_line, plan_text, replies_text, HasCards, HaveCards};
 
 use crate::plan::{Plan, Reply};
 use am_outside::Text;
@@ -15,6 +16,7 @@ impl Plan {
     /// Where memory is refused, the text is unchanged.
     pub fn lines(&self, alloc: Global, out: &mut Text) -> Result<(), AllocError>
         ensures appended { OnOk result (out.new ≡ out.old ++ plan_text (plan_of self.now)) }
+        ensures cards { OnOk result (HasCards (plan_of self.now)) }
         ensures unchanged { OnErr result (out.new ≡ out.old) }
     {
         let mut lines = Text::new(alloc);
@@ -26,12 +28,13 @@ impl Plan {
 // Appends the lines of a plan, or some of them where memory is refused.
 #[cycle(write)]
 fn write_plan(plan: &Plan, alloc: Global, out: &mut Text) -> Result<(), AllocError>
-    ensures { OnOk result (out.new ≡ out.old ++ plan_text (plan_of plan.now)) }
+    ensures appended { OnOk result (out.new ≡ out.old ++ plan_text (plan_of plan.now)) }
+    ensures cards { OnOk result (HasCards (plan_of plan.now)) }
 {
     match plan {
         Plan::Stop => out.push(b"stop\n"),
         Plan::Play(card, rest) => {
-            write_play(*card, out)?;
+            write_card(b"play ", *card, out)?;
             write_plan(rest, alloc, out)
         }
         Plan::Hear(replies) => {
@@ -44,29 +47,23 @@ fn write_plan(plan: &Plan, alloc: Global, out: &mut Text) -> Result<(), AllocErr
 // The same of the replies to a defender.
 #[cycle(write)]
 fn write_replies(replies: &[Reply], alloc: Global, out: &mut Text) -> Result<(), AllocError>
-    ensures { OnOk result (out.new ≡ out.old ++ replies_text (replies_of replies.now)) }
+    ensures appended { OnOk result (out.new ≡ out.old ++ replies_text (replies_of replies.now)) }
+    ensures cards { OnOk result (HaveCards (replies_of replies.now)) }
 {
     for reply in replies {
-        write_on(reply.card, out)?;
+        write_card(b"on ", reply.card, out)?;
         write_plan(&reply.plan, alloc, out)?;
     }
     Ok(())
 }
 
-#[tactic(auto, unfolding(crate::specs::PlanText::play_line))]
-fn write_play(card: Card, out: &mut Text) -> Result<(), AllocError>
-    ensures { OnOk result (out.new ≡ out.old ++ play_line card) }
+// Appends a line with a word and a card.
+fn write_card(word: &[u8], card: Card, out: &mut Text) -> Result<(), AllocError>
+    ensures appended { OnOk result (out.new ≡ out.old ++ line_of (word.now ++ card_text card)) }
+    ensures one_of_52 { card < 52 }
 {
-    out.push(b"play ")?;
-    out.push(&card_text(card))?;
-    out.push(b"\n")
-}
-
-#[tactic(auto, unfolding(crate::specs::PlanText::on_line))]
-fn write_on(card: Card, out: &mut Text) -> Result<(), AllocError>
-    ensures { OnOk result (out.new ≡ out.old ++ on_line card) }
-{
-    out.push(b"on ")?;
+    let _number = card.number();
+    out.push(word)?;
     out.push(&card_text(card))?;
     out.push(b"\n")
 }

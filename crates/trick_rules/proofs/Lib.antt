@@ -1,6 +1,7 @@
 pub mod CardLists
 pub mod Turns
 pub mod Soundness
+pub mod BetweenTricks
 pub mod States
 pub mod Decisions
 pub mod DoubleDummy

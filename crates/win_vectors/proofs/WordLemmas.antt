@@ -44,9 +44,9 @@ pub either_of-bools : (w a b : ℕ) → either_of (bools w a) (bools w b) ≡ bo
 either_of-bools w a b =
     let long : length (either_of (bools w a) (bools w b)) ≡ w = length-either_of (bools w a) (bools w b) (length-bools w a ∙ sym (length-bools w b)) ∙ length-bools w a in
     sym (bools-from w (bit_or a b) (either_of (bools w a) (bools w b)) long (λ i d within.
-        let in_first : i < length (bools w a) = rw (length-bools w a) within in
-        let in_second : i < length (bools w b) = rw (length-bools w b) within in
-        get_or-either_of (bools w a) (bools w b) i d in_first in_second ∙ rw (get_or-bools w a i d within, get_or-bools w b i d within, has_bit-or a b i) refl))
+    let in_first : i < length (bools w a) = rw (length-bools w a) within in
+    let in_second : i < length (bools w b) = rw (length-bools w b) within in
+    get_or-either_of (bools w a) (bools w b) i d in_first in_second ∙ rw (get_or-bools w a i d within, get_or-bools w b i d within, has_bit-or a b i) refl))
 
 -- ---- dominance
 

@@ -14,5 +14,5 @@ abbrev pub invariant-read_replies-loop : goal.invariant-read_replies-loop
 invariant-read_replies-loop l = record {
   within : l.at ≤ length l.bytes;
   so_far : replies_read (λ at. node_read l.levels l.bytes at) l.count l.bytes l.start
-      ≡ after_answers (map answer_of l.replies.items) (replies_read (λ at. node_read l.levels l.bytes at) (l.count - l.counter) l.bytes l.at)
+      ≡ after_answers (map answer_of l.replies.items) (replies_read (λ at. node_read l.levels l.bytes at) (l.count - l.counter) l.bytes l.at);
 }

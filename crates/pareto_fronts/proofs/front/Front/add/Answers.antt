@@ -45,3 +45,6 @@ invariant_of-self c = record {
 
 pub returns-clause-reduced : goal.returns-clause-reduced
 returns-clause-reduced c = rw (← c.self.view_is) (added_is c)
+
+pub returns-clause-front : goal.returns-clause-front
+returns-clause-front c = invariant_of-self c

@@ -10,7 +10,7 @@ loop-vector-preserved c =
     elim c.if-not-is_covered.branch [
       | then-not-is_covered w ↦
           rw w.self-is (Unites-more c.args.self.now items done c.vector-item.result c.loop-vector.self w.add.new.self c.loop-vector-test.true c.vector-item.is c.loop-vector.invariant
-          w.add.ensures.width w.add.ensures.reduced w.add.ensures.longer w.add.ensures.room)
+          w.add.ensures.front w.add.ensures.width w.add.ensures.reduced w.add.ensures.longer w.add.ensures.room)
       | else-not-is_covered w ↦
           let above : Covers c.loop-vector.self.vectors c.vector-item.result = rw (← c.self-in-loop-vector.view_is, ← c.as_slice.ensures) (c.is_covered.ensures.0 w.if-not-is_covered.false) in
           rw w.self-is (Unites-covered c.args.self.now items done c.vector-item.result c.loop-vector.self c.loop-vector-test.true c.vector-item.is c.loop-vector.invariant above)

@@ -8,10 +8,10 @@ invariant_of-result c =
     let same = widths-same c.self.inside.width c.self.inside.bits c.other.inside.width c.other.inside.bits c.args.self c.args.other c.self.view_is c.other.view_is c.requires in
     let fits : c.other.inside.bits < 2 ^ c.self.inside.width = rw same c.other.invariant.fits in
     record {
-        low = c.self.invariant.low;
-        high = c.self.invariant.high;
-        fits = or_lt c.self.inside.width c.self.inside.bits c.other.inside.bits c.self.invariant.fits fits;
-      }
+      low = c.self.invariant.low;
+      high = c.self.invariant.high;
+      fits = or_lt c.self.inside.width c.self.inside.bits c.other.inside.bits c.self.invariant.fits fits;
+    }
 
 pub returns : goal.returns
 returns c =
