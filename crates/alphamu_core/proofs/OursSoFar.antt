@@ -10,7 +10,7 @@ use Rattle.strategy_tree.specs.Bridge.{bridge}
 use Rattle.strategy_tree.proofs.CardLists.{has_card-from_Contains}
 use Rattle.strategy_tree.proofs.Rules.{going_on}
 use Rattle.strategy_tree.proofs.BridgeLaws.{steps}
-use Rattle.alphamu_core.specs.Findings.{IsFrontAt}
+use Rattle.front_table.specs.Proven.{IsFrontAt}
 use Rattle.alphamu_core.proofs.Tried.{HasTried, tried_none, tried_choice, tried_more, tried_all, size_after}
 use Rattle.alphamu_core.proofs.OpenNodes.{some_moves, is_open, fewer_cards, length-our_child}
 

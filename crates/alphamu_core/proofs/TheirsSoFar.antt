@@ -20,7 +20,7 @@ use Rattle.strategy_tree.proofs.CardLists.{any_from, has_card-from_Contains}
 use Rattle.strategy_tree.proofs.Rules.{going_on, settled}
 use Rattle.strategy_tree.proofs.BridgeLaws.{one_front, steps}
 use Rattle.strategy_tree.proofs.BridgeNodes.{mask-bridge, length-states, length-child_lefts}
-use Rattle.alphamu_core.specs.Findings.{IsFrontAt}
+use Rattle.front_table.specs.Proven.{IsFrontAt}
 use Rattle.alphamu_core.proofs.Tried.{HasTried, tried_none, tried_choice, tried_more, tried_all}
 use Rattle.alphamu_core.proofs.OpenNodes.{is_open, fewer_cards}
 use Rattle.alphamu_core.proofs.Leaves.{front_of_reduced}

@@ -5,7 +5,7 @@ ghost use Rattle.trick_rules.specs.Nodes.{states};
 ghost use Rattle.strategy_games.specs.Plans.{stops, tree_size};
 ghost use Rattle.strategy_tree.specs.Bridge.{bridge};
 ghost use Rattle.alphamu_core.specs.Costs.{Costs};
-ghost use Rattle.alphamu_core.specs.Findings.{IsFrontAt};
+ghost use Rattle.front_table.specs.Proven.{IsFrontAt};
 
 use crate::answers::SearchFault;
 use crate::budget::Budget;

@@ -1,7 +1,6 @@
 //! A front that is proved to be the front of its node.
 ghost use Rattle.std.specs.Prelude.{◌≡◌};
-ghost use Rattle.strategy_games.specs.Plans.{IsFront};
-ghost use Rattle.strategy_tree.specs.Bridge.{bridge};
+ghost use Rattle.front_table.specs.Proven.{IsFrontAt};
 
 use pareto_fronts::Front;
 use std::marker::Model;
@@ -16,21 +15,19 @@ pub struct ProvenFront {
 }
 
 impl Model for ProvenFront {
-    ghost use Rattle.strategy_games.specs.Plans.{IsFront};
-    ghost use Rattle.strategy_tree.specs.Bridge.{bridge};
-    ghost use Rattle.front_table.specs.Proven.{ProvenValue};
+    ghost use Rattle.front_table.specs.Proven.{ProvenValue, IsFrontAt};
 
     ghost Value = { ProvenValue };
 
     ghost view = { λ proven. record { node = proven.node; moves = proven.moves; front = proven.front } };
 
-    ghost invariant = { λ proven. IsFront bridge proven.node proven.moves proven.front.vectors };
+    ghost invariant = { λ proven. IsFrontAt proven.node proven.moves proven.front };
 }
 
 impl ProvenFront {
     /// An entry, of a front that is proved.
     pub fn new(node: Node, moves: u8, front: Front) -> ProvenFront
-        requires { IsFront bridge node moves front.vectors }
+        requires { IsFrontAt node moves front }
         ensures { result ≡ record { node = node; moves = moves; front = front } }
     {
         ProvenFront { node, moves, front }
@@ -51,7 +48,7 @@ impl ProvenFront {
 
     pub fn front(&self) -> &Front
         ensures value { result.now ≡ self.now.front }
-        ensures proven { IsFront bridge self.now.node self.now.moves self.now.front.vectors }
+        ensures proven { IsFrontAt self.now.node self.now.moves self.now.front }
     {
         &self.front
     }

@@ -1,7 +1,6 @@
 //! Where a search looks for fronts that are known already.
 ghost use Rattle.std.specs.Prelude.{◌≡◌, ◌≢◌, ◌≤◌, ⊤, Bool, true, length, IsTrue};
-ghost use Rattle.strategy_games.specs.Plans.{IsFront};
-ghost use Rattle.strategy_tree.specs.Bridge.{bridge};
+ghost use Rattle.front_table.specs.Proven.{IsFrontAt};
 ghost use Rattle.front_table.specs.Stores.{HandsBack};
 
 use crate::ProvenFront;
@@ -45,7 +44,7 @@ pub trait FrontStore {
     fn look(&mut self, node: &Node, moves: u8, out: &mut Front) -> Look
         requires width { out.old.width ≡ length node.now.lefts }
         requires room { 64 ≤ out.old.room }
-        ensures hit { result ≡ Look.Hit → IsFront bridge node.now moves out.new.vectors }
+        ensures hit { result ≡ Look.Hit → IsFrontAt node.now moves out.new }
         ensures width { out.new.width ≡ out.old.width }
         ensures room { out.old.room ≤ out.new.room }
         ensures unchanged { result ≢ Look.Hit → out.new ≡ out.old }

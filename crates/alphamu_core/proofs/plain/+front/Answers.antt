@@ -2,7 +2,7 @@ use Rattle.std.proofs.Common.{◌≡◌, ◌∙◌, ◌-◌, refl, sym, subst, a
 use Rattle.strategy_tree.proofs.BridgeLaws.{sizes}
 use Rattle.strategy_tree.proofs.BridgeNodes.{stopped}
 use Rattle.alphamu_core.specs.declared.answers.SearchFault.TheVariants.{Memory}
-use Rattle.alphamu_core.specs.Findings.{IsFrontAt}
+use Rattle.front_table.specs.Proven.{IsFrontAt}
 use Rattle.alphamu_core.proofs.Tried.{costs_before, costs_below, costs_after, costs_all}
 use Rattle.alphamu_core.proofs.OpenNodes.{size_ours, size_theirs}
 use Rattle.alphamu_core.proofs.OursSoFar.{ours_none, ours_fewer, ours_width, ours_more, ours_all}
