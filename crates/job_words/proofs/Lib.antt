@@ -1,3 +1,4 @@
 mod CommandLemmas
 mod NumberLemmas
+mod PlainLemmas
 mod TextLemmas

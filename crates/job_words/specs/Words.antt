@@ -1,8 +1,9 @@
 -- What the words of the command line ask for.
-use Rattle.std.specs.Prelude.{◌≡◌, ◌≤◌, ◌<◌, ◌*◌, ◌-◌, ◌^◌, ℕ, Bool, true, not, List, Option, Some, None, codes, nat_le, option_and_then, if◌then◌else◌}
+use Rattle.std.specs.Prelude.{◌≡◌, ◌≤◌, ◌<◌, ◌*◌, ◌-◌, ◌^◌, ℕ, Bool, true, not, List, [], ◌∷◌, Option, Some, None, codes, nat_le, option_and_then, if◌then◌else◌}
 use Rattle.std.specs.List.{list_any}
 use Rattle.std.specs.Str.{bytes_eq}
 use Rattle.job_words.specs.declared.Job.{Job}
+use Rattle.job_words.specs.declared.Job.TheVariants.{Solve, Card}
 use Rattle.job_words.specs.Options.{OptionValues, options_read}
 use Rattle.job_words.specs.Values.{file_name, is_value, job_named, number_in, number_or}
 use Rattle.job_words.specs.Table.{keeps_to, uses_by}
@@ -69,6 +70,31 @@ has_two_dashes = list_any (λ word. bytes_eq word (codes "--"))
 -- what the words ask for, where they ask for anything
 unfoldable pub words_read : List (List ℕ) → Option AskValue
 words_read words = if has_two_dashes words then None else options_read words >>= ask_in
+
+-- the name of a job
+abbrev pub job_name : Job → List ℕ
+job_name Solve = codes "solve"
+job_name Card = codes "card"
+
+-- the plain words for a job, two files and a number of moves
+abbrev pub plain_words : Job → List ℕ → List ℕ → List ℕ → List (List ℕ)
+plain_words job deal layouts moves =
+    codes "--job" ∷ job_name job ∷ codes "--deal" ∷ deal ∷ codes "--layouts" ∷ layouts ∷ codes "--moves" ∷ moves ∷ []
+
+-- the ask for them, which is otherwise the default
+abbrev pub plain_ask : Job → List ℕ → List ℕ → ℕ → AskValue
+plain_ask job deal layouts moves = record {
+  job = job;
+  deal = deal;
+  layouts = layouts;
+  moves = moves;
+  nodes = 10000000;
+  workers = 1;
+  shards = 16;
+  room = 16384;
+  table = true;
+  cuts = true;
+}
 
 -- the limits that an ask keeps
 pub record IsWithinLimits (ask : AskValue) : Type 0 where

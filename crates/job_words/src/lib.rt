@@ -3,8 +3,10 @@
 //! Its contract promises the one ask that the grammar of the words gives, or the refusal of all other words.
 #![tactic(auto)]
 
-ghost use Rattle.std.specs.Prelude.{◌≡◌, ◌≤◌, ◌*◌, IfOk, IfSome, option_map};
-ghost use Rattle.job_words.specs.Words.{IsWithinLimits, ask_in, has_two_dashes, job_in, table_in, words_read};
+ghost use Rattle.std.specs.Prelude.{◌≡◌, ◌≤◌, ◌*◌, ℕ, List, Some, IfOk, IfSome, option_map, true};
+ghost use Rattle.job_words.specs.Words.{IsWithinLimits, ask_in, has_two_dashes, job_in, plain_ask, plain_words, table_in, words_read};
+ghost use Rattle.job_words.specs.Values.{is_value, number_in};
+ghost use Rattle.job_words.specs.declared.Job.{Job};
 ghost use Rattle.job_words.specs.Options.{options_of};
 ghost use Rattle.job_words.specs.Asks.{ask_of, texts_of};
 
@@ -67,6 +69,13 @@ pub fn read_words<'a>(alloc: Global, words: &'a [String]) -> Result<Option<Ask<'
         None => Ok(None),
     }
 }
+
+/// The plain words for a job, two files and a number of moves ask for just that, whatever the names of the files.
+pub fn plain_words_are_read()
+    ensures { (job : Job) (deal layouts moves : List ℕ) (number : ℕ) → is_value deal ≡ true
+        → is_value layouts ≡ true → number_in 1 26 moves ≡ Some number
+        → words_read (plain_words job deal layouts moves) ≡ Some (plain_ask job deal layouts number) }
+{}
 
 fn has_two_dashes(words: &[String]) -> bool
     ensures { result ≡ has_two_dashes (texts_of words.now) }
