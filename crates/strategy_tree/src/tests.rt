@@ -98,7 +98,10 @@ fn lines_are_appended_whole_or_not_at_all(rt: HostRuntime) -> Result<(), Fail> {
     let mut out = Text::new(alloc);
     out.push(b"before")?;
     let appended = plan.lines(alloc, &mut out).is_ok();
-    assert_eq!(rt; out.bytes().len(), if appended { 6 + WORKED.len() } else { 6 });
+    assert_eq!(rt;
+        out.bytes().len(),
+        if appended { 6 + WORKED.len() } else { 6 }
+    );
     assert_eq!(rt; &out.bytes()[..6], b"before".as_slice());
     Ok(())
 }
