@@ -1,7 +1,7 @@
 //! What a search answers.
 use card_sets::Card;
 use pareto_fronts::Front;
-use std::alloc::AllocError;
+use std::alloc::{AllocError, AllocFailed};
 use thiserror::Error;
 
 /// What a search finds.
@@ -34,6 +34,17 @@ impl From<AllocError> for SearchFault {
     }
 }
 
+impl<T: Drop> From<AllocFailed<T>> for SearchFault {
+    ghost use Rattle.std.specs.Prelude.{◌≡◌};
+    ghost use Rattle.alphamu_core.specs.declared.answers.SearchFault.TheVariants.{Memory};
+
+    ghost from_gives = { λ _ fault. fault ≡ Memory };
+
+    fn from(_: AllocFailed<T>) -> Self {
+        SearchFault::Memory
+    }
+}
+
 /// Why a loop over root cards ends with no answer.
 #[derive(Clone, Copy, Debug, PartialEq, Eq, Error)]
 pub enum RootFault {
@@ -51,6 +62,17 @@ impl From<AllocError> for RootFault {
     ghost from_gives = { λ _ fault. fault ≡ Memory };
 
     fn from(_: AllocError) -> Self {
+        RootFault::Memory
+    }
+}
+
+impl<T: Drop> From<AllocFailed<T>> for RootFault {
+    ghost use Rattle.std.specs.Prelude.{◌≡◌};
+    ghost use Rattle.alphamu_core.specs.declared.answers.RootFault.TheVariants.{Memory};
+
+    ghost from_gives = { λ _ fault. fault ≡ Memory };
+
+    fn from(_: AllocFailed<T>) -> Self {
         RootFault::Memory
     }
 }

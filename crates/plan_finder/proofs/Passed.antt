@@ -1,5 +1,5 @@
 -- The cards of declarer's side that don't keep a vector.
-use Rattle.std.proofs.Common.{◌≡◌, ◌∙◌, ◌-◌, ◌<◌, ◌≤◌, ◌*◌, ◌+◌, ◌++◌, ℕ, suc, true, false, List, [], ◌∷◌, Contains, refl, sym, ap, subst, append_assoc, arith, ⊎_elim}
+use Rattle.std.proofs.Common.{◌≡◌, ◌∙◌, ◌-◌, ◌<◌, ◌≤◌, ◌*◌, ◌+◌, ◌++◌, ℕ, suc, true, false, List, [], ◌∷◌, Contains, length, refl, sym, ap, subst, append_assoc, arith, ⊎_elim}
 use Rattle.std.proofs.lemmas.List.{append-nil}
 use Rattle.card_sets.specs.SetWords.{IsCardSet}
 use Rattle.card_sets.proofs.Sets.{tail-after}
@@ -14,10 +14,10 @@ use Rattle.strategy_tree.specs.Bridge.{bridge}
 use Rattle.strategy_tree.proofs.CardLists.{has_card-from_Contains}
 use Rattle.strategy_tree.proofs.BridgeLaws.{chosen_plan}
 use Rattle.front_table.specs.Proven.{IsFrontAt}
-use Rattle.alphamu_core.proofs.OpenNodes.{some_moves, is_open}
+use Rattle.alphamu_core.proofs.OpenNodes.{some_moves, is_open, length-our_child}
 use Rattle.plan_finder.specs.Targets.{IsOfFront}
 use Rattle.plan_finder.specs.Choices.{IsSpentAt}
-use Rattle.plan_finder.proofs.Picks.{picked}
+use Rattle.plan_finder.proofs.Picks.{length-of_front, picked}
 
 -- after none of the cards that were passed some vector of the front dominates this one
 pub record NoneKeeps (n : Layouts) (moves : ℕ) (vector : Vector) (cards : List ℕ) : Type 0 where
@@ -66,6 +66,10 @@ module _ (n : Layouts) (moves : ℕ) (vector : Vector) where
           larger = subst (λ (m : Layouts). nodes < tree_size bridge m (moves - 1)) is_child larger;
           not_after = not_before set;
         }
+
+        pub same_width : (found : FrontValue) → bridge.is_ours n ≡ true → IsOfFront n moves vector → IsFrontAt m (moves - 1) found → length vector ≡ found.width
+        same_width found ours of front =
+            length-of_front n moves vector of ∙ sym (length-our_child n card ours (has_card-from_Contains (choices n) card next_choice)) ∙ ap (λ (m : Layouts). length m.lefts) (sym is_child) ∙ sym front.width
 
         module _ (found : FrontValue) (front : IsFrontAt m (moves - 1) found) where
           here : IsFrontAt (child n card) (moves - 1) found

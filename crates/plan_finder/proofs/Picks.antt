@@ -1,18 +1,22 @@
 -- The vector that a plan goes on with.
-use Rattle.std.proofs.Common.{◌≡◌, ◌∙◌, ◌-◌, ◌<◌, ◌≤◌, ℕ, zero, suc, true, false, List, Contains, length, refl, sym, ap, subst, inl, true≢false, arith}
+use Rattle.std.proofs.Common.{◌≡◌, ◌∙◌, ◌-◌, ◌+◌, ◌*◌, ◌<◌, ◌≤◌, ℕ, zero, suc, Bool, true, false, Result, Ok, Err, IsErrAnd, IsErrOf, List, Contains, length, refl, sym, ap, subst, inl, true≢false, arith}
 use Rattle.win_vectors.specs.Fronts.{Vector, IsFirstAbove, Covers}
 use Rattle.win_vectors.proofs.Orders.{Dominates-refl}
 use Rattle.pareto_fronts.specs.FrontValue.{FrontValue}
+use Rattle.trick_rules.specs.Play.{cards_left}
+use Rattle.trick_rules.specs.Nodes as nodes
 use Rattle.trick_rules.specs.Nodes.{Layouts, IsNode, choices, child}
+use Rattle.trick_rules.proofs.PlayLaws as play
 use Rattle.strategy_games.specs.Plans.{Plan, Replies, Stop, Play, Hear, cards_of, stops, tree_size, CanWin, IsFront}
 use Rattle.strategy_games.specs.Choosing.{Keeps, IsFirstOf, IsPick, IsChosenPlan, AreChosenReplies}
 use Rattle.strategy_games.proofs.Fronts.{front_unique, first_above_unique}
 use Rattle.strategy_games.proofs.Lists.{All-at, first_unique, first_is_member}
 use Rattle.strategy_tree.specs.Bridge.{bridge}
+use Rattle.strategy_tree.proofs.CardLists.{has_card-from_Contains}
 use Rattle.strategy_tree.proofs.BridgeLaws.{one_front, sizes}
-use Rattle.strategy_tree.proofs.BridgeNodes.{length-states}
+use Rattle.strategy_tree.proofs.BridgeNodes.{length-states, stops-bridge}
 use Rattle.front_table.specs.Proven.{IsFrontAt}
-use Rattle.alphamu_core.proofs.OpenNodes.{some_moves, is_open}
+use Rattle.alphamu_core.proofs.OpenNodes.{some_moves, fewer_cards}
 use Rattle.plan_finder.specs.Targets.{IsOfFront}
 use Rattle.plan_finder.specs.TooLarge.{IsTooLarge}
 use Rattle.plan_finder.specs.Choices.{IsFirstChoice, IsSpentAt}
@@ -100,3 +104,30 @@ larger_than n (suc m) t nodes card sound ours large =
     let below = subst (λ k. nodes < tree_size bridge (child n card) k) less large.larger in
     let part = sizes.declarers_child n m card sound large.goes_on ours large.choice in
     omega arith
+
+-- ---- a node where play goes on
+
+pub open_at : (n : Layouts) (moves : ℕ) (stop : Bool) → stop ≡ nodes.stops n moves → stop ≡ false → stops bridge n moves ≡ false
+open_at n moves stop e off = stops-bridge n moves ∙ sym e ∙ off
+
+pub a_move_left : (n : Layouts) (moves : ℕ) → stops bridge n moves ≡ false → 1 ≤ moves
+a_move_left n moves goes_on = let some = some_moves n moves goes_on in omega arith
+
+-- the node after the first choice, and what the plan goes on with there
+module _ (n : Layouts) (moves : ℕ) (t : Vector) (choice : Choice) (first : IsFirstChoice n moves t choice) where
+  chosen_card : Contains (choices n) choice.card
+  chosen_card = first_is_member (Keeps bridge n (moves - 1) t) (choices n) choice.card first.first
+
+  pub node_after : IsNode n → IsNode choice.child
+  node_after sound = subst (λ (m : Layouts). IsNode m) (sym first.after) (play.a_choice_leads_to_a_node n choice.card sound (has_card-from_Contains (choices n) choice.card chosen_card))
+
+  pub fewer_after : IsNode n → 2 * cards_left choice.child.table + 1 < 2 * cards_left n.table
+  fewer_after sound = fewer_cards n choice.child choice.card sound chosen_card first.after
+
+  pub vector_after : IsOfFront choice.child (moves - 1) choice.vector
+  vector_after = subst (λ (m : Layouts). IsOfFront m (moves - 1) choice.vector) (sym first.after) (picked_of (child n choice.card) (moves - 1) t choice.vector first.goes_on_with)
+
+-- the error that `?` passes on
+pub passed_on : {T E : Type 0} (result : Result T E) (fault named : E) → IsErrAnd result (λ e. e ≡ fault) → IsErrOf result named → fault ≡ named
+passed_on (Ok x) fault named is e = absurd is
+passed_on (Err e) fault named is same = sym is ∙ (let inner : e ≡ named = cc in inner)

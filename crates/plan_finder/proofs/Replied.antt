@@ -1,10 +1,11 @@
 -- The cards of a defender that are replied to.
-use Rattle.std.proofs.Common.{◌≡◌, ◌∙◌, ◌-◌, ◌<◌, ◌≤◌, ◌++◌, ℕ, zero, suc, true, false, List, [], ◌∷◌, Contains, length, refl, sym, ap, subst, append_assoc, true≢false, arith}
+use Rattle.std.proofs.Common.{◌≡◌, ◌∙◌, ◌+◌, ◌*◌, ◌<◌, ◌≤◌, ◌++◌, ℕ, zero, suc, true, false, List, [], ◌∷◌, Contains, length, refl, sym, ap, subst, append_assoc, true≢false, arith}
 use Rattle.std.proofs.lemmas.List.{append-nil}
 use Rattle.win_vectors.specs.Vectors.{ones_of, restrict_of}
 use Rattle.win_vectors.specs.Fronts.{Vector, Covers, IsFirstAbove}
 use Rattle.win_vectors.proofs.Orders.{length-restrict_of}
 use Rattle.pareto_fronts.specs.FrontValue.{FrontValue}
+use Rattle.trick_rules.specs.Play.{cards_left}
 use Rattle.trick_rules.specs.Nodes.{Layouts, IsNode, choices, child, child_mask}
 use Rattle.trick_rules.proofs.PlayLaws as play
 use Rattle.strategy_games.specs.Games.{mask}
@@ -18,9 +19,9 @@ use Rattle.strategy_tree.proofs.CardLists.{has_card-from_Contains}
 use Rattle.strategy_tree.proofs.BridgeLaws.{chosen_plan, sizes}
 use Rattle.strategy_tree.proofs.BridgeNodes.{mask-bridge, length-child_mask, length-child_lefts, some_layout}
 use Rattle.front_table.specs.Proven.{IsFrontAt}
-use Rattle.alphamu_core.proofs.OpenNodes.{is_open}
+use Rattle.alphamu_core.proofs.OpenNodes.{fewer_cards}
 use Rattle.plan_finder.specs.Targets.{IsOfFront}
-use Rattle.plan_finder.proofs.Picks.{length-of_front, picked, chosen_for}
+use Rattle.plan_finder.proofs.Picks.{length-of_front, picked, picked_of, chosen_for}
 
 -- the replies so far are those that are printed for the vector's parts
 pub record RepliedSoFar (n : Layouts) (moves : ℕ) (vector : Vector) (cards : List ℕ) (replies : List Answered) : Type 0 where
@@ -69,15 +70,47 @@ module _ (n : Layouts) (moves : ℕ) (vector : Vector) where
       pub next_reply : Contains (choices n) card
       next_reply = subst (λ cards. Contains cards card) (sym parts) (Contains-append_second (cards_of (replies_of replies)) (card ∷ rest) card (Contains-here card rest))
 
-      pub replied_more : (m : Layouts) (bits : Vector) (found : FrontValue) (above : Vector) (more : List Answered) (reply : Answered) → m ≡ child n card → bits ≡ child_mask n card → IsFrontAt m moves found
-          → IsFirstAbove found.vectors (restrict_of vector bits) above → IsChosenPlan bridge (plan_of reply.plan) m moves above → reply.card ≡ card → more ≡ replies ++ reply ∷ [] → RepliedSoFar n moves vector rest more
-      replied_more m bits found above more reply is_child is_mask front first chosen of_card pushed =
-          let part : restrict_of vector bits ≡ restrict_of vector (mask bridge n card) = ap (restrict_of vector) (is_mask ∙ sym (mask-bridge n card)) in
-          let plan : IsChosenPlan bridge (plan_of reply.plan) m moves (restrict_of vector bits) = chosen_for (plan_of reply.plan) m moves (restrict_of vector bits) above (picked m moves found (restrict_of vector bits) above front first) chosen in
-          let there : IsChosenPlan bridge (plan_of reply.plan) (child n card) moves (restrict_of vector (mask bridge n card)) =
-          subst (λ (t : Vector). IsChosenPlan bridge (plan_of reply.plan) (child n card) moves t) part (subst (λ (m : Layouts). IsChosenPlan bridge (plan_of reply.plan) m moves (restrict_of vector bits)) is_child plan) in
-          let last : IsChosenPlan bridge (plan_of reply.plan) (child n reply.card) moves (restrict_of vector (mask bridge n reply.card)) = subst (λ c. IsChosenPlan bridge (plan_of reply.plan) (child n c) moves (restrict_of vector (mask bridge n c))) (sym of_card) there in
-          subst (λ more. RepliedSoFar n moves vector rest more) (sym pushed) (record {
-            split = parts ∙ sym (append_assoc (cards_of (replies_of replies)) (card ∷ []) rest) ∙ ap (λ cards. cards ++ rest) (ap (λ c. cards_of (replies_of replies) ++ c ∷ []) (sym of_card) ∙ sym (cards-push replies reply));
-            chosen = chosen-push n moves vector replies reply so.chosen last;
-          })
+      module _ {m : Layouts} (is_child : m ≡ child n card) where
+        pub node_below : IsNode n → IsNode m
+        node_below sound = subst (λ (m : Layouts). IsNode m) (sym is_child) (play.a_choice_leads_to_a_node n card sound (has_card-from_Contains (choices n) card next_reply))
+
+        pub fewer_below : IsNode n → 2 * cards_left m.table + 1 < 2 * cards_left n.table
+        fewer_below sound = fewer_cards n m card sound next_reply is_child
+
+        pub spent_below : (nodes : ℕ) → IsNode n → stops bridge n moves ≡ false → bridge.is_ours n ≡ false → nodes < tree_size bridge m moves → nodes < tree_size bridge n moves
+        spent_below nodes sound goes_on theirs larger = larger_below n moves card m nodes sound goes_on theirs next_reply is_child larger
+
+        module _ (bits : Vector) (is_mask : bits ≡ child_mask n card) where
+          pub mask_width : IsOfFront n moves vector → length vector ≡ length bits
+          mask_width of = length-of_front n moves vector of ∙ sym (length-child_mask n card) ∙ ap (λ (v : Vector). length v) (sym is_mask)
+
+          pub mask_some : IsNode n → 1 ≤ ones_of bits
+          mask_some sound = subst (λ (v : Vector). 1 ≤ ones_of v) (sym is_mask) (some_layout n card sound (has_card-from_Contains (choices n) card next_reply))
+
+          module _ (found : FrontValue) (front : IsFrontAt m moves found) where
+            pub part_width : IsOfFront n moves vector → length (restrict_of vector bits) ≡ found.width
+            part_width of =
+                length-restrict_of vector bits (mask_width of) ∙ ap (λ (v : Vector). ones_of v) is_mask ∙ sym (length-child_lefts n card) ∙ ap (λ (m : Layouts). length m.lefts) (sym is_child) ∙ sym front.width
+
+            pub part_above : IsNode n → stops bridge n moves ≡ false → bridge.is_ours n ≡ false → IsOfFront n moves vector → Covers found.vectors (restrict_of vector bits)
+            part_above sound goes_on theirs of = part_covered n moves vector card m bits found sound goes_on theirs of next_reply is_child is_mask front
+
+            module _ {part above : Vector} (of_part : part ≡ restrict_of vector bits) (first : IsFirstAbove found.vectors part above) where
+              picked_here : IsPick bridge m moves (restrict_of vector bits) above
+              picked_here = picked m moves found (restrict_of vector bits) above front (subst (λ t. IsFirstAbove found.vectors t above) of_part first)
+
+              pub above_of : IsOfFront m moves above
+              above_of = picked_of m moves (restrict_of vector bits) above picked_here
+
+              pub replied_more : (more : List Answered) (reply : Answered) → reply.card ≡ card → IsChosenPlan bridge (plan_of reply.plan) m moves above → more ≡ replies ++ reply ∷ [] → RepliedSoFar n moves vector rest more
+              replied_more more reply of_card chosen pushed =
+                  let same : restrict_of vector bits ≡ restrict_of vector (mask bridge n card) = ap (restrict_of vector) (is_mask ∙ sym (mask-bridge n card)) in
+                  let plan : IsChosenPlan bridge (plan_of reply.plan) m moves (restrict_of vector bits) = chosen_for (plan_of reply.plan) m moves (restrict_of vector bits) above picked_here chosen in
+                  let there : IsChosenPlan bridge (plan_of reply.plan) (child n card) moves (restrict_of vector (mask bridge n card)) =
+                  subst (λ (t : Vector). IsChosenPlan bridge (plan_of reply.plan) (child n card) moves t) same (subst (λ (m : Layouts). IsChosenPlan bridge (plan_of reply.plan) m moves (restrict_of vector bits)) is_child plan) in
+                  let last : IsChosenPlan bridge (plan_of reply.plan) (child n reply.card) moves (restrict_of vector (mask bridge n reply.card)) =
+                  subst (λ c. IsChosenPlan bridge (plan_of reply.plan) (child n c) moves (restrict_of vector (mask bridge n c))) (sym of_card) there in
+                  subst (λ more. RepliedSoFar n moves vector rest more) (sym pushed) (record {
+                    split = parts ∙ sym (append_assoc (cards_of (replies_of replies)) (card ∷ []) rest) ∙ ap (λ cards. cards ++ rest) (ap (λ c. cards_of (replies_of replies) ++ c ∷ []) (sym of_card) ∙ sym (cards-push replies reply));
+                    chosen = chosen-push n moves vector replies reply so.chosen last;
+                  })

@@ -48,7 +48,7 @@ pub fn plan_for<S: FrontStore>(
     if node.stops(moves) {
         return Ok(Plan::Stop);
     }
-    prove_eq!(target.width(), node.width());
+    prove!(target.width() == node.width());
     let first = first_choice(alloc, store, solver, node, moves, target, nodes)?;
     match plan_below(alloc, store, solver, &first.child, moves - 1, &first.vector, nodes) {
         Ok(rest) => Ok(Plan::Play(first.card, Box::new(alloc, rest)?)),
@@ -77,7 +77,10 @@ fn plan_below<S: FrontStore>(
     if node.stops(moves) {
         Ok(Plan::Stop)
     } else if node.is_ours() {
-        plan_for(alloc, store, solver, node, moves, vector, nodes).map_err(without_card)
+        match plan_for(alloc, store, solver, node, moves, vector, nodes) {
+            Ok(plan) => Ok(plan),
+            Err(fault) => Err(without_card(fault)),
+        }
     } else {
         Ok(Plan::Hear(replies(alloc, store, solver, node, moves, vector, nodes)?))
     }
