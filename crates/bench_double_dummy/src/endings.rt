@@ -69,10 +69,10 @@ impl Draws {
 /// How many of so many endings are made.
 pub fn made_of(tricks: u8, endings: u64) -> u64 {
     let mut draws = Draws { state: 20_191_118 };
-    let mut made = 0;
+    let mut made: u64 = 0;
     for _ in 0..endings {
         if draws.makes_next(tricks) {
-            made += 1;
+            made = made.saturating_add(1);
         }
     }
     made
