@@ -29,7 +29,9 @@ pub fn skip_blanks(text: &[u8]) -> &[u8]
 fn word_len(text: &[u8]) -> usize
     ensures { result ≡ position_or_len is_blank text.now }
 {
-    text.iter().position(|byte| is_blank(*byte)).unwrap_or(text.len())
+    text.iter()
+        .position(|byte| is_blank(*byte))
+        .unwrap_or(text.len())
 }
 
 /// The first word of a text and what follows it; `None` for a text of blanks alone.
