@@ -4,7 +4,8 @@ use Rattle.std.specs.List.{join_with_byte}
 use Rattle.card_sets.specs.declared.card.Suit.{Suit}
 use Rattle.card_sets.specs.Cards.{card_of}
 use Rattle.card_sets.specs.SetWords.{has_card, IsCardSet}
-use Rattle.card_letters.specs.Letters.{rank_letter}
+use Rattle.card_sets.specs.declared.seat.Compass.TheVariants.{N}
+use Rattle.card_letters.specs.Letters.{rank_letter, compass_letter}
 use Rattle.pbn_deal.specs.Hands.{suit_order}
 use Rattle.pbn_deal.specs.Deal.{has_repeat, are_one_size, shown_sizes}
 
@@ -25,9 +26,13 @@ abbrev pub shown_text : Option (List ℕ) → List ℕ
 shown_text None = 45 ∷ []
 shown_text (Some cards) = hand_text cards
 
+-- hands with one space between them
+unfoldable pub hands_text : List (Option (List ℕ)) → List ℕ
+hands_text hands = join_with_byte 32 (map shown_text hands)
+
 -- the hands of North, East, South and West in the Deal form, from North
-unfoldable pub deal_text : List (Option (List ℕ)) → List ℕ
-deal_text hands = 78 ∷ 58 ∷ join_with_byte 32 (map shown_text hands)
+abbrev pub deal_text : List (Option (List ℕ)) → List ℕ
+deal_text hands = compass_letter N ∷ 58 ∷ hands_text hands
 
 -- the cards of a hand; none where it isn't shown
 abbrev pub shown_cards : Option (List ℕ) → List ℕ

@@ -103,11 +103,16 @@ fn is_one_size(hands: &[Option<CardSet>; 4]) -> bool
 /// The hands of a value in the Deal form: a seat letter, a colon, and four hands clockwise from that seat with blanks between them.
 /// A hand is `-` where it isn't shown, or its suits in the order spades, hearts, diamonds, clubs, with full stops between them.
 /// Ranks are read in both cases and any order, and blanks at both ends don't count. Where the value has several faults, the first in the order of `DealFault` is given. It takes no memory.
+#[tactic(auto, unfolding(crate::specs::Deal::deal_read, crate::specs::Deal::hands_read))]
 pub fn read_deal(value: &[u8]) -> Result<DealValue, DealFault>
     ensures { result ≡ deal_read value.now }
 {
-    let (first, rest) = seat_ahead(skip_blanks(value)).ok_or(DealFault::Seat)?;
-    let words = four_words(rest).ok_or(DealFault::HandCount)?;
+    let Some((first, rest)) = seat_ahead(skip_blanks(value)) else {
+        return Err(DealFault::Seat);
+    };
+    let Some(words) = four_words(rest) else {
+        return Err(DealFault::HandCount);
+    };
     if !words.have_four_suits() {
         return Err(DealFault::SuitCount);
     }

@@ -1,0 +1,5 @@
+pub mod Cards
+pub mod Suits
+pub mod Dealt
+pub mod Sizes
+pub mod Written
