@@ -1,7 +1,8 @@
 //! Hands as they are written in the Deal form.
-ghost use Rattle.std.specs.Prelude.{◌≡◌, [], ◌∷◌, ◌++◌, Option, List, ℕ, Ok, IfOk, OnOk};
-ghost use Rattle.pbn_deal.specs.Deal.{deal_read};
-ghost use Rattle.pbn_deal.specs.Writing.{suit_text, hand_text, shown_text, hands_text, deal_text, IsDeal};
+ghost use Rattle.std.specs.Prelude.{◌≡◌, [], ◌∷◌, ◌++◌, Ok, IfOk, OnOk};
+ghost use Rattle.pbn_deal.specs.declared.deal.DealValue.{DealValue};
+ghost use Rattle.pbn_deal.specs.Deal.{deal_read, IsSoundDeal};
+ghost use Rattle.pbn_deal.specs.Writing.{suit_text, hand_text, shown_text, hands_text, deal_text};
 
 use am_outside::Text;
 use card_letters::{compass_letter, rank_letter};
@@ -87,6 +88,5 @@ pub fn deal_text(alloc: Global, hands: [Option<CardSet>; 4]) -> Result<Text, All
 
 /// What is written in the Deal form is read back as the same hands.
 pub fn deal_text_reads_back()
-    ensures { (north east south west : Option (List ℕ)) → IsDeal north east south west
-        → deal_read (deal_text (north ∷ east ∷ south ∷ west ∷ [])) ≡ Ok (record { hands = north ∷ east ∷ south ∷ west ∷ [] }) }
+    ensures { (deal : DealValue) → IsSoundDeal deal → deal_read (deal_text deal.hands) ≡ Ok deal }
 {}

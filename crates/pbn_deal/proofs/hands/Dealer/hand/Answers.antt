@@ -35,5 +35,5 @@ loop-suit-preserved c =
 pub returns : goal.returns
 returns c =
     let read = IsHandRead-shown c.args.self.now.seen c.loop-suit.self.seen c.loop-suit.hand c.args.word.now (cards_in (drop c.loop-suit.suit-index suit_order) (suits_of c.loop-suit.rest.now)) c.empty-hand.result
-      (sym c.is_hidden.ensures ∙ c.if-is_hidden.false) c.empty-hand.ensures.value (ap (λ suits. cards_in suits (suits_of c.loop-suit.rest.now)) (drop_all c.loop-suit.suit-index suit_order c.loop-suit-test.false)) c.loop-suit.invariant in
+    (sym c.is_hidden.ensures ∙ c.if-is_hidden.false) c.empty-hand.ensures.value (ap (λ suits. cards_in suits (suits_of c.loop-suit.rest.now)) (drop_all c.loop-suit.suit-index suit_order c.loop-suit-test.false)) c.loop-suit.invariant in
     (read.value, read.new, read.adds)

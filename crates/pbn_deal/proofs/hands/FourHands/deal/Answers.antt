@@ -19,10 +19,12 @@ returns-in_err-second c =
     let b = hand_cards s.second.now in
     let after_b = hand_cards s.third.now ++ (hand_cards s.fourth.now ++ []) in
     let p = err_from_is_err_and c.from_residual-in_err-second.result c.from_residual-in_err-second.ensures.1 in
-    rw (p.1, p.2) (c.in_err-second.ensures.0,
+    rw (p.1, p.2) (
+      c.in_err-second.ensures.0,
       sym (repeats-start c.new-dealer.result.seen (a ++ (b ++ after_b)) c.new-dealer.ensures)
-      ∙ repeats-rest c.new-dealer.result.seen c.hand.new.self.seen a (b ++ after_b) c.in_ok-first.ensures.1 c.in_ok-first.ensures.2
-      ∙ repeats-front c.hand.new.self.seen b after_b c.in_err-second.ensures.1)
+          ∙ repeats-rest c.new-dealer.result.seen c.hand.new.self.seen a (b ++ after_b) c.in_ok-first.ensures.1 c.in_ok-first.ensures.2
+          ∙ repeats-front c.hand.new.self.seen b after_b c.in_err-second.ensures.1,
+    )
 
 pub returns-in_err-third : goal.returns-in_err-third
 returns-in_err-third c =
@@ -32,11 +34,13 @@ returns-in_err-third c =
     let d = hand_cards s.third.now in
     let after_d = hand_cards s.fourth.now ++ [] in
     let p = err_from_is_err_and c.from_residual-in_err-third.result c.from_residual-in_err-third.ensures.1 in
-    rw (p.1, p.2) (c.in_err-third.ensures.0,
+    rw (p.1, p.2) (
+      c.in_err-third.ensures.0,
       sym (repeats-start c.new-dealer.result.seen (a ++ (b ++ (d ++ after_d))) c.new-dealer.ensures)
-      ∙ repeats-rest c.new-dealer.result.seen c.hand.new.self.seen a (b ++ (d ++ after_d)) c.in_ok-first.ensures.1 c.in_ok-first.ensures.2
-      ∙ repeats-rest c.hand.new.self.seen c.hand-2.new.self.seen b (d ++ after_d) c.in_ok-second.ensures.1 c.in_ok-second.ensures.2
-      ∙ repeats-front c.hand-2.new.self.seen d after_d c.in_err-third.ensures.1)
+          ∙ repeats-rest c.new-dealer.result.seen c.hand.new.self.seen a (b ++ (d ++ after_d)) c.in_ok-first.ensures.1 c.in_ok-first.ensures.2
+          ∙ repeats-rest c.hand.new.self.seen c.hand-2.new.self.seen b (d ++ after_d) c.in_ok-second.ensures.1 c.in_ok-second.ensures.2
+          ∙ repeats-front c.hand-2.new.self.seen d after_d c.in_err-third.ensures.1,
+    )
 
 pub returns-in_err-fourth : goal.returns-in_err-fourth
 returns-in_err-fourth c =
@@ -46,12 +50,14 @@ returns-in_err-fourth c =
     let d = hand_cards s.third.now in
     let e = hand_cards s.fourth.now in
     let p = err_from_is_err_and c.from_residual-in_err-fourth.result c.from_residual-in_err-fourth.ensures.1 in
-    rw (p.1, p.2) (c.in_err-fourth.ensures.0,
+    rw (p.1, p.2) (
+      c.in_err-fourth.ensures.0,
       sym (repeats-start c.new-dealer.result.seen (a ++ (b ++ (d ++ (e ++ [])))) c.new-dealer.ensures)
-      ∙ repeats-rest c.new-dealer.result.seen c.hand.new.self.seen a (b ++ (d ++ (e ++ []))) c.in_ok-first.ensures.1 c.in_ok-first.ensures.2
-      ∙ repeats-rest c.hand.new.self.seen c.hand-2.new.self.seen b (d ++ (e ++ [])) c.in_ok-second.ensures.1 c.in_ok-second.ensures.2
-      ∙ repeats-rest c.hand-2.new.self.seen c.hand-3.new.self.seen d (e ++ []) c.in_ok-third.ensures.1 c.in_ok-third.ensures.2
-      ∙ repeats-front c.hand-3.new.self.seen e [] c.in_err-fourth.ensures.1)
+          ∙ repeats-rest c.new-dealer.result.seen c.hand.new.self.seen a (b ++ (d ++ (e ++ []))) c.in_ok-first.ensures.1 c.in_ok-first.ensures.2
+          ∙ repeats-rest c.hand.new.self.seen c.hand-2.new.self.seen b (d ++ (e ++ [])) c.in_ok-second.ensures.1 c.in_ok-second.ensures.2
+          ∙ repeats-rest c.hand-2.new.self.seen c.hand-3.new.self.seen d (e ++ []) c.in_ok-third.ensures.1 c.in_ok-third.ensures.2
+          ∙ repeats-front c.hand-3.new.self.seen e [] c.in_err-fourth.ensures.1,
+    )
 
 pub returns : goal.returns
 returns c =
@@ -59,10 +65,11 @@ returns c =
     let a = hand_cards s.first.now in
     let b = hand_cards s.second.now in
     let d = hand_cards s.third.now in
-    let e = hand_cards s.fourth.now in
-    (rw (c.in_ok-first.ensures.0, c.in_ok-second.ensures.0, c.in_ok-third.ensures.0, c.in_ok-fourth.ensures.0) refl,
+    let e = hand_cards s.fourth.now in (
+      rw (c.in_ok-first.ensures.0, c.in_ok-second.ensures.0, c.in_ok-third.ensures.0, c.in_ok-fourth.ensures.0) refl,
       sym (repeats-start c.new-dealer.result.seen (a ++ (b ++ (d ++ (e ++ [])))) c.new-dealer.ensures)
-      ∙ repeats-rest c.new-dealer.result.seen c.hand.new.self.seen a (b ++ (d ++ (e ++ []))) c.in_ok-first.ensures.1 c.in_ok-first.ensures.2
-      ∙ repeats-rest c.hand.new.self.seen c.hand-2.new.self.seen b (d ++ (e ++ [])) c.in_ok-second.ensures.1 c.in_ok-second.ensures.2
-      ∙ repeats-rest c.hand-2.new.self.seen c.hand-3.new.self.seen d (e ++ []) c.in_ok-third.ensures.1 c.in_ok-third.ensures.2
-      ∙ repeats-rest c.hand-3.new.self.seen c.hand-4.new.self.seen e [] c.in_ok-fourth.ensures.1 c.in_ok-fourth.ensures.2)
+          ∙ repeats-rest c.new-dealer.result.seen c.hand.new.self.seen a (b ++ (d ++ (e ++ []))) c.in_ok-first.ensures.1 c.in_ok-first.ensures.2
+          ∙ repeats-rest c.hand.new.self.seen c.hand-2.new.self.seen b (d ++ (e ++ [])) c.in_ok-second.ensures.1 c.in_ok-second.ensures.2
+          ∙ repeats-rest c.hand-2.new.self.seen c.hand-3.new.self.seen d (e ++ []) c.in_ok-third.ensures.1 c.in_ok-third.ensures.2
+          ∙ repeats-rest c.hand-3.new.self.seen c.hand-4.new.self.seen e [] c.in_ok-fourth.ensures.1 c.in_ok-fourth.ensures.2,
+    )
