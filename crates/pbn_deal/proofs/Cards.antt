@@ -76,7 +76,7 @@ repeat_step false false true s m = refl
 repeat_step false false false true m = refl
 repeat_step false false false false m = refl
 
-has_repeat-append : (xs ys : List ℕ) → has_repeat (xs ++ ys) ≡ ((has_repeat xs || has_repeat ys) || meets xs ys)
+pub has_repeat-append : (xs ys : List ℕ) → has_repeat (xs ++ ys) ≡ ((has_repeat xs || has_repeat ys) || meets xs ys)
 has_repeat-append [] ys = or_false (has_repeat ys) ∙ ap (λ b. has_repeat ys || b) (sym (none_meet ys)) where
   none_meet : (ys : List ℕ) → meets [] ys ≡ false
   none_meet [] = refl

@@ -3,3 +3,4 @@ pub mod Suits
 pub mod Dealt
 pub mod Sizes
 pub mod Written
+pub mod Sound
