@@ -4,3 +4,4 @@ pub mod Dealt
 pub mod Sizes
 pub mod Written
 pub mod Sound
+pub mod ReadBack
