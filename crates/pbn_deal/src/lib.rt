@@ -9,3 +9,6 @@ pub mod writing;
 
 pub use deal::{DealFault, DealValue, read_deal};
 pub use writing::{deal_text, hand_text};
+
+#[cfg(test)]
+mod tests;
