@@ -1,1 +1,5 @@
 pub mod Blanks
+pub mod Strings
+pub mod Pieces
+pub mod Games
+pub mod Reading
