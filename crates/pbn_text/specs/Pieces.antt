@@ -3,7 +3,7 @@ use Rattle.std.specs.Prelude.{ℕ, zero, suc, ◌+◌, ◌-◌, Bool, false, not
 use Rattle.std.specs.List.{list_all, position_or_len, before_first, after_first}
 use Rattle.pbn_text.specs.declared.fault.Syntax.{Syntax}
 use Rattle.pbn_text.specs.declared.fault.Syntax.TheVariants.{OpenString, BadTag, OpenBrace}
-use Rattle.pbn_text.specs.declared.game.Token.{Token}
+use Rattle.pbn_text.specs.Games.{TokenValue}
 use Rattle.pbn_text.specs.Blanks.{is_blank, after_blanks}
 use Rattle.pbn_text.specs.Strings.{string_len, unescaped}
 
@@ -20,7 +20,7 @@ past_line text = drop (position_or_len is_line_end text) text
 
 -- a letter, a digit or an underscore
 abbrev pub is_name_byte : ℕ → Bool
-is_name_byte byte = nat_le 65 byte && nat_le byte 90 || nat_le 97 byte && nat_le byte 122 || nat_le 48 byte && nat_le byte 57 || byte == 95
+is_name_byte byte = (nat_le 65 byte && nat_le byte 90) || (nat_le 97 byte && nat_le byte 122) || (nat_le 48 byte && nat_le byte 57) || byte == 95
 
 -- a blank, the end of a line, or what begins a tag pair, a comment or a string
 abbrev pub ends_token : ℕ → Bool
@@ -31,7 +31,7 @@ pub data Piece : Type 0 where
   passed : Piece
   game_end : Piece
   tag : List ℕ → List ℕ → ℕ → Piece
-  token : Token → Piece
+  token : TokenValue → Piece
   fault : ℕ → Syntax → Piece
 
 -- what a text begins with, and what follows it

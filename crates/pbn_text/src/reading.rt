@@ -1,8 +1,8 @@
 //! A file of PBN text as its games.
-ghost use Rattle.std.specs.Prelude.{◌≡◌, ◌<◌, ◌-◌, ◌^◌, ◌≤◌, length, option_map};
+ghost use Rattle.std.specs.Prelude.{All, IfOk, ◌≡◌, ◌<◌, ◌-◌, ◌^◌, ◌≤◌, length, option_map};
 ghost use Rattle.std.specs.List.{position_or_len};
 ghost use Rattle.pbn_text.specs.declared.fault.Syntax.TheVariants.{NotText};
-ghost use Rattle.pbn_text.specs.Games.{is_no_text, no_text_fault, without_mark, text_read, games_read};
+ghost use Rattle.pbn_text.specs.Grammar.{is_no_text, no_text_fault, without_mark, text_read, games_read};
 ghost use Rattle.pbn_text.specs.Reading.{Gives};
 
 use crate::collector::Collector;
@@ -24,7 +24,7 @@ fn text_len(bytes: &[u8]) -> usize
 }
 
 // The line of the first byte that stands in no text.
-#[tactic(auto, unfolding(crate::specs::Games::no_text_fault))]
+#[tactic(auto, unfolding(crate::specs::Grammar::no_text_fault))]
 fn no_text_line(bytes: &[u8]) -> Option<u32>
     requires { length bytes.now < 2 ^ 32 - 1 }
     ensures { option_map (λ line. (line, NotText)) result ≡ no_text_fault bytes.now }
@@ -52,10 +52,11 @@ fn without_mark(bytes: &[u8]) -> &[u8]
 /// A UTF-8 byte order mark at the front, lines that begin with `%` and comments are passed over, and a line of blanks alone ends a game.
 /// A tag name may stand twice in a game: both tag pairs are given.
 /// A file at fault is refused with its first fault in reading order and the line where that begins; `NotText` comes before all others.
-#[tactic(auto, unfolding(crate::specs::Games::games_read))]
+#[tactic(auto, unfolding(crate::specs::Grammar::games_read))]
 pub fn games(alloc: Global, bytes: &[u8]) -> Result<Vec<Game>, TextFault>
     requires { length bytes.now < 2 ^ 32 - 1 }
-    ensures { Gives result (games_read bytes.now) }
+    ensures read { Gives result (games_read bytes.now) }
+    ensures tagged { IfOk result (λ games. All (λ game. 1 ≤ length game.tags) games.items) }
 {
     if let Some(line) = no_text_line(bytes) {
         return Err(TextFault::Syntax {
@@ -69,7 +70,8 @@ pub fn games(alloc: Global, bytes: &[u8]) -> Result<Vec<Game>, TextFault>
 // The games of a text whose bytes all may stand in a text.
 fn read_text(alloc: Global, text: &[u8]) -> Result<Vec<Game>, TextFault>
     requires { length text.now < 2 ^ 32 - 1 }
-    ensures { Gives result (text_read text.now) }
+    ensures read { Gives result (text_read text.now) }
+    ensures tagged { IfOk result (λ games. All (λ game. 1 ≤ length game.tags) games.items) }
 {
     let mut reader = Reader::new(text);
     let mut collector = Collector::new(alloc);

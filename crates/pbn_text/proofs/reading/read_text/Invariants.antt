@@ -1,5 +1,5 @@
 use Rattle.std.proofs.Common.{◌≡◌, ◌+◌, ◌<◌, ◌^◌, length}
-use Rattle.pbn_text.specs.Games.{text_read}
+use Rattle.pbn_text.specs.Grammar.{text_read}
 use Rattle.pbn_text.specs.Reading.{pieces_left, games_after}
 use Rattle.pbn_text.proofs.reading.read_text.Given as goal
 
