@@ -1,0 +1,7 @@
+pub mod Cards
+pub mod Suits
+pub mod Dealt
+pub mod Sizes
+pub mod Written
+pub mod Sound
+pub mod ReadBack

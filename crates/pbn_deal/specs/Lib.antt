@@ -1,0 +1,4 @@
+pub mod Hands
+pub mod Deal
+pub mod Dealing
+pub mod Writing
