@@ -170,34 +170,45 @@ fn unites_two_that_are_apart(rt: HostRuntime) -> Result<(), AllocError> {
     Ok(())
 }
 
-// A call that wants memory leaves the front as it was. (It asks for memory at every step, so that each step can be refused.)
-fn refused_at_each_step(rt: &impl Abort, alloc: Global) -> Result<(), AllocError> {
-    let full = "111100 110011 001111 101010";
-    let more = "010101 011010 100101";
-    let mut front = front_of(rt, alloc, 6, full)?;
+// As many vectors as fit without memory, so that each call below asks for some.
+const FULL: &str = "111100 110011 001111 101010";
+
+fn reserve_more(rt: &impl Abort, alloc: Global) -> Result<(), AllocError> {
+    let mut front = front_of(rt, alloc, 6, FULL)?;
     assert_eq!(rt; front.len(), INLINE_VECTORS);
-    let other = front_of(rt, alloc, 6, more)?;
-    let vector = vector(rt, "010110");
-    assert!(rt; vector.width() == front.width() && other.width() == front.width());
-    if front.reserve(9).is_err() {
-        assert!(rt; has_vectors(rt, &front, full));
-    }
-    let mut front = front_of(rt, alloc, 6, full)?;
-    assert!(rt; vector.width() == front.width());
-    if front.insert(vector).is_err() {
-        assert!(rt; has_vectors(rt, &front, full));
-    }
-    let mut front = front_of(rt, alloc, 6, full)?;
-    assert!(rt; other.width() == front.width());
-    if front.union(&other).is_err() {
-        assert!(rt; has_vectors(rt, &front, full));
-    }
-    let long = front.copy()?;
-    assert_eq!(rt; long.len(), front.len());
+    let _ = front.reserve(9);
+    assert!(rt; has_vectors(rt, &front, FULL));
     Ok(())
 }
 
+fn insert_more(rt: &impl Abort, alloc: Global) -> Result<(), AllocError> {
+    let mut front = front_of(rt, alloc, 6, FULL)?;
+    let vector = vector(rt, "010110");
+    assert!(rt; vector.width() == front.width());
+    let after = match front.insert(vector) {
+        Ok(()) => "111100 110011 001111 101010 010110",
+        Err(_) => FULL,
+    };
+    assert!(rt; has_vectors(rt, &front, after));
+    Ok(())
+}
+
+fn unite_more(rt: &impl Abort, alloc: Global) -> Result<(), AllocError> {
+    let mut front = front_of(rt, alloc, 6, FULL)?;
+    let other = front_of(rt, alloc, 6, "010101 011010 100101")?;
+    assert!(rt; other.width() == front.width());
+    let after = match front.union(&other) {
+        Ok(()) => "111100 110011 001111 101010 100101 011010 010101",
+        Err(_) => FULL,
+    };
+    assert!(rt; has_vectors(rt, &front, after));
+    Ok(())
+}
+
+// Where the first, second or third allocation fails, one of these calls is refused.
 #[test]
 fn is_unchanged_where_memory_is_wanted(rt: HostRuntime) {
-    let _ = refused_at_each_step(&rt, rt.alloc());
+    let _ = reserve_more(&rt, rt.alloc());
+    let _ = insert_more(&rt, rt.alloc());
+    let _ = unite_more(&rt, rt.alloc());
 }
