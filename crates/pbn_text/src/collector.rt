@@ -47,7 +47,8 @@ impl Collector {
     {
         self.close_tag()?;
         if !self.tags.is_empty() {
-            let tags = mem::replace(&mut self.tags, Vec::new(alloc));
+            let mut tags = mem::replace(&mut self.tags, Vec::new(alloc));
+            tags.shrink_to_fit();
             self.games.push(Game { tags })?;
         }
         Ok(())
