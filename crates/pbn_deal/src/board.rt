@@ -1,0 +1,147 @@
+//! A board: the hands of declarer's side as they were dealt, and the play so far.
+ghost use Rattle.std.specs.Prelude.{◌≡◌};
+ghost use Rattle.pbn_deal.specs.Boards.{dealt_board, IsDealt, IsBoard};
+
+use card_sets::{Card, CardSet, Compass, Seat};
+use std::alloc::Global;
+use std::marker::Model;
+use trick_rules::trump::Trump;
+
+/// A card, and the seat that played it.
+#[derive(Clone, Copy, Debug, PartialEq, Eq)]
+pub struct Played {
+    pub seat: Seat,
+    pub card: Card,
+}
+
+/// A sound board: hands, need, leader and unseen cards are those before the first played card.
+///
+/// The need is the tricks that declarer's side must take, 0 to 13.
+/// The unseen cards are those that the two defenders hold together, `None` where the file doesn't tell them.
+#[derive(Debug, Drop)]
+pub struct Board {
+    declarer: Compass,
+    trump: Trump,
+    need: u8,
+    leader: Seat,
+    declarer_hand: CardSet,
+    dummy_hand: CardSet,
+    unseen: Option<CardSet>,
+    plays: Vec<Played>,
+}
+
+impl Model for Board {
+    ghost use Rattle.pbn_deal.specs.Boards.{BoardValue, IsBoard};
+
+    ghost Value = { BoardValue };
+
+    ghost view = { λ board. record {
+      declarer = board.declarer;
+      trump = board.trump;
+      need = board.need;
+      leader = board.leader;
+      declarer_hand = board.declarer_hand;
+      dummy_hand = board.dummy_hand;
+      unseen = board.unseen;
+      plays = board.plays.items;
+    } };
+
+    ghost invariant = { λ board. IsBoard (record {
+      declarer = board.declarer;
+      trump = board.trump;
+      need = board.need;
+      leader = board.leader;
+      declarer_hand = board.declarer_hand;
+      dummy_hand = board.dummy_hand;
+      unseen = board.unseen;
+      plays = board.plays.items;
+    }) };
+}
+
+impl Board {
+    /// A board of which no card has been played.
+    pub fn new(
+        alloc: Global,
+        declarer: Compass,
+        trump: Trump,
+        need: u8,
+        leader: Seat,
+        declarer_hand: CardSet,
+        dummy_hand: CardSet,
+        unseen: Option<CardSet>,
+    ) -> Board
+        requires { IsDealt (dealt_board declarer trump need leader declarer_hand dummy_hand unseen) }
+        ensures { result ≡ dealt_board declarer trump need leader declarer_hand dummy_hand unseen }
+    {
+        Board {
+            declarer,
+            trump,
+            need,
+            leader,
+            declarer_hand,
+            dummy_hand,
+            unseen,
+            plays: Vec::new(alloc),
+        }
+    }
+
+    /// Declarer's place at the table.
+    pub fn declarer(&self) -> Compass
+        ensures { result ≡ self.now.declarer }
+    {
+        self.declarer
+    }
+
+    pub fn trump(&self) -> Trump
+        ensures { result ≡ self.now.trump }
+    {
+        self.trump
+    }
+
+    /// The tricks that declarer's side needed before the first played card, 0 to 13.
+    pub fn need(&self) -> u8
+        ensures value { result ≡ self.now.need }
+        ensures sound { IsBoard self.now }
+    {
+        self.need
+    }
+
+    /// The seat that leads first.
+    pub fn leader(&self) -> Seat
+        ensures { result ≡ self.now.leader }
+    {
+        self.leader
+    }
+
+    /// Declarer's hand before the first played card.
+    pub fn declarer_hand(&self) -> CardSet
+        ensures value { result ≡ self.now.declarer_hand }
+        ensures sound { IsBoard self.now }
+    {
+        self.declarer_hand
+    }
+
+    /// Dummy's hand before the first played card.
+    pub fn dummy_hand(&self) -> CardSet
+        ensures value { result ≡ self.now.dummy_hand }
+        ensures sound { IsBoard self.now }
+    {
+        self.dummy_hand
+    }
+
+    /// The cards that the two defenders held together before the first played card, where the file tells them.
+    pub fn unseen(&self) -> Option<CardSet>
+        ensures value { result ≡ self.now.unseen }
+        ensures sound { IsBoard self.now }
+    {
+        self.unseen
+    }
+
+    /// The cards played so far, in the order of play.
+    pub fn plays(&self) -> &[Played]
+        ensures value { result.now ≡ self.now.plays }
+        ensures sound { IsBoard self.now }
+    {
+        &self.plays
+    }
+}
