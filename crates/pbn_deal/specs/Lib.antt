@@ -1,1 +1,5 @@
+pub mod Hands
+pub mod Deal
+pub mod Dealing
+pub mod Writing
 pub mod Boards

@@ -1,8 +1,13 @@
-//! A deal file's game as a board: the deal, the contract and the play so far.
-//! It stands on `pbn_text` for games and on `trick_rules` for the laws of play.
-//! Its contract promises the value that the grammar gives, or the first fault with its line.
+//! The Deal form, and a deal file's game as a board: the deal, the contract and the play so far.
+//! It stands on `pbn_text` for games, on `card_letters` and `card_sets` for hands, and on `trick_rules` for the laws of play.
+//! Its contract promises that a value or a game is read as the grammar says or refused with its first fault, and that what is written is read back.
 #![tactic(auto)]
 
 pub mod board;
+pub mod deal;
+mod hands;
+pub mod writing;
 
 pub use board::{Board, Played};
+pub use deal::{DealFault, DealValue, read_deal};
+pub use writing::{deal_text, hand_text};

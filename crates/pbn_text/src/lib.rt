@@ -1,8 +1,10 @@
-//! PBN text: games, tags and tokens.
-//! It stands on `am_outside`, whose texts it hands out.
-//! Its contract promises the games of the text by the grammar, or the first fault with its line.
+//! PBN text: bytes as games of tag pairs and tokens.
+//! It stands on `am_outside`, whose texts hold what was read.
+//! Its contract promises that what the grammar accepts is read as the grammar says, and that all else is refused with the first fault and its line.
 #![tactic(auto)]
 
-mod game;
+pub mod blanks;
+pub mod game;
 
+pub use blanks::{first_word, is_blank, skip_blanks};
 pub use game::{Game, Syntax, Tag, Token};

@@ -1,0 +1,214 @@
+//! A set of cards in one machine word: bit i stands for the card at place i in card order.
+ghost use Rattle.std.specs.Prelude.{◌≡◌, ℕ, ◌+◌, ◌^◌, ◌<◌, ◌≤◌, ◌↔◌, ◌==◌, ◌&&◌, ◌||◌, Bool, not, true, false, nat_lt, IsTrue, List, [], ◌∷◌, filter, length, MatchOption};
+ghost use Rattle.bit_lists.specs.Bits.{places};
+ghost use Rattle.card_sets.specs.Cards.{suit_of, same_suit};
+ghost use Rattle.card_sets.specs.SetWords.{has_card, cards_where, IsCardSet, IsSubset, Apart, first_card, next_card};
+
+use crate::card::{Card, Suit};
+use std::marker::Model;
+
+/// A set of cards, seen as the list of its cards in card order.
+#[derive(Clone, Copy, Debug, Default)]
+pub struct CardSet {
+    bits: u64,
+}
+
+impl Model for CardSet {
+    ghost use Rattle.std.specs.Prelude.{List, ℕ, ◌<◌, ◌^◌};
+    ghost use Rattle.std.proofs.Common.{ap};
+    ghost use Rattle.bit_lists.specs.Bits.{places, number_at};
+    ghost use Rattle.bit_lists.proofs.Places.{number_at-places};
+
+    ghost Value = { List ℕ };
+
+    ghost view = { λ cards. places 52 cards.bits };
+
+    ghost invariant = { λ cards. cards.bits < 2 ^ 52 };
+
+    ghost inverse = { λ cards. record { bits = number_at cards } };
+
+    ghost inverse_ok = { λ cards fits. ap (λ n. record { bits = n }) (number_at-places 52 cards.bits fits) };
+}
+
+/// The ones of the thirteen spades.
+const SPADES: u64 = 0x1fff;
+
+/// The ones of all 52 cards.
+const PACK: u64 = 0xf_ffff_ffff_ffff;
+
+// The word with a one at the card's place.
+fn bit_of(card: Card) -> u64
+    ensures value { result ≡ 2 ^ card }
+    ensures below { card < 52 }
+{
+    1u64 << card.number()
+}
+
+// The word with a one at each card of the suit.
+fn suit_bits(suit: Suit) -> u64
+    ensures value { places 52 result ≡ cards_where (λ card. same_suit (suit_of card) suit) }
+    ensures fits { result < 2 ^ 52 }
+{
+    match suit {
+        Suit::Spades => SPADES,
+        Suit::Hearts => SPADES << 13u32,
+        Suit::Diamonds => SPADES << 26u32,
+        Suit::Clubs => SPADES << 39u32,
+    }
+}
+
+// The card at the lowest one of the word.
+fn lowest(bits: u64) -> Option<Card>
+    requires { bits < 2 ^ 52 }
+    ensures { result ≡ first_card (places 52 bits) }
+{
+    if bits == 0 {
+        None
+    } else {
+        Some(Card::from_number(bits.trailing_zeros() as u8))
+    }
+}
+
+impl CardSet {
+    /// The set with no card.
+    pub fn empty() -> CardSet
+        ensures value { result ≡ [] }
+        ensures a_set { IsCardSet result }
+    {
+        CardSet { bits: 0 }
+    }
+
+    /// The whole pack of 52 cards.
+    pub fn pack() -> CardSet
+        ensures value { result ≡ cards_where (λ _. true) }
+        ensures a_set { IsCardSet result }
+    {
+        CardSet { bits: PACK }
+    }
+
+    /// Whether the card is in the set.
+    pub fn has(self, card: Card) -> bool
+        ensures value { result ≡ has_card self card }
+        ensures a_set { IsCardSet self }
+    {
+        self.bits >> card.number() & 1 == 1
+    }
+
+    /// The set with the card put in. It may be there already.
+    pub fn with(self, card: Card) -> CardSet
+        ensures value { result ≡ cards_where (λ c. has_card self c || (c == card)) }
+        ensures a_set { IsCardSet result }
+    {
+        CardSet {
+            bits: self.bits | bit_of(card),
+        }
+    }
+
+    /// The set with the card taken out. It need not be there.
+    pub fn without(self, card: Card) -> CardSet
+        ensures value { result ≡ filter (λ c. not (c == card)) self }
+        ensures a_set { IsCardSet result }
+    {
+        CardSet {
+            bits: self.bits & !bit_of(card),
+        }
+    }
+
+    /// The cards of one suit.
+    pub fn of_suit(self, suit: Suit) -> CardSet
+        ensures value { result ≡ filter (λ c. same_suit (suit_of c) suit) self }
+        ensures a_set { IsCardSet result }
+    {
+        CardSet {
+            bits: self.bits & suit_bits(suit),
+        }
+    }
+
+    /// The number of cards.
+    pub fn count(self) -> u8
+        ensures value { result ≡ length self }
+        ensures a_set { IsCardSet self }
+    {
+        self.bits.count_ones() as u8
+    }
+
+    /// Whether the set has no card.
+    pub fn is_empty(self) -> bool
+        ensures value { IsTrue result ↔ (self ≡ []) }
+        ensures a_set { IsCardSet self }
+    {
+        self.bits == 0
+    }
+
+    /// The first card in card order: `None` exactly where the set is empty.
+    pub fn first(self) -> Option<Card>
+        ensures value { result ≡ first_card self }
+        ensures a_set { IsCardSet self }
+    {
+        lowest(self.bits)
+    }
+
+    /// The first card of the set that comes after this card in card order: `None` exactly where there is none.
+    pub fn after(self, card: Card) -> Option<Card>
+        ensures value { result ≡ next_card self card }
+        ensures a_set { IsCardSet self }
+    {
+        lowest(self.bits & (PACK << card.number() << 1u32))
+    }
+
+    /// The cards of this set that are not in the other.
+    pub fn minus(self, other: CardSet) -> CardSet
+        ensures value { result ≡ filter (λ c. not (has_card other c)) self }
+        ensures a_set { IsCardSet result }
+    {
+        CardSet {
+            bits: self.bits & !other.bits,
+        }
+    }
+
+    /// The cards that are in both sets.
+    pub fn both(self, other: CardSet) -> CardSet
+        ensures value { result ≡ filter (has_card other) self }
+        ensures a_set { IsCardSet result }
+    {
+        CardSet {
+            bits: self.bits & other.bits,
+        }
+    }
+
+    /// The cards that are in one of the two sets or in both.
+    pub fn either(self, other: CardSet) -> CardSet
+        ensures value { result ≡ cards_where (λ c. has_card self c || has_card other c) }
+        ensures a_set { IsCardSet result }
+    {
+        CardSet {
+            bits: self.bits | other.bits,
+        }
+    }
+
+    /// Whether each card of this set is in the other.
+    pub fn is_subset(self, other: CardSet) -> bool
+        ensures value { IsTrue result ↔ IsSubset self other }
+        ensures a_set { IsCardSet self }
+    {
+        self.bits & !other.bits == 0
+    }
+
+    /// Whether no card is in both sets.
+    pub fn is_disjoint(self, other: CardSet) -> bool
+        ensures value { IsTrue result ↔ Apart self other }
+        ensures a_set { IsCardSet self }
+    {
+        self.bits & other.bits == 0
+    }
+
+    /// Takes out the first card in card order: `None` exactly where the set was empty.
+    pub fn pop_first(&mut self) -> Option<Card>
+        ensures value { MatchOption result ((self.old ≡ []) × (self.new ≡ [])) (λ card. self.old ≡ card ∷ self.new) }
+        ensures a_set { IsCardSet self.old }
+    {
+        let card = self.first()?;
+        *self = self.without(card);
+        Some(card)
+    }
+}
