@@ -1,13 +1,15 @@
 -- A board: the hands of declarer's side as they were dealt, and the play so far.
-use Rattle.std.specs.Prelude.{◌≡◌, ℕ, ◌*◌, ◌≤◌, true, Option, None, Some, List, [], ◌∷◌, ◌++◌, length, ◌==◌, if◌then◌else◌, IfSome}
+use Rattle.std.specs.Prelude.{◌≡◌, ℕ, ◌*◌, ◌≤◌, Bool, true, Option, None, Some, List, [], ◌∷◌, ◌++◌, length, ◌==◌, if◌then◌else◌, IfSome}
 use Rattle.card_sets.specs.declared.seat.Seat.{Seat}
 use Rattle.card_sets.specs.declared.seat.Seat.TheVariants.{Declarer, Left, Dummy, Right}
 use Rattle.card_sets.specs.declared.seat.Compass.{Compass}
+use Rattle.card_sets.specs.Seats.{next_compass}
 use Rattle.card_sets.specs.SetWords.{has_card, IsCardSet, Apart}
 use Rattle.trick_rules.specs.declared.trump.Trump.{Trump}
 use Rattle.trick_rules.specs.Table.{Played as Trick, seat_after}
 use Rattle.trick_rules.specs.Play.{legal_cards, take_out, winner_of}
 use Rattle.pbn_deal.specs.declared.board.Played.{Played}
+use Rattle.pbn_deal.specs.Deal.{compass_place}
 
 -- a board as it was before the first card, and the cards played, in the order of play
 pub record BoardValue : Type 0 where
@@ -19,6 +21,29 @@ pub record BoardValue : Type 0 where
   pub dummy_hand : List ℕ
   pub unseen : Option (List ℕ)
   pub plays : List Played
+
+-- ---- seats and places at the table
+
+-- whether two places are the same
+abbrev pub same_place : Compass → Compass → Bool
+same_place a b = compass_place a == compass_place b
+
+-- the place of a seat, going clockwise from declarer's
+abbrev pub compass_of : Compass → Seat → Compass
+compass_of declarer Declarer = declarer
+compass_of declarer Left = next_compass declarer
+compass_of declarer Dummy = next_compass (next_compass declarer)
+compass_of declarer Right = next_compass (next_compass (next_compass declarer))
+
+-- the seat at a place
+abbrev pub seat_of : Compass → Compass → Seat
+seat_of declarer place =
+    if same_place place (compass_of declarer Declarer) then Declarer
+    else if same_place place (compass_of declarer Left) then Left
+    else if same_place place (compass_of declarer Dummy) then Dummy
+    else Right
+
+-- ---- boards
 
 -- a board of which no card has been played
 abbrev pub dealt_board : Compass → Trump → ℕ → Seat → List ℕ → List ℕ → Option (List ℕ) → BoardValue

@@ -3,3 +3,5 @@ pub mod Deal
 pub mod Dealing
 pub mod Writing
 pub mod Boards
+pub mod Marks
+pub mod Tags

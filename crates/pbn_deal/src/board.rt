@@ -1,6 +1,6 @@
 //! A board: the hands of declarer's side as they were dealt, and the play so far.
 ghost use Rattle.std.specs.Prelude.{◌≡◌};
-ghost use Rattle.pbn_deal.specs.Boards.{dealt_board, IsDealt, IsBoard};
+ghost use Rattle.pbn_deal.specs.Boards.{compass_of, seat_of, dealt_board, IsDealt, IsBoard};
 
 use card_sets::{Card, CardSet, Compass, Seat};
 use std::alloc::Global;
@@ -12,6 +12,33 @@ use trick_rules::trump::Trump;
 pub struct Played {
     pub seat: Seat,
     pub card: Card,
+}
+
+/// The place of a seat, going clockwise from declarer's.
+pub fn compass_of(declarer: Compass, seat: Seat) -> Compass
+    ensures { result ≡ compass_of declarer seat }
+{
+    match seat {
+        Seat::Declarer => declarer,
+        Seat::Left => declarer.next(),
+        Seat::Dummy => declarer.next().next(),
+        Seat::Right => declarer.next().next().next(),
+    }
+}
+
+/// The seat at a place, as declarer sees the table.
+pub fn seat_of(declarer: Compass, place: Compass) -> Seat
+    ensures { result ≡ seat_of declarer place }
+{
+    if place == compass_of(declarer, Seat::Declarer) {
+        Seat::Declarer
+    } else if place == compass_of(declarer, Seat::Left) {
+        Seat::Left
+    } else if place == compass_of(declarer, Seat::Dummy) {
+        Seat::Dummy
+    } else {
+        Seat::Right
+    }
 }
 
 /// A sound board: hands, need, leader and unseen cards are those before the first played card.
@@ -90,6 +117,13 @@ impl Board {
         ensures { result ≡ self.now.declarer }
     {
         self.declarer
+    }
+
+    /// The place of a seat at the table.
+    pub fn compass(&self, seat: Seat) -> Compass
+        ensures { result ≡ compass_of self.now.declarer seat }
+    {
+        compass_of(self.declarer, seat)
     }
 
     pub fn trump(&self) -> Trump

@@ -5,9 +5,13 @@
 
 pub mod board;
 pub mod deal;
+pub mod fault;
 mod hands;
+pub mod mark;
+pub mod tags;
 pub mod writing;
 
 pub use board::{Board, Played};
 pub use deal::{DealFault, DealValue, read_deal};
+pub use fault::{BoardFault, BoardRefusal};
 pub use writing::{deal_text, hand_text};
