@@ -5,3 +5,4 @@ pub mod Writing
 pub mod Boards
 pub mod Marks
 pub mod Tags
+pub mod Sections

@@ -35,7 +35,7 @@ card_mark None = Other
 card_mark (Some card) = Card card
 
 -- what a token says
-abbrev pub mark_of : List ℕ → Mark
+unfoldable pub mark_of : List ℕ → Mark
 mark_of text =
     if bytes_eq text (codes "*") then End
     else if bytes_eq text (codes "+") then Plus

@@ -8,6 +8,7 @@ pub mod deal;
 pub mod fault;
 mod hands;
 pub mod mark;
+pub mod section;
 pub mod tags;
 pub mod writing;
 

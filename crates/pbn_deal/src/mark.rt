@@ -66,6 +66,7 @@ fn card_of(text: &[u8]) -> Option<Card>
 }
 
 /// What a token of the Play section says, by its bytes as they stand in the file.
+#[tactic(auto, unfolding(crate::specs::Marks::mark_of))]
 pub fn read_mark(text: &[u8]) -> Mark
     ensures { result ≡ mark_of text.now }
 {
