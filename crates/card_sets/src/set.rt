@@ -153,7 +153,7 @@ impl CardSet {
         ensures value { result ≡ next_card self card }
         ensures a_set { IsCardSet self }
     {
-        lowest(self.bits & (PACK << card.number() << 1u32))
+        lowest(self.bits & (u64::MAX << (card.number() + 1)))
     }
 
     /// The cards of this set that are not in the other.

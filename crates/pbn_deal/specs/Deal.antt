@@ -1,9 +1,10 @@
 -- The Deal form: a seat letter, a colon, and four hands clockwise from that seat.
-use Rattle.std.specs.Prelude.{ℕ, ◌-◌, Bool, false, not, ◌||◌, ◌&&◌, ◌==◌, nat_le, List, [], ◌∷◌, ◌++◌, length, take, drop, map, filter_map, flat_map, Option, Some, None, option_map, Result, Ok, Err, if◌then◌else◌}
-use Rattle.std.specs.List.{list_all}
+use Rattle.std.specs.Prelude.{◌≡◌, ℕ, ◌≤◌, ◌-◌, Bool, true, false, not, ◌||◌, ◌&&◌, ◌==◌, nat_le, List, [], ◌∷◌, ◌++◌, length, take, drop, map, filter_map, flat_map, Option, Some, None, option_map, is_some, slice_index_or, Result, Ok, Err, if◌then◌else◌}
+use Rattle.std.specs.List.{list_all, list_any}
 use Rattle.bit_lists.specs.Bits.{among}
 use Rattle.card_sets.specs.declared.seat.Compass.{Compass}
 use Rattle.card_sets.specs.declared.seat.Compass.TheVariants.{N, E, S, W}
+use Rattle.card_sets.specs.SetWords.{IsCardSet, Apart}
 use Rattle.card_letters.specs.Letters.{compass_read}
 use Rattle.pbn_text.specs.Blanks.{after_blanks, words}
 use Rattle.pbn_deal.specs.declared.deal.DealValue.{DealValue}
@@ -60,3 +61,17 @@ seat_read (Some ahead) = hands_read ahead.0 (words ahead.1)
 -- the hands of a value in the Deal form, or its first fault; blanks at both ends don't count
 unfoldable pub deal_read : List ℕ → Result DealValue DealFault
 deal_read value = seat_read (seat_ahead (after_blanks value))
+
+-- the hand of a seat; `None` where it isn't shown
+abbrev pub hand_at : DealValue → Compass → Option (List ℕ)
+hand_at deal seat = slice_index_or deal.hands (compass_place seat) None
+
+-- some hand is shown; the shown hands are sets of one size from 1 to 13, and no card is in two of them
+pub record IsSoundDeal (deal : DealValue) : Type 0 where
+  pub four : length deal.hands ≡ 4
+  pub shown : list_any is_some deal.hands ≡ true
+  pub set : (seat : Compass) (hand : List ℕ) → hand_at deal seat ≡ Some hand → IsCardSet hand
+  pub some : (seat : Compass) (hand : List ℕ) → hand_at deal seat ≡ Some hand → 1 ≤ length hand
+  pub few : (seat : Compass) (hand : List ℕ) → hand_at deal seat ≡ Some hand → length hand ≤ 13
+  pub one_size : (seat other : Compass) (hand cards : List ℕ) → hand_at deal seat ≡ Some hand → hand_at deal other ≡ Some cards → length hand ≡ length cards
+  pub apart : (seat other : Compass) (hand cards : List ℕ) → (compass_place seat == compass_place other) ≡ false → hand_at deal seat ≡ Some hand → hand_at deal other ≡ Some cards → Apart hand cards

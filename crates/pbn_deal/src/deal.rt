@@ -1,8 +1,8 @@
 //! A value in the Deal form, and the first thing that is wrong with one.
-ghost use Rattle.std.specs.Prelude.{◌≡◌, ◌==◌, false, map, length, option_map, MatchOption};
+ghost use Rattle.std.specs.Prelude.{◌≡◌, ◌==◌, false, map, length, option_map, MatchOption, IfOk};
 ghost use Rattle.pbn_text.specs.Blanks.{words};
 ghost use Rattle.pbn_deal.specs.Dealing.{hands_of};
-ghost use Rattle.pbn_deal.specs.Deal.{seat_ahead, from_north, are_one_size, shown_sizes, deal_read};
+ghost use Rattle.pbn_deal.specs.Deal.{seat_ahead, from_north, are_one_size, shown_sizes, deal_read, IsSoundDeal};
 
 use crate::hands::FourHands;
 use card_letters::read_compass;
@@ -100,14 +100,17 @@ fn is_one_size(hands: &[Option<CardSet>; 4]) -> bool
     size.is_some()
 }
 
-/// The hands of a value in the Deal form: a seat letter, a colon, and four hands clockwise from that seat with blanks between them.
-/// A hand is `-` where it isn't shown, or its suits in the order spades, hearts, diamonds, clubs, with full stops between them.
-/// Ranks are read in both cases and any order, and blanks at both ends don't count. Where the value has several faults, the first in the order of `DealFault` is given. It takes no memory.
-pub fn read_deal(value: &[u8]) -> Result<DealValue, DealFault>
+// The hands of a value, or its first fault.
+#[tactic(auto, unfolding(crate::specs::Deal::deal_read, crate::specs::Deal::hands_read))]
+fn hands_of_value(value: &[u8]) -> Result<DealValue, DealFault>
     ensures { result ≡ deal_read value.now }
 {
-    let (first, rest) = seat_ahead(skip_blanks(value)).ok_or(DealFault::Seat)?;
-    let words = four_words(rest).ok_or(DealFault::HandCount)?;
+    let Some((first, rest)) = seat_ahead(skip_blanks(value)) else {
+        return Err(DealFault::Seat);
+    };
+    let Some(words) = four_words(rest) else {
+        return Err(DealFault::HandCount);
+    };
     if !words.have_four_suits() {
         return Err(DealFault::SuitCount);
     }
@@ -121,4 +124,16 @@ pub fn read_deal(value: &[u8]) -> Result<DealValue, DealFault>
     Ok(DealValue {
         hands: from_north(first, hands),
     })
+}
+
+/// The hands of a value in the Deal form: a seat letter, a colon, and four hands clockwise from that seat with blanks between them.
+///
+/// A hand is `-` where it isn't shown, or its suits in the order spades, hearts, diamonds, clubs, with full stops between them.
+/// Letters are read in both cases, ranks in any order, and blanks at both ends don't count.
+/// Where the value has several faults, the first in the order of `DealFault` is given. It takes no memory.
+pub fn read_deal(value: &[u8]) -> Result<DealValue, DealFault>
+    ensures value { result ≡ deal_read value.now }
+    ensures sound { IfOk result IsSoundDeal }
+{
+    hands_of_value(value)
 }

@@ -1,6 +1,7 @@
 //! The hands of a value in the Deal form, one after another.
-ghost use Rattle.std.specs.Prelude.{◌≡◌, [], true, false, map, flat_map, MatchResult};
+ghost use Rattle.std.specs.Prelude.{◌≡◌, [], true, false, map, flat_map, count_by, MatchResult};
 ghost use Rattle.std.specs.List.{before_first, after_first, list_all};
+ghost use Rattle.card_sets.specs.SetWords.{IsCardSet};
 ghost use Rattle.pbn_deal.specs.Hands.{
   is_hidden,
   is_full_stop,
@@ -24,11 +25,17 @@ fn is_hidden(hand: &[u8]) -> bool
     matches!(hand, [b'-'])
 }
 
+fn count_full_stops(hand: &[u8]) -> usize
+    ensures { result ≡ count_by is_full_stop hand.now }
+{
+    hand.iter().filter(|byte| **byte == b'.').count()
+}
+
 // Whether a hand is a dash or four suits.
 fn has_four_suits(hand: &[u8]) -> bool
     ensures { result ≡ has_four_suits hand.now }
 {
-    is_hidden(hand) || hand.iter().filter(|byte| **byte == b'.').count() == 3
+    is_hidden(hand) || count_full_stops(hand) == 3
 }
 
 // Whether a hand is a dash or has no byte but full stops and rank letters.
@@ -70,8 +77,10 @@ impl Dealer {
 
     // Adds the cards that the letters of a suit name to a hand.
     fn add_suit(&mut self, suit: Suit, letters: &[u8], hand: CardSet) -> Result<CardSet, DealFault>
+        requires { IsCardSet hand }
         ensures { MatchResult result
-            (λ full. (repeats self.old.seen (suit_cards suit letters.now) ≡ false)
+            (λ full. IsCardSet full
+            × (repeats self.old.seen (suit_cards suit letters.now) ≡ false)
             × Adds self.old.seen self.new.seen (suit_cards suit letters.now)
             × Adds hand full (suit_cards suit letters.now))
             (λ fault. (fault ≡ Repeated) × (repeats self.old.seen (suit_cards suit letters.now) ≡ true)) }

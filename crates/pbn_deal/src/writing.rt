@@ -1,7 +1,8 @@
 //! Hands as they are written in the Deal form.
-ghost use Rattle.std.specs.Prelude.{◌≡◌, [], ◌∷◌, ◌++◌, Option, List, ℕ, Ok, IfOk, OnOk};
-ghost use Rattle.pbn_deal.specs.Deal.{deal_read};
-ghost use Rattle.pbn_deal.specs.Writing.{suit_text, hand_text, shown_text, deal_text, IsDeal};
+ghost use Rattle.std.specs.Prelude.{◌≡◌, [], ◌∷◌, ◌++◌, Ok, IfOk, OnOk};
+ghost use Rattle.pbn_deal.specs.declared.deal.DealValue.{DealValue};
+ghost use Rattle.pbn_deal.specs.Deal.{deal_read, IsSoundDeal};
+ghost use Rattle.pbn_deal.specs.Writing.{suit_text, hand_text, shown_text, hands_text, deal_text};
 
 use am_outside::Text;
 use card_letters::{compass_letter, rank_letter};
@@ -21,33 +22,57 @@ fn push_suit(text: &mut Text, hand: CardSet, suit: Suit) -> Result<(), AllocErro
     Ok(())
 }
 
+// Adds a hand in the Deal form.
+fn push_hand(text: &mut Text, hand: CardSet) -> Result<(), AllocError>
+    ensures { OnOk result (text.new ≡ text.old ++ hand_text hand) }
+{
+    push_suit(text, hand, Suit::Spades)?;
+    text.push(b".")?;
+    push_suit(text, hand, Suit::Hearts)?;
+    text.push(b".")?;
+    push_suit(text, hand, Suit::Diamonds)?;
+    text.push(b".")?;
+    push_suit(text, hand, Suit::Clubs)?;
+    Ok(())
+}
+
+// Adds a hand in the Deal form, or a dash for one that isn't shown.
+fn push_shown(text: &mut Text, hand: Option<CardSet>) -> Result<(), AllocError>
+    ensures { OnOk result (text.new ≡ text.old ++ shown_text hand) }
+{
+    match hand {
+        Some(cards) => push_hand(text, cards),
+        None => text.push(b"-"),
+    }
+}
+
 /// A hand in the Deal form: its spades, hearts, diamonds and clubs with full stops between them, ranks from the ace down.
 pub fn hand_text(alloc: Global, hand: CardSet) -> Result<Text, AllocError>
     ensures { IfOk result (λ text. text ≡ hand_text hand) }
 {
     let mut text = Text::new(alloc);
-    push_suit(&mut text, hand, Suit::Spades)?;
-    text.push(b".")?;
-    push_suit(&mut text, hand, Suit::Hearts)?;
-    text.push(b".")?;
-    push_suit(&mut text, hand, Suit::Diamonds)?;
-    text.push(b".")?;
-    push_suit(&mut text, hand, Suit::Clubs)?;
+    push_hand(&mut text, hand)?;
     Ok(text)
 }
 
-// A hand in the Deal form, or a dash for one that isn't shown.
-fn shown_text(alloc: Global, hand: Option<CardSet>) -> Result<Text, AllocError>
-    ensures { IfOk result (λ text. text ≡ shown_text hand) }
+// Adds four hands in the Deal form, with one space between them.
+fn push_hands(
+    text: &mut Text,
+    north: Option<CardSet>,
+    east: Option<CardSet>,
+    south: Option<CardSet>,
+    west: Option<CardSet>,
+) -> Result<(), AllocError>
+    ensures { OnOk result (text.new ≡ text.old ++ hands_text (north ∷ east ∷ south ∷ west ∷ [])) }
 {
-    match hand {
-        Some(cards) => hand_text(alloc, cards),
-        None => {
-            let mut text = Text::new(alloc);
-            text.push(b"-")?;
-            Ok(text)
-        }
-    }
+    push_shown(text, north)?;
+    text.push(b" ")?;
+    push_shown(text, east)?;
+    text.push(b" ")?;
+    push_shown(text, south)?;
+    text.push(b" ")?;
+    push_shown(text, west)?;
+    Ok(())
 }
 
 /// The hands of North, East, South and West in the Deal form, from North, with one space between hands; a hand that isn't shown is a dash.
@@ -57,18 +82,11 @@ pub fn deal_text(alloc: Global, hands: [Option<CardSet>; 4]) -> Result<Text, All
     let [north, east, south, west] = hands;
     let mut text = Text::new(alloc);
     text.push(&[compass_letter(Compass::N), b':'])?;
-    text.push(shown_text(alloc, north)?.bytes())?;
-    text.push(b" ")?;
-    text.push(shown_text(alloc, east)?.bytes())?;
-    text.push(b" ")?;
-    text.push(shown_text(alloc, south)?.bytes())?;
-    text.push(b" ")?;
-    text.push(shown_text(alloc, west)?.bytes())?;
+    push_hands(&mut text, north, east, south, west)?;
     Ok(text)
 }
 
 /// What is written in the Deal form is read back as the same hands.
 pub fn deal_text_reads_back()
-    ensures { (north east south west : Option (List ℕ)) → IsDeal north east south west
-        → deal_read (deal_text (north ∷ east ∷ south ∷ west ∷ [])) ≡ Ok (record { hands = north ∷ east ∷ south ∷ west ∷ [] }) }
+    ensures { (deal : DealValue) → IsSoundDeal deal → deal_read (deal_text deal.hands) ≡ Ok deal }
 {}

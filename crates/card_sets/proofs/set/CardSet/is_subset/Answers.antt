@@ -1,0 +1,18 @@
+use Rattle.std.proofs.Common.{subst}
+use Rattle.std.specs.Prelude.{◌-◌, ◌^◌, bit_and}
+use Rattle.std.proofs.lemmas.Bool.{eqb-true, eq-eqb}
+use Rattle.card_sets.specs.SetWords.{IsCardSet}
+use Rattle.card_sets.proofs.Words.{IsCardSet-places, IsSubset-places, zero_from_IsSubset}
+use Rattle.card_sets.proofs.set.CardSet.is_subset.Goals as goal
+
+pub returns-clause-value : goal.returns-clause-value
+returns-clause-value c =
+    rw (← c.self.view_is, ← c.other.view_is) (
+      λ zero. IsSubset-places c.self.inside.bits c.other.inside.bits c.other.invariant (eqb-true (bit_and c.self.inside.bits (2 ^ 64 - 1 - c.other.inside.bits)) 0 zero),
+      λ part.
+          eq-eqb (bit_and c.self.inside.bits (2 ^ 64 - 1 - c.other.inside.bits)) 0
+          (zero_from_IsSubset c.self.inside.bits c.other.inside.bits c.self.invariant c.other.invariant part),
+    )
+
+pub returns-clause-a_set : goal.returns-clause-a_set
+returns-clause-a_set c = subst IsCardSet c.self.view_is (IsCardSet-places c.self.inside.bits)
