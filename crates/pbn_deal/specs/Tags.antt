@@ -112,14 +112,14 @@ contract_in game =
 -- ---- declarer
 
 -- one seat letter
-abbrev pub seat_read : List ℕ → Option Compass
-seat_read [] = None
-seat_read (letter ∷ []) = compass_read letter
-seat_read (letter ∷ second ∷ rest) = None
+abbrev pub seat_named : List ℕ → Option Compass
+seat_named [] = None
+seat_named (letter ∷ []) = compass_read letter
+seat_named (letter ∷ second ∷ rest) = None
 
 -- the seat of the Declarer tag
 abbrev pub declarer_in : GameValue → Result Compass BoardRefusal
-declarer_in game = then_read (tag_or NoDeclarer (codes "Declarer") game) (λ tag. ok_or (seat_read tag.value) (Fault tag.line NoDeclarer))
+declarer_in game = then_read (tag_or NoDeclarer (codes "Declarer") game) (λ tag. ok_or (seat_named tag.value) (Fault tag.line NoDeclarer))
 
 -- ---- how much of the play is left
 
@@ -138,4 +138,4 @@ ending_read line declarer contract tricks (Some need) None = Err (Fault need.lin
 ending_read line declarer contract tricks None (Some lead) = Err (Fault lead.line EndTags)
 ending_read line declarer contract tricks (Some need) (Some lead) =
     then_read (ok_or (need_read need.value) (Fault need.line EndTags))
-    (λ number. then_read (ok_or (seat_read lead.value) (Fault lead.line EndTags)) (λ seat. Ok (record { need = number; leader = seat_of declarer seat })))
+    (λ number. then_read (ok_or (seat_named lead.value) (Fault lead.line EndTags)) (λ seat. Ok (record { need = number; leader = seat_of declarer seat })))

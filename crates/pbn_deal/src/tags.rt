@@ -13,7 +13,7 @@ ghost use Rattle.pbn_deal.specs.Tags.{
   trump_read,
   contract_read,
   contract_in,
-  seat_read,
+  seat_named,
   declarer_in,
   need_read,
   ending_read,
@@ -170,7 +170,7 @@ pub fn read_contract_tag(game: &Game) -> Result<Contract, BoardRefusal>
 
 /// The place that a value of one seat letter names.
 pub fn read_seat(value: &[u8]) -> Option<Compass>
-    ensures { result ≡ seat_read value.now }
+    ensures { result ≡ seat_named value.now }
 {
     match value {
         [letter] => read_compass(*letter),
