@@ -1,2 +1,4 @@
+pub mod SetCounts
 pub mod Sets
+pub mod Suits
 pub mod Words

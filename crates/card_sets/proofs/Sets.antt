@@ -1,11 +1,12 @@
 -- What sets of cards are, as lists: no word and no bit is spoken of here.
-use Rattle.std.proofs.Common.{◌≡◌, ℕ, zero, suc, ◌+◌, ◌<◌, ◌≤◌, Bool, true, false, not, cond, List, [], ◌∷◌, Some, None, refl, sym, ap, ap₂, ◌∙◌, subst, inl, inr, arith}
+use Rattle.std.proofs.Common.{◌≡◌, ℕ, zero, suc, ◌+◌, ◌<◌, ◌≤◌, Bool, true, false, not, cond, List, [], ◌∷◌, ◌++◌, Some, None, refl, sym, ap, ap₂, ◌∙◌, subst, inl, inr, arith}
 use Rattle.std.specs.Prelude.{◌==◌, ◌&&◌, ◌||◌, filter, find}
 use Rattle.std.specs.List.{range_with_len}
-use Rattle.std.proofs.lemmas.Bool.{eq-eqb, ne_eqb, cases_eq, cases_lt, both_ways, or_right}
+use Rattle.std.proofs.lemmas.Bool.{eqb-true, eq-eqb, ne_eqb, cases_eq, cases_lt, both_ways, and_parts, and_from, and_right, or_cases, or_right, false_from_ne_true}
+use Rattle.std.proofs.lemmas.List.Folds.{list_any-append}
 use Rattle.bit_lists.specs.Bits.{below}
 use Rattle.bit_lists.proofs.Places.{filter-filter, filter-range_agree, among-filter-range, among-filter-range_past, among-filter-range_before}
-use Rattle.card_sets.specs.SetWords.{has_card, cards_where, IsCardSet, first_card}
+use Rattle.card_sets.specs.SetWords.{has_card, cards_where, IsCardSet, IsSubset, Apart, first_card}
 
 -- ---- the cards that pass a test
 
@@ -153,3 +154,69 @@ first_card-some [] c a_set first = cc
 first_card-some (x ∷ xs) c a_set first =
     let same : x ≡ c = cc in
     ap₂ (λ y ys. y ∷ ys) same (sym (take_out-head x xs a_set) ∙ ap (λ y. filter (λ d. not (d == y)) (x ∷ xs)) same)
+
+find-holds_at : (t : ℕ → Bool) (x : ℕ) (xs : List ℕ) (c : ℕ) (b : Bool) → t x ≡ b → cond b (Some x) (find t xs) ≡ Some c → (find t xs ≡ Some c → (has_card xs c ≡ true) × (t c ≡ true)) → (has_card (x ∷ xs) c ≡ true) × (t c ≡ true)
+find-holds_at t x xs c true passes found rest = let same : x ≡ c = cc in (ap (λ e. e || has_card xs c) (eq-eqb x c same), ap t (sym same) ∙ passes)
+find-holds_at t x xs c false fails found rest = let later = rest found in (or_right (x == c) (has_card xs c) later.0, later.1)
+
+-- what a search finds is in the list and passes
+pub find-holds : (t : ℕ → Bool) (xs : List ℕ) (c : ℕ) → find t xs ≡ Some c → (has_card xs c ≡ true) × (t c ≡ true)
+find-holds t [] c found = cc
+find-holds t (x ∷ xs) c found = find-holds_at t x xs c (t x) refl found (find-holds t xs c)
+
+-- where it finds nothing, nothing passes
+pub find-fails : (t : ℕ → Bool) (xs : List ℕ) (c : ℕ) → find t xs ≡ None → has_card xs c ≡ true → t c ≡ false
+find-fails t xs c none holds =
+    fails-filter_nil t xs c (first_card-none (filter t xs) (first_card-filter t xs ∙ none)) holds
+
+-- the first card that passes comes before each other that does
+pub find-first : (t : ℕ → Bool) (xs : List ℕ) (c d : ℕ) → IsCardSet xs → find t xs ≡ Some c → has_card xs d ≡ true → t d ≡ true → c ≤ d
+find-first t xs c d a_set found holds passes =
+    let rest = filter (λ e. not (e == c)) (filter t xs) in
+    let split : filter t xs ≡ c ∷ rest = first_card-some (filter t xs) c (IsCardSet-filter t xs a_set) (first_card-filter t xs ∙ found) in
+    let kept : has_card (c ∷ rest) d ≡ true = ap (λ ys. has_card ys d) (sym split) ∙ has_card-filter t xs d ∙ and_from (has_card xs d) (t d) holds passes in
+    let sorted : IsCardSet (c ∷ rest) = subst IsCardSet split (IsCardSet-filter t xs a_set) in
+    elim (or_cases (c == d) (has_card rest d) kept) [
+      | inl same ↦ omega (arith, eqb-true c d same)
+      | inr later ↦ omega (arith, tail-after c rest sorted d later)
+    ]
+
+-- ---- sets apart
+
+pub Apart-sym : (xs ys : List ℕ) → Apart xs ys → Apart ys xs
+Apart-sym xs ys apart c holds = false_from_ne_true (has_card xs c) (λ there. both_ways (has_card ys c) (apart c there) holds)
+
+pub IsSubset-filter : (t : ℕ → Bool) (xs : List ℕ) → IsSubset (filter t xs) xs
+IsSubset-filter t xs c holds = (and_parts (has_card xs c) (t c) (sym (has_card-filter t xs c) ∙ holds)).0
+
+-- parts of sets apart are apart
+pub Apart-parts : (xs ys part_x part_y : List ℕ) → Apart xs ys → IsSubset part_x xs → IsSubset part_y ys → Apart part_x part_y
+Apart-parts xs ys part_x part_y apart in_x in_y c holds = false_from_ne_true (has_card part_y c) (λ there. both_ways (has_card ys c) (apart c (in_x c holds)) (in_y c there))
+
+pub Apart-filter : (p q : ℕ → Bool) (xs ys : List ℕ) → Apart xs ys → Apart (filter p xs) (filter q ys)
+Apart-filter p q xs ys apart = Apart-parts xs ys (filter p xs) (filter q ys) apart (IsSubset-filter p xs) (IsSubset-filter q ys)
+
+-- what is left of a set and what is taken from it are apart
+pub Apart-minus : (xs ys : List ℕ) → Apart ys (filter (λ c. not (has_card ys c)) xs)
+Apart-minus xs ys c holds = has_card-filter (λ d. not (has_card ys d)) xs c ∙ and_right (has_card xs c) (not (has_card ys c)) (ap not holds)
+
+-- a card taken out is gone
+pub has_card-take_out : (xs : List ℕ) (c : ℕ) → has_card (filter (λ d. not (d == c)) xs) c ≡ false
+has_card-take_out xs c = has_card-filter (λ d. not (d == c)) xs c ∙ and_right (has_card xs c) (not (c == c)) (ap not (eq-eqb c c refl))
+
+or_none : (b : Bool) → (b || false) ≡ b
+or_none true = refl
+or_none false = refl
+
+-- a list with one card more at its end
+pub has_card-push : (xs : List ℕ) (x c : ℕ) → has_card (xs ++ x ∷ []) c ≡ (has_card xs c || (x == c))
+has_card-push xs x c = list_any-append (λ y. y == c) xs (x ∷ []) ∙ ap (λ b. has_card xs c || b) (or_none (x == c))
+
+-- a card that is taken out of one set and put at the end of a list that is apart from it leaves them apart
+pub Apart-push : (xs ys : List ℕ) (x : ℕ) → Apart xs ys → Apart (xs ++ x ∷ []) (filter (λ d. not (d == x)) ys)
+Apart-push xs ys x apart c holds =
+    has_card-filter (λ d. not (d == x)) ys c
+    ∙ elim (or_cases (has_card xs c) (x == c) (sym (has_card-push xs x c) ∙ holds)) [
+      | inl before ↦ ap (λ b. b && not (c == x)) (apart c before)
+      | inr last ↦ and_right (has_card ys c) (not (c == x)) (ap not (eq-eqb c x (sym (eqb-true x c last))))
+    ]

@@ -1,8 +1,10 @@
 -- A word as a set of cards: what each step on words does to the set.
 use Rattle.std.proofs.Common.{◌≡◌, ℕ, ◌+◌, ◌-◌, ◌*◌, ◌%◌, ◌^◌, ◌<◌, Bool, not, [], Some, inl, inr, refl, sym, ap, ap₂, ◌∙◌, arith}
-use Rattle.std.specs.Prelude.{◌==◌, ◌||◌, filter, bit_and, bit_or, nat_lt}
+use Rattle.std.specs.Prelude.{nat_eq, ◌==◌, ◌||◌, filter, bit_and, bit_or, nat_lt}
 use Rattle.std.specs.Int.{w64, trailing_zeros}
-use Rattle.std.proofs.lemmas.Bool.{cases_lt, lt-ltb, le-ltb, not-false}
+use Rattle.std.proofs.lemmas.Slice.Eq.{bytes_eq-Decides}
+use Rattle.std.specs.Cmp.Lexicographic.{pointwise}
+use Rattle.std.proofs.lemmas.Bool.{cases_eq, eq-eqb, ne_eqb, false_from_ne_true, cases_lt, lt-ltb, le-ltb, not-false}
 use Rattle.std.proofs.lemmas.Nat.{and_le_l, pow_below}
 use Rattle.std.proofs.lemmas.Nat.Bits.{bit_at-trailing_zeros, bit_at_above, ones_shl, bit_at_mask_inside, bit_at_mask_below}
 use Rattle.bit_lists.specs.Bits.{has_bit, below, places, number_at}
@@ -110,3 +112,15 @@ pub first_card-places : (n : ℕ) → 0 < n → n < 2 ^ 52 → first_card (place
 first_card-places n some fits =
     let at_lowest = bit_at-trailing_zeros w64 n some (omega arith) in
     find-places 52 n (trailing_zeros w64 n) (lowest_within n some fits) (ap (λ b. b == 1) at_lowest.1) (λ i low. ap (λ b. b == 1) (at_lowest.2 i low))
+
+-- two words are equal where their sets are
+pub same_places : (a b : ℕ) → a < 2 ^ 52 → b < 2 ^ 52 → nat_eq a b ≡ pointwise nat_eq (places 52 a) (places 52 b)
+same_places a b fits_a fits_b =
+    let decides = bytes_eq-Decides (places 52 a) (places 52 b) in
+    elim (cases_eq a b) [
+      | inl same ↦ eq-eqb a b same ∙ sym (decides.1 (ap (places 52) same))
+      | inr other ↦
+          ne_eqb a b other
+          ∙ sym (false_from_ne_true (pointwise nat_eq (places 52 a) (places 52 b)) (λ yes.
+          other (sym (number_at-places 52 a fits_a) ∙ ap number_at (decides.0 yes) ∙ number_at-places 52 b fits_b)))
+    ]

@@ -9,4 +9,4 @@ pub mod set;
 
 pub use card::{Card, Rank, Suit};
 pub use seat::{Compass, Seat};
-pub use set::CardSet;
+pub use set::{CardSet, Cards};

@@ -1,14 +1,16 @@
 //! A set of cards in one machine word: bit i stands for the card at place i in card order.
 ghost use Rattle.std.specs.Prelude.{◌≡◌, ℕ, ◌+◌, ◌^◌, ◌<◌, ◌≤◌, ◌↔◌, ◌==◌, ◌&&◌, ◌||◌, Bool, not, true, false, nat_lt, IsTrue, List, [], ◌∷◌, filter, length, MatchOption};
+ghost use Rattle.std.specs.Iterator.{YieldsFirst, item_count};
 ghost use Rattle.bit_lists.specs.Bits.{places};
 ghost use Rattle.card_sets.specs.Cards.{suit_of, same_suit};
 ghost use Rattle.card_sets.specs.SetWords.{has_card, cards_where, IsCardSet, IsSubset, Apart, first_card, next_card};
 
 use crate::card::{Card, Suit};
+use std::hash::{Hash, Hasher};
 use std::marker::Model;
 
 /// A set of cards, seen as the list of its cards in card order.
-#[derive(Clone, Copy, Debug, Default)]
+#[derive(Clone, Copy, Debug)]
 pub struct CardSet {
     bits: u64,
 }
@@ -66,6 +68,49 @@ fn lowest(bits: u64) -> Option<Card>
         None
     } else {
         Some(Card::from_number(bits.trailing_zeros() as u8))
+    }
+}
+
+impl Default for CardSet {
+    ghost is_default = { λ cards. cards ≡ [] };
+
+    fn default() -> CardSet {
+        CardSet::empty()
+    }
+}
+
+impl PartialEq for CardSet {
+    ghost use Rattle.std.specs.Cmp as laws_of;
+    ghost use Rattle.std.specs.Cmp.Lexicographic.{pointwise, nat_list_eq_equiv};
+    ghost use Rattle.std.specs.Prelude.{nat_eq};
+
+    ghost eq = { pointwise nat_eq };
+
+    ghost laws = { laws_of.partial_equiv_from_equiv nat_list_eq_equiv };
+
+    fn eq(&self, other: &CardSet) -> bool {
+        self.bits == other.bits
+    }
+}
+
+impl Eq for CardSet {
+    ghost use Rattle.std.specs.Cmp.Lexicographic.{nat_list_eq_equiv};
+
+    ghost laws = { nat_list_eq_equiv };
+}
+
+impl Hash for CardSet {
+    ghost use Rattle.std.specs.Hash as fed;
+    ghost use Rattle.std.proofs.Common.{ap};
+    ghost use Rattle.std.proofs.lemmas.Slice.Eq.{bytes_eq-Decides};
+    ghost use Rattle.bit_lists.specs.Bits.{number_at};
+
+    ghost hash_input = { λ cards. fed.u64 (number_at cards) };
+
+    ghost respects_eq = { λ these those same. ap (λ cards. fed.u64 (number_at cards)) ((bytes_eq-Decides these those).0 same) };
+
+    fn hash<H: Hasher>(&self, state: &mut H) {
+        state.write_u64(self.bits);
     }
 }
 
@@ -210,5 +255,120 @@ impl CardSet {
         let card = self.first()?;
         *self = self.without(card);
         Some(card)
+    }
+}
+
+/// The cards of a set, one after another in card order.
+#[derive(Debug, Drop)]
+pub struct Cards {
+    rest: CardSet,
+}
+
+impl Model for Cards {
+    ghost use Rattle.std.specs.Prelude.{List, ℕ};
+
+    ghost Value = { List ℕ };
+
+    ghost view = { λ cards. cards.rest };
+}
+
+impl Iterator for Cards {
+    type Item = Card;
+
+    ghost next_gives = { YieldsFirst (λ cards. cards) };
+
+    ghost remaining = { item_count (λ cards. cards) };
+
+    fn next(&mut self) -> Option<Card> {
+        self.rest.pop_first()
+    }
+}
+
+impl IntoIterator for CardSet {
+    type Item = Card;
+
+    type IntoIter = Cards;
+
+    ghost into_iter_gives = { λ these cards. cards ≡ these };
+
+    fn into_iter(self) -> Cards {
+        Cards { rest: self }
+    }
+}
+
+#[cfg(test)]
+mod tests {
+    use super::*;
+    use crate::card::Rank;
+
+    fn card(suit: Suit, rank: u8) -> Card
+        requires low { 2 ≤ rank }
+        requires high { rank ≤ 14 }
+    {
+        Card::new(suit, Rank::new(rank))
+    }
+
+    #[test]
+    fn a_pack_runs_from_the_two_of_spades_to_the_ace_of_clubs(rt: HostRuntime) {
+        let pack = CardSet::pack();
+        assert_eq!(rt; pack.count(), 52);
+        assert_eq!(rt; pack.first(), Some(card(Suit::Spades, 2)));
+        assert_eq!(rt;
+            pack.after(card(Suit::Spades, 14)),
+            Some(card(Suit::Hearts, 2))
+        );
+        assert_eq!(rt;
+            pack.after(card(Suit::Hearts, 14)),
+            Some(card(Suit::Diamonds, 2))
+        );
+        assert_eq!(rt;
+            pack.after(card(Suit::Diamonds, 14)),
+            Some(card(Suit::Clubs, 2))
+        );
+        assert_eq!(rt; pack.after(card(Suit::Clubs, 14)), None);
+        for suit in Suit::ALL {
+            assert_eq!(rt; pack.of_suit(suit).count(), 13);
+        }
+    }
+
+    #[test]
+    fn a_hand_is_listed_in_card_order(rt: HostRuntime) {
+        let king = card(Suit::Spades, 13);
+        let jack = card(Suit::Spades, 11);
+        let ten = card(Suit::Hearts, 10);
+        let hand = CardSet::empty().with(ten).with(king).with(jack).with(king);
+        let mut cards = hand.into_iter();
+        assert_eq!(rt; cards.next(), Some(jack));
+        assert_eq!(rt; cards.next(), Some(king));
+        assert_eq!(rt; cards.next(), Some(ten));
+        assert_eq!(rt; cards.next(), None);
+        assert!(rt; hand.has(king));
+        assert!(rt; !hand.without(king).has(king));
+        assert_eq!(rt; hand.of_suit(Suit::Hearts).first(), Some(ten));
+    }
+
+    #[test]
+    fn sets_combine(rt: HostRuntime) {
+        let low = CardSet::empty()
+            .with(card(Suit::Clubs, 2))
+            .with(card(Suit::Clubs, 3));
+        let high = CardSet::empty()
+            .with(card(Suit::Clubs, 3))
+            .with(card(Suit::Clubs, 4));
+        assert_eq!(rt;
+            low.minus(high),
+            CardSet::empty().with(card(Suit::Clubs, 2))
+        );
+        assert_eq!(rt; low.both(high), CardSet::empty().with(card(Suit::Clubs, 3)));
+        assert_eq!(rt; low.either(high).count(), 3);
+        assert!(rt; !low.is_disjoint(high));
+        assert!(rt; low.minus(high).is_disjoint(high));
+        assert!(rt; low.both(high).is_subset(low));
+        assert!(rt; !low.is_subset(high));
+        assert!(rt; low.minus(low).is_empty());
+        let mut rest = high;
+        assert_eq!(rt; rest.pop_first(), Some(card(Suit::Clubs, 3)));
+        assert_eq!(rt; rest.pop_first(), Some(card(Suit::Clubs, 4)));
+        assert_eq!(rt; rest.pop_first(), None);
     }
 }

@@ -1,0 +1,15 @@
+//! The laws of bridge play: tricks, positions, and nodes with the layouts that are thought possible.
+//! It stands on `card_sets` for cards and seats, and on `win_vectors` for the layouts that a card keeps.
+//! Each call is promised to equal its definition in `specs/`; `laws` says what those definitions come to.
+#![tactic(auto)]
+
+pub mod laws;
+pub mod node;
+pub mod position;
+pub mod trick;
+pub mod trump;
+
+pub use node::Node;
+pub use position::{Position, legal, play};
+pub use trick::{Trick, winner};
+pub use trump::Trump;

@@ -1,0 +1,237 @@
+//! What all at the table know, and the laws of play.
+ghost use Rattle.std.specs.Prelude.{◌≡◌, ◌<◌, ◌≤◌, ◌↔◌, true, IsTrue};
+ghost use Rattle.card_sets.specs.SetWords.{has_card, IsCardSet};
+ghost use Rattle.trick_rules.specs.Table.{to_play as seat_to_play, tricks_left as count_of_tricks, has_played as seat_has_played, places_on as count_of_places, seat_place, IsSound, FitsLeft};
+ghost use Rattle.trick_rules.specs.Play.{is_over, decided as result_of, is_declarers, legal_cards, legal_in as legal_cards_in, hand_of, after_card, CanPlay};
+
+use crate::trick::{Trick, seat_after, winner};
+use crate::trump::Trump;
+use card_sets::card::Card;
+use card_sets::seat::Seat;
+use card_sets::set::CardSet;
+use std::marker::Model;
+
+/// A position: declarer's and dummy's hands, the cards that the two defenders hold together, the present trick, the
+/// tricks that declarer's side still needs, and trumps.
+///
+/// It is sound: no card is in two of these places, the trick has fewer than four cards, the need is at most 13, and each
+/// seat has one card for each trick left, less the one that it has played to the trick.
+#[derive(Debug, Drop)]
+pub struct Position {
+    pub declarer: CardSet,
+    pub dummy: CardSet,
+    pub unseen: CardSet,
+    pub trick: Trick,
+    pub need: u8,
+    pub trump: Trump,
+}
+
+impl Model for Position {
+    ghost use Rattle.trick_rules.specs.Table.{Table, IsSound};
+
+    ghost Value = { Table };
+
+    ghost view = { λ p. record {
+      declarer = p.declarer;
+      dummy = p.dummy;
+      unseen = p.unseen;
+      trick = p.trick;
+      need = p.need;
+      trump = p.trump;
+    } };
+
+    ghost invariant = { λ p. IsSound (record {
+      declarer = p.declarer;
+      dummy = p.dummy;
+      unseen = p.unseen;
+      trick = p.trick;
+      need = p.need;
+      trump = p.trump;
+    }) };
+}
+
+impl Position {
+    /// The seat to play: clockwise from the leader, past the cards of the trick.
+    pub fn to_play(&self) -> Seat
+        ensures value { result ≡ seat_to_play self.now }
+        ensures sound { IsSound self.now }
+    {
+        seat_after(self.trick.cards.len(), self.trick.leader)
+    }
+
+    /// The tricks left, the present one among them.
+    #[tactic(auto, using(crate::proofs::CardLists::at_most_52))]
+    pub fn tricks_left(&self) -> u8
+        ensures value { result ≡ count_of_tricks self.now }
+        ensures sound { IsSound self.now }
+    {
+        let present = if self.has_played(Seat::Declarer) {
+            1
+        } else {
+            0
+        };
+        self.declarer.count() + present
+    }
+
+    /// Whether the seat has a card in the trick.
+    pub fn has_played(&self, seat: Seat) -> bool
+        ensures { result ≡ seat_has_played self.now seat }
+    {
+        usize::from(places_on(self.trick.leader, seat)) < self.trick.cards.len()
+    }
+
+    /// Whether no tricks are left.
+    pub fn over(&self) -> bool
+        ensures { result ≡ is_over self.now }
+    {
+        self.tricks_left() == 0
+    }
+
+    /// What is certain already: `Some(true)` exactly where the need is 0, `Some(false)` exactly where it is greater than
+    /// the tricks left.
+    pub fn decided(&self) -> Option<bool>
+        ensures { result ≡ result_of self.now }
+    {
+        if self.need == 0 {
+            Some(true)
+        } else if self.need > self.tricks_left() {
+            Some(false)
+        } else {
+            None
+        }
+    }
+
+    /// Whether declarer or dummy is to play.
+    pub fn is_ours(&self) -> bool
+        ensures { result ≡ is_declarers (seat_to_play self.now) }
+    {
+        is_ours(self.to_play())
+    }
+
+    /// Whether Left may hold just these cards: a part of the unseen cards, with Left's number of cards.
+    #[tactic(auto, using(crate::proofs::CardLists::at_most_52))]
+    pub fn fits(&self, left: CardSet) -> bool
+        ensures { IsTrue result ↔ FitsLeft self.now left }
+    {
+        let present = if self.has_played(Seat::Left) { 1 } else { 0 };
+        left.count() + present == self.tricks_left() && left.is_subset(self.unseen)
+    }
+
+    /// The cards of a seat where Left holds these.
+    pub fn hand(&self, seat: Seat, left: CardSet) -> CardSet
+        ensures { result ≡ hand_of (record { table = self.now; left = left }) seat }
+    {
+        match seat {
+            Seat::Declarer => self.declarer,
+            Seat::Left => left,
+            Seat::Dummy => self.dummy,
+            Seat::Right => self.unseen.minus(left),
+        }
+    }
+
+    /// The legal cards of the seat to play where Left holds these.
+    pub fn legal_in(&self, left: CardSet) -> CardSet
+        ensures { result ≡ legal_cards_in (record { table = self.now; left = left }) }
+    {
+        legal(self, self.hand(self.to_play(), left))
+    }
+
+    /// An equal position. It takes no memory.
+    pub fn copy(&self) -> Position
+        ensures { result ≡ self.now }
+    {
+        Position {
+            declarer: self.declarer,
+            dummy: self.dummy,
+            unseen: self.unseen,
+            trick: self.trick.copy(),
+            need: self.need,
+            trump: self.trump,
+        }
+    }
+}
+
+// How many places a seat sits after the leader, clockwise.
+fn places_on(leader: Seat, seat: Seat) -> u8
+    ensures value { result ≡ count_of_places leader seat }
+    ensures below { result < 4 }
+{
+    (place(seat) + 4 - place(leader)) % 4
+}
+
+// Declarer, Left, dummy and Right, clockwise from 0.
+fn place(seat: Seat) -> u8
+    ensures value { result ≡ seat_place seat }
+    ensures below { result < 4 }
+{
+    match seat {
+        Seat::Declarer => 0,
+        Seat::Left => 1,
+        Seat::Dummy => 2,
+        Seat::Right => 3,
+    }
+}
+
+/// The cards of a hand that may be played to the trick: those of the suit led if the hand has any, else the whole hand;
+/// the whole hand for the leader.
+pub fn legal(position: &Position, hand: CardSet) -> CardSet
+    ensures { result ≡ legal_cards position.now.trick.cards hand }
+{
+    let Some(suit) = position.trick.suit_led() else {
+        return hand;
+    };
+    let following = hand.of_suit(suit);
+    if following.is_empty() {
+        hand
+    } else {
+        following
+    }
+}
+
+// Whether the seat is declarer's or dummy's.
+fn is_ours(seat: Seat) -> bool
+    ensures { result ≡ is_declarers seat }
+{
+    match seat {
+        Seat::Declarer | Seat::Dummy => true,
+        Seat::Left | Seat::Right => false,
+    }
+}
+
+// The trick and the need after a card. The fourth card ends the trick.
+fn trick_after(position: &Position, card: Card) -> (Trick, u8)
+    ensures trick { result.0 ≡ (after_card position.now card).trick }
+    ensures need { result.1 ≡ (after_card position.now card).need }
+{
+    let mut trick = position.trick.copy();
+    trick.cards.push(card);
+    if trick.cards.len() < 4 {
+        return (trick, position.need);
+    }
+    let taker = winner(&trick, position.trump);
+    let need = if is_ours(taker) {
+        position.need.saturating_sub(1)
+    } else {
+        position.need
+    };
+    (Trick::led_by(taker), need)
+}
+
+/// The position after the seat to play has played a card of its hand or, for a defender, an unseen card.
+///
+/// The fourth card ends the trick: its winner leads, and the need falls by one, not below 0, where declarer's side won.
+pub fn play(position: &Position, card: Card) -> Position
+    requires { CanPlay position.now card }
+    ensures value { result ≡ after_card position.now card }
+    ensures sound { IsSound result }
+{
+    let (trick, need) = trick_after(position, card);
+    Position {
+        declarer: position.declarer.without(card),
+        dummy: position.dummy.without(card),
+        unseen: position.unseen.without(card),
+        trick,
+        need,
+        trump: position.trump,
+    }
+}

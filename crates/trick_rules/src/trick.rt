@@ -1,0 +1,109 @@
+//! A trick, and who takes it.
+ghost use Rattle.std.specs.Prelude.{◌≡◌, ◌≤◌, ◌<◌, length, [], IsTrue, ◌↔◌};
+ghost use Rattle.trick_rules.specs.Table.{seat_after as seat_that_many_on};
+ghost use Rattle.trick_rules.specs.Play.{suit_led, is_trump as is_trump_card, strength as strength_of, winner_of};
+
+use crate::trump::Trump;
+use arrayvec::ArrayVec;
+use card_sets::card::{Card, Suit};
+use card_sets::seat::Seat;
+use std::marker::Model;
+
+/// A trick: who led to it, and its cards in the order of play.
+#[derive(Debug, Drop)]
+pub struct Trick {
+    pub leader: Seat,
+    pub cards: ArrayVec<Card, 4>,
+}
+
+impl Model for Trick {
+    ghost use Rattle.trick_rules.specs.Table.{Played};
+
+    ghost Value = { Played };
+
+    ghost view = { λ trick. record { leader = trick.leader; cards = trick.cards.items } };
+}
+
+impl Trick {
+    /// A trick with no card yet.
+    pub fn led_by(leader: Seat) -> Trick
+        ensures { result ≡ record { leader = leader; cards = [] } }
+    {
+        Trick {
+            leader,
+            cards: ArrayVec::new(),
+        }
+    }
+
+    /// The suit led: `None` exactly where the trick has no card.
+    pub fn suit_led(&self) -> Option<Suit>
+        ensures { result ≡ suit_led self.now.cards }
+    {
+        Some(self.cards.first()?.suit())
+    }
+
+    /// An equal trick. It takes no memory.
+    pub fn copy(&self) -> Trick
+        ensures { result ≡ self.now }
+    {
+        let mut cards = ArrayVec::new();
+        for card in self.cards.as_slice() {
+            cards.push(*card);
+        }
+        Trick {
+            leader: self.leader,
+            cards,
+        }
+    }
+}
+
+// How high a card stands in a trick: a trump above every other card, a card of the suit led above those of the other suits.
+fn strength(trump: Trump, led: Suit, card: Card) -> u8
+    ensures value { result ≡ strength_of trump led card }
+    ensures small { result < 64 }
+{
+    let rank = card.rank().number();
+    if is_trump(trump, card) {
+        20 + rank
+    } else if card.suit() == led {
+        rank
+    } else {
+        0
+    }
+}
+
+fn is_trump(trump: Trump, card: Card) -> bool
+    ensures { result ≡ is_trump_card trump card }
+{
+    match trump {
+        Trump::Suit(suit) => card.suit() == suit,
+        Trump::NoTrump => false,
+    }
+}
+
+// The seat that many places on, clockwise.
+#[tactic(auto, using(crate::proofs::Turns::seat_after_more))]
+pub(crate) fn seat_after(places: usize, seat: Seat) -> Seat
+    ensures { result ≡ seat_that_many_on places seat }
+{
+    let mut there = seat;
+    for _place in 0..places {
+        there = there.next();
+    }
+    there
+}
+
+/// Who takes a trick of four cards: the highest trump, or where there is none the highest card of the suit led.
+pub fn winner(trick: &Trick, trump: Trump) -> Seat
+    requires { length trick.now.cards ≡ 4 }
+    ensures { result ≡ winner_of trump trick.now }
+{
+    let led = trick.cards[0].suit();
+    let mut best = 0;
+    for place in 1..trick.cards.len() {
+        if strength(trump, led, trick.cards[best]) < strength(trump, led, trick.cards[place]) {
+            best = place;
+        }
+    }
+    seat_after(best, trick.leader)
+}

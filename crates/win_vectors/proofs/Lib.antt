@@ -1,0 +1,6 @@
+pub mod VectorLemmas
+pub mod Orders
+pub mod Members
+pub mod Insertion
+pub mod Reduction
+mod WordLemmas

@@ -1,0 +1,134 @@
+-- Lists of bits: ones, meet, dominance, and the parts that a mask picks.
+use Rattle.std.proofs.Common.{◌≡◌, ℕ, suc, zero, ◌+◌, ◌<◌, ◌≤◌, Bool, true, false, ◌&&◌, [], ◌∷◌, ◌++◌, length, refl, ap, arith, if◌then◌else◌, get_or}
+use Rattle.std.proofs.lemmas.Bool.Decides.{nat_tests}
+use Rattle.std.proofs.lemmas.Bool.{true≢false, false≢true}
+use Rattle.std.specs.Bool.{Decides}
+use Rattle.std.proofs.Math.Bool.{beq}
+use Rattle.std.specs.Cmp.Lexicographic.{pointwise, pointwise_decides}
+use Rattle.win_vectors.specs.Vectors.{ones_of, meet_of, dominates, restrict_of, spread_of, earlier_one, vector_order}
+use Rattle.std.specs.declared.cmp.Ordering.TheVariants.{Less, Equal, Greater}
+use Rattle.win_vectors.specs.Fronts.{Vector, IsAtLeast, Dominates}
+
+-- ---- equality
+
+Decides-beq : (x y : Bool) → Decides (beq x y) (x ≡ y)
+Decides-beq true true = (λ e. refl, λ e. refl)
+Decides-beq true false = (λ e. absurd (false≢true e), λ e. absurd (true≢false e))
+Decides-beq false true = (λ e. absurd (false≢true e), λ e. absurd (false≢true e))
+Decides-beq false false = (λ e. refl, λ e. refl)
+
+pub Decides-same : (us vs : Vector) → Decides (pointwise beq us vs) (us ≡ vs)
+Decides-same us vs = pointwise_decides Decides-beq us vs
+
+-- ---- ones
+
+pub ones_of-append : (us vs : Vector) → ones_of (us ++ vs) ≡ ones_of us + ones_of vs
+ones_of-append [] vs = omega arith
+ones_of-append (u ∷ us) vs = omega (arith, ones_of-append us vs)
+
+pub ones_of-le : (vs : Vector) → ones_of vs ≤ length vs
+ones_of-le [] = omega arith
+ones_of-le (true ∷ vs) = omega (arith, ones_of-le vs)
+ones_of-le (false ∷ vs) = omega (arith, ones_of-le vs)
+
+-- ---- meet
+
+pub length-meet_of : (us vs : Vector) → length us ≡ length vs → length (meet_of us vs) ≡ length us
+length-meet_of [] vs e = refl
+length-meet_of (u ∷ us) [] e = omega arith
+length-meet_of (u ∷ us) (v ∷ vs) e = omega (arith, length-meet_of us vs (omega arith))
+
+pub get_or-meet_of : (us vs : Vector) (i : ℕ) (d : Bool) → i < length us → i < length vs → get_or (meet_of us vs) i d ≡ (get_or us i d && get_or vs i d)
+get_or-meet_of [] vs i d h k = absurd (omega arith)
+get_or-meet_of (u ∷ us) [] i d h k = absurd (omega arith)
+get_or-meet_of (u ∷ us) (v ∷ vs) zero d h k = refl
+get_or-meet_of (u ∷ us) (v ∷ vs) (suc i) d h k = get_or-meet_of us vs i d (omega arith) (omega arith)
+
+-- ---- dominance
+
+pub Decides-dominates : (us vs : Vector) → Decides (dominates us vs) (Dominates us vs)
+Decides-dominates [] [] = (λ e. tt, λ d. refl)
+Decides-dominates [] (v ∷ vs) = (λ e. absurd (false≢true e), λ d. absurd d)
+Decides-dominates (u ∷ us) [] = (λ e. absurd (false≢true e), λ d. absurd d)
+Decides-dominates (true ∷ us) (v ∷ vs) = let rest = Decides-dominates us vs in (λ e. (tt, rest.0 e), λ d. rest.1 d.1)
+Decides-dominates (false ∷ us) (true ∷ vs) = (λ e. absurd (false≢true e), λ d. absurd d.0)
+Decides-dominates (false ∷ us) (false ∷ vs) = let rest = Decides-dominates us vs in (λ e. (tt, rest.0 e), λ d. rest.1 d.1)
+
+pub Dominates-from_places : (us vs : Vector) → length us ≡ length vs → ((i : ℕ) → i < length us → IsAtLeast (get_or us i true) (get_or vs i true)) → Dominates us vs
+Dominates-from_places [] [] e h = tt
+Dominates-from_places [] (v ∷ vs) e h = absurd (omega arith)
+Dominates-from_places (u ∷ us) [] e h = absurd (omega arith)
+Dominates-from_places (u ∷ us) (v ∷ vs) e h =
+    (h zero (omega arith), Dominates-from_places us vs (omega arith) (λ i within. h (suc i) (omega arith)))
+
+-- ---- the parts that a mask picks
+
+pub restrict_of-push : (vs ms : Vector) (v m : Bool) → length vs ≡ length ms → restrict_of (vs ++ v ∷ []) (ms ++ m ∷ []) ≡ restrict_of vs ms ++ (if m then v ∷ [] else [])
+restrict_of-push [] [] v true e = refl
+restrict_of-push [] [] v false e = refl
+restrict_of-push [] (b ∷ ms) v m e = absurd (omega arith)
+restrict_of-push (u ∷ vs) [] v m e = absurd (omega arith)
+restrict_of-push (u ∷ vs) (true ∷ ms) v m e = ap (λ us. u ∷ us) (restrict_of-push vs ms v m (omega arith))
+restrict_of-push (u ∷ vs) (false ∷ ms) v m e = restrict_of-push vs ms v m (omega arith)
+
+pub spread_of-push_one : (vs ms : Vector) (v : Bool) → length vs ≡ ones_of ms → spread_of (vs ++ v ∷ []) (ms ++ true ∷ []) ≡ spread_of vs ms ++ v ∷ []
+spread_of-push_one [] [] v e = refl
+spread_of-push_one (u ∷ vs) [] v e = absurd (omega arith)
+spread_of-push_one vs (false ∷ ms) v e = ap (λ us. true ∷ us) (spread_of-push_one vs ms v (omega arith))
+spread_of-push_one [] (true ∷ ms) v e = absurd (omega arith)
+spread_of-push_one (u ∷ vs) (true ∷ ms) v e = ap (λ us. u ∷ us) (spread_of-push_one vs ms v (omega arith))
+
+pub spread_of-push_zero : (vs ms : Vector) → length vs ≡ ones_of ms → spread_of vs (ms ++ false ∷ []) ≡ spread_of vs ms ++ true ∷ []
+spread_of-push_zero [] [] e = refl
+spread_of-push_zero (u ∷ vs) [] e = absurd (omega arith)
+spread_of-push_zero vs (false ∷ ms) e = ap (λ us. true ∷ us) (spread_of-push_zero vs ms (omega arith))
+spread_of-push_zero [] (true ∷ ms) e = absurd (omega arith)
+spread_of-push_zero (u ∷ vs) (true ∷ ms) e = ap (λ us. u ∷ us) (spread_of-push_zero vs ms (omega arith))
+
+-- ---- order
+
+pub earlier_one-same : (vs : Vector) → earlier_one vs vs ≡ Equal
+earlier_one-same [] = refl
+earlier_one-same (true ∷ vs) = earlier_one-same vs
+earlier_one-same (false ∷ vs) = earlier_one-same vs
+
+pub vector_order-same : (vs : Vector) → vector_order vs vs ≡ Equal
+vector_order-same vs = rw (earlier_one-same vs) (grind (arith, nat_tests))
+
+-- the two agree below a place where the first has 1 and the second 0
+pub record DifferAt (us vs : Vector) (place : ℕ) : Type 0 where
+  pub in_first : place < length us
+  pub in_second : place < length vs
+  pub agree : (i : ℕ) → i < place → get_or us i true ≡ get_or vs i true
+  pub one : get_or us place true ≡ true
+  pub zero : get_or vs place true ≡ false
+
+-- the same, past the first place
+DifferAt-rest : (u v : Bool) (us vs : Vector) (place : ℕ) → DifferAt (u ∷ us) (v ∷ vs) (suc place) → DifferAt us vs place
+DifferAt-rest u v us vs place h = record {
+  in_first = omega arith;
+  in_second = omega arith;
+  agree = λ i below. h.agree (suc i) (omega arith);
+  one = h.one;
+  zero = h.zero;
+}
+
+pub earlier_one-less : (us vs : Vector) (place : ℕ) → DifferAt us vs place → earlier_one us vs ≡ Less
+earlier_one-less [] vs place h = absurd (omega arith)
+earlier_one-less (u ∷ us) [] place h = absurd (omega arith)
+earlier_one-less (true ∷ us) (false ∷ vs) place h = refl
+earlier_one-less (true ∷ us) (true ∷ vs) zero h = absurd (true≢false h.zero)
+earlier_one-less (true ∷ us) (true ∷ vs) (suc place) h = earlier_one-less us vs place (DifferAt-rest true true us vs place h)
+earlier_one-less (false ∷ us) (v ∷ vs) zero h = absurd (false≢true h.one)
+earlier_one-less (false ∷ us) (true ∷ vs) (suc place) h = absurd (false≢true (h.agree 0 (omega arith)))
+earlier_one-less (false ∷ us) (false ∷ vs) (suc place) h = earlier_one-less us vs place (DifferAt-rest false false us vs place h)
+
+pub earlier_one-greater : (us vs : Vector) (place : ℕ) → DifferAt vs us place → earlier_one us vs ≡ Greater
+earlier_one-greater [] vs place h = absurd (omega arith)
+earlier_one-greater (u ∷ us) [] place h = absurd (omega arith)
+earlier_one-greater (false ∷ us) (true ∷ vs) place h = refl
+earlier_one-greater (true ∷ us) (true ∷ vs) zero h = absurd (true≢false h.zero)
+earlier_one-greater (true ∷ us) (true ∷ vs) (suc place) h = earlier_one-greater us vs place (DifferAt-rest true true vs us place h)
+earlier_one-greater (u ∷ us) (false ∷ vs) zero h = absurd (false≢true h.one)
+earlier_one-greater (true ∷ us) (false ∷ vs) (suc place) h = absurd (false≢true (h.agree 0 (omega arith)))
+earlier_one-greater (false ∷ us) (false ∷ vs) (suc place) h = earlier_one-greater us vs place (DifferAt-rest false false vs us place h)

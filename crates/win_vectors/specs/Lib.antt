@@ -1,0 +1,5 @@
+pub mod Vectors
+pub mod Fronts
+pub mod Words
+pub mod VectorLaws
+pub mod Laws
