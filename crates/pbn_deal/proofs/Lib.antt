@@ -5,3 +5,5 @@ pub mod Dealt
 pub mod Sizes
 pub mod Written
 pub mod Sound
+pub mod RowSteps
+pub mod CourseSteps

@@ -9,6 +9,7 @@ use Rattle.trick_rules.specs.declared.trump.Trump.{Trump}
 use Rattle.trick_rules.specs.Table.{Played as Trick, seat_after}
 use Rattle.trick_rules.specs.Play.{legal_cards, take_out, winner_of}
 use Rattle.pbn_deal.specs.declared.board.Played.{Played}
+use Rattle.pbn_deal.specs.declared.course.Course.{Course}
 use Rattle.pbn_deal.specs.Deal.{compass_place}
 
 -- a board as it was before the first card, and the cards played, in the order of play
@@ -69,12 +70,6 @@ next_trick trump trick card =
 -- clockwise from the trick's leader, past its cards
 abbrev pub turn_in : Trick → Seat
 turn_in trick = seat_after (length trick.cards) trick.leader
-
--- the hands of declarer's side at some moment, and the present trick
-pub record Course : Type 0 where
-  pub declarer : List ℕ
-  pub dummy : List ℕ
-  pub trick : Trick
 
 -- the card leaves the hand of the seat that plays it: a defender's card leaves neither of these hands
 abbrev pub declarer_without : Seat → ℕ → List ℕ → List ℕ

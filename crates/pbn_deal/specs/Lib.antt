@@ -6,3 +6,4 @@ pub mod Boards
 pub mod Marks
 pub mod Tags
 pub mod Sections
+pub mod Rows

@@ -1,11 +1,12 @@
 //! A board: the hands of declarer's side as they were dealt, and the play so far.
 ghost use Rattle.std.specs.Prelude.{◌≡◌};
-ghost use Rattle.pbn_deal.specs.Boards.{compass_of, seat_of, dealt_board, IsDealt, IsBoard};
+ghost use Rattle.pbn_deal.specs.Boards.{compass_of, seat_of, dealt_board, IsDealt, IsBoard, turn_of};
 
+use crate::course::{add_card, turn_in};
 use card_sets::{Card, CardSet, Compass, Seat};
 use std::alloc::Global;
 use std::marker::Model;
-use trick_rules::trump::Trump;
+use trick_rules::{Trick, Trump};
 
 /// A card, and the seat that played it.
 #[derive(Clone, Copy, Debug, PartialEq, Eq)]
@@ -177,5 +178,19 @@ impl Board {
         ensures sound { IsBoard self.now }
     {
         &self.plays
+    }
+
+    /// The seat to play after the plays: `None` exactly where the play is over. It takes no memory.
+    pub fn turn(&self) -> Option<Seat>
+        ensures { result ≡ turn_of self.now }
+    {
+        if self.plays.len() == 4 * self.declarer_hand.count() as usize {
+            return None;
+        }
+        let mut trick = Trick::led_by(self.leader);
+        for play in &self.plays {
+            add_card(&mut trick, self.trump, play.card);
+        }
+        Some(turn_in(&trick))
     }
 }

@@ -4,10 +4,12 @@
 #![tactic(auto)]
 
 pub mod board;
+pub mod course;
 pub mod deal;
 pub mod fault;
 mod hands;
 pub mod mark;
+mod row;
 pub mod section;
 pub mod tags;
 pub mod writing;
