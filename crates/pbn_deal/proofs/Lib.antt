@@ -7,3 +7,4 @@ pub mod Written
 pub mod Sound
 pub mod RowSteps
 pub mod CourseSteps
+pub mod PlaySound

@@ -40,9 +40,9 @@ pub row_more : (trump : Trump) (tricks : ℕ) (start course next : Course) (row 
 row_more trump tricks start course next row left rest entry card seat plays longer read split is turn fair goes pushed =
     let after = λ (s : Seat) (n : Course). prepend (record { seat = s; card = card } ∷ []) (row_played trump tricks n rest) in
     let step : row_played trump tricks course (entry ∷ rest) ≡ after seat next =
-      ap (λ o. if_card o (λ card. unless_fault (card_fault tricks course (turn_in course.trick) card) entry.line (prepend (record { seat = turn_in course.trick; card = card } ∷ []) (row_played trump tricks (next_course trump course card) rest)))) is
-      ∙ ap (λ f. unless_fault f entry.line (after (turn_in course.trick) (next_course trump course card))) (sym (ap (λ s. card_fault tricks course s card) turn) ∙ fair)
-      ∙ sym (ap₂ after turn goes) in
+    ap (λ o. if_card o (λ card. unless_fault (card_fault tricks course (turn_in course.trick) card) entry.line (prepend (record { seat = turn_in course.trick; card = card } ∷ []) (row_played trump tricks (next_course trump course card) rest)))) is
+    ∙ ap (λ f. unless_fault f entry.line (after (turn_in course.trick) (next_course trump course card))) (sym (ap (λ s. card_fault tricks course s card) turn) ∙ fair)
+    ∙ sym (ap₂ after turn goes) in
     read ∙ ap (λ es. prepend plays (row_played trump tricks course es)) split ∙ ap (prepend plays) step
     ∙ sym (ap (λ ps. prepend ps (row_played trump tricks next rest)) pushed ∙ prepend-prepend plays (record { seat = seat; card = card }) (row_played trump tricks next rest))
 
@@ -68,7 +68,7 @@ rows_more trump first tricks left fewer start course next all rest others row pl
     let turned = in_turn first course.trick.leader row in
     let onward = λ (ps : List Played). prepend ps (rows_played trump first (left - 1) (course_after trump course ps) others) in
     let step : rows_played trump first left course (row ∷ others) ≡ onward more =
-      ap (λ g. unless_gap g (then_read (row_played trump left course turned) onward)) whole ∙ ap (λ r. then_read r onward) played in
+    ap (λ g. unless_gap g (then_read (row_played trump left course turned) onward)) whole ∙ ap (λ r. then_read r onward) played in
     read ∙ ap (λ rs. prepend plays (rows_played trump first left course rs)) split ∙ ap (prepend plays) step
     ∙ sym (prepend-append plays more (rows_played trump first (left - 1) (course_after trump course more) others))
     ∙ sym (ap (λ ps. prepend ps (rows_played trump first fewer next others)) added ∙ ap (λ n. prepend (plays ++ more) (rows_played trump first n next others)) falls ∙ ap (λ k. prepend (plays ++ more) (rows_played trump first (left - 1) k others)) goes)

@@ -33,9 +33,9 @@ has_card-flat_map f [] j d card inside has = absurd (omega arith)
 has_card-flat_map f (w ∷ ws) zero d card inside has = has_card-append (f w) (flat_map f ws) card ∙ ap (λ b. b || has_card (flat_map f ws) card) has
 has_card-flat_map f (w ∷ ws) (suc j) d card inside has =
     has_card-append (f w) (flat_map f ws) card ∙ ap (λ b. has_card (f w) card || b) (has_card-flat_map f ws j d card (omega arith) has) ∙ or_true (has_card (f w) card) where
-  or_true : (b : Bool) → (b || true) ≡ true
-  or_true true = refl
-  or_true false = refl
+      or_true : (b : Bool) → (b || true) ≡ true
+      or_true true = refl
+      or_true false = refl
 
 -- where no card comes twice in all hands, a card of one isn't in another
 pub apart_at : {X : Type 0} (f : X → List ℕ) (ws : List X) (i j : ℕ) (d : X) (card : ℕ) → has_repeat (flat_map f ws) ≡ false → i < j → j < length ws
@@ -226,8 +226,8 @@ IsSoundDeal-from_dealt first ws deal dealt =
     let shows : (seat : Compass) (hand : List ℕ) → hand_at deal seat ≡ Some hand → hand_read (word seat) ≡ Some hand = λ seat hand at. sym (at_seat first seat ws deal dealt) ∙ at in
     let size = one_size_of (shown_sizes (map hand_read ws)) dealt.one_size in
     let length_at : (seat : Compass) (hand : List ℕ) → hand_at deal seat ≡ Some hand → length hand ≡ size.0 =
-      λ seat hand at. size_at (map hand_read ws) size.0 (turn first seat) hand size.1.each
-        (get_or-map hand_read ws (turn first seat) [] None (omega (arith, dealt.four, turn_below first seat)) ∙ shows seat hand at) in
+    λ seat hand at. size_at (map hand_read ws) size.0 (turn first seat) hand size.1.each
+    (get_or-map hand_read ws (turn first seat) [] None (omega (arith, dealt.four, turn_below first seat)) ∙ shows seat hand at) in
     record {
       four = ap length dealt.hands ∙ length_turned first (map hand_read ws) ∙ length-map ws hand_read ∙ dealt.four;
       shown = ap (list_any is_some) dealt.hands ∙ some_turned first (map hand_read ws) ∙ some_shown (map hand_read ws) dealt.one_size;
@@ -236,7 +236,7 @@ IsSoundDeal-from_dealt first ws deal dealt =
       few = λ seat hand at. omega (arith, length_at seat hand at, size.1.few);
       one_size = λ seat other hand cards at there. length_at seat hand at ∙ sym (length_at other cards there);
       apart = λ seat other hand cards differ at there. Apart-shown (word seat) (word other) hand cards (shows seat hand at) (shows other cards there)
-        (λ card has. apart_either hand_cards ws (turn first seat) (turn first other) [] card dealt.once (turn_apart first seat other differ) (omega (arith, dealt.four, turn_below first seat)) (omega (arith, dealt.four, turn_below first other)) has);
+          (λ card has. apart_either hand_cards ws (turn first seat) (turn first other) [] card dealt.once (turn_apart first seat other differ) (omega (arith, dealt.four, turn_below first seat)) (omega (arith, dealt.four, turn_below first other)) has);
     }
 
 pub IsSoundDeal-read : (value : List ℕ) (result : Result DealValue DealFault) → result ≡ deal_read value → IfOk result IsSoundDeal

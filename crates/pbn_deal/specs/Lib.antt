@@ -7,3 +7,4 @@ pub mod Marks
 pub mod Tags
 pub mod Sections
 pub mod Rows
+pub mod BoardRead

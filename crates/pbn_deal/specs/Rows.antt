@@ -82,7 +82,7 @@ row_played trump tricks course [] = Ok []
 row_played trump tricks course (entry ∷ rest) =
     if_card entry.card
     (λ card. unless_fault (card_fault tricks course (turn_in course.trick) card) entry.line
-      (prepend (record { seat = turn_in course.trick; card = card } ∷ []) (row_played trump tricks (next_course trump course card) rest)))
+    (prepend (record { seat = turn_in course.trick; card = card } ∷ []) (row_played trump tricks (next_course trump course card) rest)))
 
 abbrev pub unless_gap : Option ℕ → Result (List Played) BoardRefusal → Result (List Played) BoardRefusal
 unless_gap None plays = plays
@@ -94,4 +94,4 @@ rows_played trump first tricks course [] = Ok []
 rows_played trump first tricks course (row ∷ rows) =
     unless_gap (gap_line (in_turn first course.trick.leader row) (first_entry rows))
     (then_read (row_played trump tricks course (in_turn first course.trick.leader row))
-      (λ plays. prepend plays (rows_played trump first (tricks - 1) (course_after trump course plays) rows)))
+    (λ plays. prepend plays (rows_played trump first (tricks - 1) (course_after trump course plays) rows)))

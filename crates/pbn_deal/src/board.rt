@@ -113,6 +113,15 @@ impl Board {
         }
     }
 
+    // The board after these cards, in place of those that it had.
+    pub(crate) fn with_plays(mut self, plays: Vec<Played>) -> Board
+        requires { IsBoard (record self { plays = plays.items }) }
+        ensures { result ≡ record self { plays = plays.items } }
+    {
+        self.plays = plays;
+        self
+    }
+
     /// Declarer's place at the table.
     pub fn declarer(&self) -> Compass
         ensures { result ≡ self.now.declarer }

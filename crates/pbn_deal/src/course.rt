@@ -47,7 +47,11 @@ pub fn legal_cards(trick: &Trick, hand: CardSet) -> CardSet
         return hand;
     };
     let following = hand.of_suit(led.suit());
-    if following.is_empty() { hand } else { following }
+    if following.is_empty() {
+        hand
+    } else {
+        following
+    }
 }
 
 impl Course {

@@ -124,7 +124,13 @@ fn card_fault(tricks: u8, course: &Course, seat: Seat, card: Card) -> Option<Boa
 }
 
 // Plays the cards of a row, which stands from the leader on, up to the first entry with none.
-fn play_row(alloc: Global, trump: Trump, tricks: u8, course: &mut Course, row: &[Entry]) -> Result<Vec<Played>, BoardRefusal>
+fn play_row(
+    alloc: Global,
+    trump: Trump,
+    tricks: u8,
+    course: &mut Course,
+    row: &[Entry],
+) -> Result<Vec<Played>, BoardRefusal>
     requires { length course.old.trick.cards < 4 }
     ensures plays { MatchResult result (λ plays. row_played trump tricks course.old row.now ≡ Ok plays.items) (IsRefusalOf (row_played trump tricks course.old row.now)) }
     ensures after { IfOk result (λ plays. course.new ≡ course_after trump course.old plays.items) }
@@ -142,7 +148,9 @@ fn play_row(alloc: Global, trump: Trump, tricks: u8, course: &mut Course, row: &
                 kind,
             });
         }
-        plays.push(Played { seat, card }).map_err(|_| BoardRefusal::Memory)?;
+        plays
+            .push(Played { seat, card })
+            .map_err(|_| BoardRefusal::Memory)?;
         course.play(trump, card);
     }
     Ok(plays)
@@ -150,7 +158,14 @@ fn play_row(alloc: Global, trump: Trump, tricks: u8, course: &mut Course, row: &
 
 /// The play that the entries of a section tell by rows, or the first fault. The course is that before the first card,
 /// the seat is the one that leads first, and so many tricks are to be played.
-pub fn play_rows(alloc: Global, trump: Trump, first: Seat, tricks: u8, course: &mut Course, entries: &[Entry]) -> Result<Vec<Played>, BoardRefusal>
+pub fn play_rows(
+    alloc: Global,
+    trump: Trump,
+    first: Seat,
+    tricks: u8,
+    course: &mut Course,
+    entries: &[Entry],
+) -> Result<Vec<Played>, BoardRefusal>
     requires { length course.old.trick.cards < 4 }
     ensures { MatchResult result
         (λ plays. rows_played trump first tricks course.old (rows_of entries.now) ≡ Ok plays.items)
@@ -169,7 +184,9 @@ pub fn play_rows(alloc: Global, trump: Trump, first: Seat, tricks: u8, course: &
             });
         }
         let more = play_row(alloc, trump, tricks_left, course, &row)?;
-        plays.extend_from_slice(&more).map_err(|_| BoardRefusal::Memory)?;
+        plays
+            .extend_from_slice(&more)
+            .map_err(|_| BoardRefusal::Memory)?;
         tricks_left = tricks_left.saturating_sub(1);
         rest = others;
     }

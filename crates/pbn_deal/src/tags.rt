@@ -1,5 +1,6 @@
 //! What the tags of a game say: the deal, the contract, declarer, and how much of the play is left.
-ghost use Rattle.std.specs.Prelude.{◌≡◌, ◌≤◌, length, option_copied, option_map};
+ghost use Rattle.std.specs.Prelude.{◌≡◌, ◌≤◌, length, option_copied, option_map, IfOk, IfSome};
+ghost use Rattle.pbn_deal.specs.Deal.{IsSoundDeal};
 ghost use Rattle.pbn_deal.specs.Tags.{
   tag_named,
   first_line,
@@ -84,7 +85,8 @@ pub fn inherited_line(game: &Game) -> Option<u32>
 /// The hands of the Deal tag.
 pub fn read_deal_tag(game: &Game) -> Result<DealValue, BoardRefusal>
     requires { 1 ≤ length game.now.tags }
-    ensures { result ≡ deal_in game.now }
+    ensures value { result ≡ deal_in game.now }
+    ensures sound { IfOk result IsSoundDeal }
 {
     let Some(tag) = find_tag(game, b"Deal") else {
         return Err(at_first_tag(game, BoardFault::NoDeal));
@@ -137,7 +139,8 @@ fn read_trump(text: &[u8]) -> Option<Trump>
 
 // A level from 1 to 7 and the trumps, with blanks at both ends.
 fn read_contract(value: &[u8]) -> Option<Contract>
-    ensures { result ≡ contract_read value.now }
+    ensures value { result ≡ contract_read value.now }
+    ensures level { IfSome result (λ contract. contract.level ≤ 7) }
 {
     match skip_blanks(value) {
         [level @ b'1'..=b'7', rest @ ..] => Some(Contract {
@@ -151,7 +154,8 @@ fn read_contract(value: &[u8]) -> Option<Contract>
 /// The contract of the Contract tag.
 pub fn read_contract_tag(game: &Game) -> Result<Contract, BoardRefusal>
     requires { 1 ≤ length game.now.tags }
-    ensures { result ≡ contract_in game.now }
+    ensures value { result ≡ contract_in game.now }
+    ensures level { IfOk result (λ contract. contract.level ≤ 7) }
 {
     let Some(tag) = find_tag(game, b"Contract") else {
         return Err(at_first_tag(game, BoardFault::NoContract));
@@ -194,7 +198,8 @@ pub fn read_declarer_tag(game: &Game) -> Result<Compass, BoardRefusal>
 
 // A decimal number from 0 to 13 of one or two digits.
 fn read_need(value: &[u8]) -> Option<u8>
-    ensures { result ≡ need_read value.now }
+    ensures value { result ≡ need_read value.now }
+    ensures fits { IfSome result (λ need. need ≤ 13) }
 {
     let need = match value {
         [digit @ b'0'..=b'9'] => *digit - b'0',
@@ -225,7 +230,8 @@ pub fn read_ending(
     lead: Option<&Tag>,
 ) -> Result<Ending, BoardRefusal>
     requires { contract.level ≤ 7 }
-    ensures { result ≡ ending_read line declarer contract tricks (option_copied need.entry) (option_copied lead.entry) }
+    ensures value { result ≡ ending_read line declarer contract tricks (option_copied need.entry) (option_copied lead.entry) }
+    ensures fits { IfOk result (λ ending. ending.need ≤ 13) }
 {
     match (need, lead) {
         (None, None) if tricks == 13 => Ok(Ending {

@@ -21,7 +21,7 @@ loop-entry-preserved c =
     record {
       short = c.play.ensures.short;
       after =
-        c.play.ensures.value ∙ ap (λ k. next_course c.args.trump k c.in-Some.card) c.loop-entry.invariant.after
-        ∙ sym (ap (course_after c.args.trump c.args.course.now) pushed ∙ course_after-append c.args.trump c.args.course.now c.loop-entry.plays.items (record { seat = c.turn_in-seat.result; card = c.in-Some.card } ∷ []));
+          c.play.ensures.value ∙ ap (λ k. next_course c.args.trump k c.in-Some.card) c.loop-entry.invariant.after
+          ∙ sym (ap (course_after c.args.trump c.args.course.now) pushed ∙ course_after-append c.args.trump c.args.course.now c.loop-entry.plays.items (record { seat = c.turn_in-seat.result; card = c.in-Some.card } ∷ []));
       read = row_more c.args.trump c.args.tricks c.args.course.now c.loop-entry.course c.play.new.self row (drop i row) (drop (i + 1) row) entry c.in-Some.card c.turn_in-seat.result c.loop-entry.plays.items c.push.new.self.items c.loop-entry.invariant.read split c.in-Some.is c.turn_in-seat.ensures fair c.play.ensures.value pushed;
     }
