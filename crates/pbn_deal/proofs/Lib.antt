@@ -8,3 +8,4 @@ pub mod Sound
 pub mod RowSteps
 pub mod CourseSteps
 pub mod PlaySound
+pub mod DealtBoards

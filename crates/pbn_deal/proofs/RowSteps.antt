@@ -1,14 +1,12 @@
 -- Entries by fours, row by row.
-use Rattle.std.proofs.Common.{◌≡◌, ℕ, suc, ◌+◌, ◌-◌, ◌<◌, ◌≤◌, List, [], ◌∷◌, ◌++◌, Option, None, Some, Result, Ok, Err, length, drop, refl, sym, ap, ap₂, ◌∙◌, arith, min, get_or}
+use Rattle.std.proofs.Common.{◌≡◌, ℕ, suc, ◌-◌, ◌<◌, List, [], ◌∷◌, ◌++◌, None, Some, Result, Ok, Err, length, drop, refl, sym, ap, ap₂, ◌∙◌, arith, min, get_or}
 use Rattle.std.specs.Prelude.{slice_get}
 use Rattle.std.proofs.lemmas.List.{append_assoc}
 use Rattle.card_sets.specs.declared.seat.Seat.{Seat}
 use Rattle.trick_rules.specs.declared.trump.Trump.{Trump}
 use Rattle.pbn_deal.specs.declared.board.Played.{Played}
 use Rattle.pbn_deal.specs.declared.course.Course.{Course}
-use Rattle.pbn_deal.specs.declared.fault.BoardFault.TheVariants.{PlayGap}
 use Rattle.pbn_deal.specs.declared.fault.BoardRefusal.{BoardRefusal}
-use Rattle.pbn_deal.specs.declared.fault.BoardRefusal.TheVariants.{Fault}
 use Rattle.pbn_deal.specs.declared.section.Entry.{Entry}
 use Rattle.pbn_deal.specs.Boards.{turn_in, next_course, course_after}
 use Rattle.pbn_deal.specs.Sections.{prepend}

@@ -1,13 +1,12 @@
 -- A hand's suits, one after another.
-use Rattle.std.proofs.Common.{◌≡◌, ℕ, zero, suc, ◌+◌, ◌<◌, ◌≤◌, Bool, true, false, ◌||◌, not, cond, ltb, eqb, get_or, List, [], ◌∷◌, ◌++◌, length, map, filter, take, drop, zip, flat_map, Option, Some, None, refl, sym, ap, ap₂, ◌∙◌, arith, inl, inr}
-use Rattle.std.specs.Prelude.{◌==◌, count_by, filter_map}
-use Rattle.std.specs.List.{list_all, slice_split, onto_first, position_or_len, before_first, after_first}
+use Rattle.std.proofs.Common.{◌≡◌, ℕ, ◌+◌, ◌<◌, ◌≤◌, Bool, true, false, ◌||◌, cond, ltb, get_or, List, [], ◌∷◌, ◌++◌, length, drop, Option, Some, None, refl, sym, ap, ap₂, ◌∙◌, arith, inl, inr}
+use Rattle.std.specs.Prelude.{◌==◌, count_by}
+use Rattle.std.specs.List.{slice_split, onto_first, position_or_len, before_first, after_first}
 use Rattle.std.proofs.lemmas.Bool.{ltb-false, cases_lt, cases_Bool}
-use Rattle.std.proofs.lemmas.List.Sums.{prefix_len-le-length}
 use Rattle.std.proofs.lemmas.List.Splits.{length-slice_split, slice_split-cons_no, slice_split_first}
 use Rattle.std.proofs.lemmas.List.{take_all, drop_all, drop_more}
 use Rattle.card_sets.specs.declared.card.Suit.{Suit}
-use Rattle.pbn_deal.specs.Hands.{is_hidden, is_full_stop, suits_of, suit_order, has_four_suits, has_rank_letters, suit_cards, cards_in}
+use Rattle.pbn_deal.specs.Hands.{is_hidden, is_full_stop, suits_of, suit_order, has_four_suits, suit_cards, cards_in}
 
 -- ---- where the first element that passes stands
 

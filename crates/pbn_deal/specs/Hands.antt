@@ -1,5 +1,5 @@
 -- A hand in the Deal form: a dash where it isn't shown, or four suits with full stops between them.
-use Rattle.std.specs.Prelude.{ℕ, Bool, true, false, ◌||◌, ◌==◌, List, [], ◌∷◌, length, map, filter_map, flat_map, zip, Option, Some, None, is_some, if◌then◌else◌}
+use Rattle.std.specs.Prelude.{ℕ, Bool, false, ◌||◌, ◌==◌, List, [], ◌∷◌, length, map, filter_map, flat_map, zip, Option, Some, None, is_some, if◌then◌else◌}
 use Rattle.std.specs.List.{slice_split, list_all}
 use Rattle.card_sets.specs.declared.card.Suit.{Suit}
 use Rattle.card_sets.specs.declared.card.Suit.TheVariants.{Spades, Hearts, Diamonds, Clubs}

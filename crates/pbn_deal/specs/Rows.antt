@@ -1,5 +1,5 @@
 -- The rows of a Play section as the play of a board.
-use Rattle.std.specs.Prelude.{ℕ, ◌-◌, Bool, not, ◌==◌, Option, None, Some, is_some, Result, Ok, Err, List, [], ◌∷◌, ◌++◌, take, drop, find, option_map, if◌then◌else◌}
+use Rattle.std.specs.Prelude.{ℕ, ◌-◌, not, ◌==◌, Option, None, Some, is_some, Result, Ok, Err, List, [], ◌∷◌, ◌++◌, take, drop, find, option_map, if◌then◌else◌}
 use Rattle.std.specs.Option.{option_or}
 use Rattle.card_sets.specs.declared.seat.Seat.{Seat}
 use Rattle.card_sets.specs.declared.seat.Seat.TheVariants.{Declarer, Left, Dummy, Right}

@@ -1,15 +1,14 @@
 -- What the tags of a game say: the deal, the contract, declarer, and how much of the play is left.
-use Rattle.std.specs.Prelude.{ℕ, ◌+◌, ◌-◌, ◌*◌, Bool, true, false, not, ◌&&◌, ◌||◌, ◌==◌, nat_le, Option, None, Some, Result, Ok, Err, List, [], ◌∷◌, length, find, option_map, ok_or, codes, bytes_eq, if◌then◌else◌}
+use Rattle.std.specs.Prelude.{ℕ, ◌+◌, ◌-◌, ◌*◌, Bool, false, ◌&&◌, ◌==◌, nat_le, Option, None, Some, Result, Ok, Err, List, [], ◌∷◌, length, find, option_map, ok_or, codes, bytes_eq, if◌then◌else◌}
 use Rattle.std.specs.Option.{option_or}
 use Rattle.std.specs.Char.{is_ascii_digit}
 use Rattle.card_sets.specs.declared.card.Suit.{Suit}
-use Rattle.card_sets.specs.declared.seat.Seat.{Seat}
-use Rattle.card_sets.specs.declared.seat.Seat.TheVariants.{Declarer, Left, Dummy, Right}
+use Rattle.card_sets.specs.declared.seat.Seat.TheVariants.{Left}
 use Rattle.card_sets.specs.declared.seat.Compass.{Compass}
 use Rattle.card_letters.specs.Letters.{is_letter, suit_read, compass_read}
 use Rattle.trick_rules.specs.declared.trump.Trump.{Trump}
 use Rattle.trick_rules.specs.declared.trump.Trump.TheVariants.{NoTrump, Suit as Suited}
-use Rattle.pbn_text.specs.Blanks.{is_blank, after_blanks}
+use Rattle.pbn_text.specs.Blanks.{after_blanks}
 use Rattle.pbn_text.specs.Games.{TagValue, GameValue}
 use Rattle.pbn_deal.specs.declared.deal.DealValue.{DealValue}
 use Rattle.pbn_deal.specs.declared.deal.DealFault.{DealFault}

@@ -70,6 +70,7 @@ fn unseen_cards(
 }
 
 // The board before the first card.
+#[tactic(auto, unfolding(crate::specs::BoardRead::dealt_in))]
 fn deal_board(
     alloc: Global,
     game: &Game,
@@ -130,11 +131,19 @@ fn has_card(entries: &[Entry]) -> bool
 fn is_led_wrongly(board: &Board, tag: &Tag, entries: &[Entry]) -> bool
     ensures { result ≡ is_led_wrongly board.now tag.now entries.now }
 {
-    has_card(entries) && !is_place(compass_of(board.declarer(), board.leader()), tag.value.bytes())
+    has_card(entries)
+        && !is_place(
+            compass_of(board.declarer(), board.leader()),
+            tag.value.bytes(),
+        )
 }
 
 // The play of a board by the rows of these entries.
-fn play_section(alloc: Global, board: &Board, entries: &[Entry]) -> Result<Vec<Played>, BoardRefusal>
+fn play_section(
+    alloc: Global,
+    board: &Board,
+    entries: &[Entry],
+) -> Result<Vec<Played>, BoardRefusal>
     ensures { MatchResult result (λ plays. section_played board.now entries.now ≡ Ok plays.items) (IsRefusalOf (section_played board.now entries.now)) }
 {
     let mut course = Course {
@@ -143,11 +152,23 @@ fn play_section(alloc: Global, board: &Board, entries: &[Entry]) -> Result<Vec<P
         trick: Trick::led_by(board.leader()),
     };
     let tricks = board.declarer_hand().count();
-    play_rows(alloc, board.trump(), board.leader(), tricks, &mut course, entries)
+    play_rows(
+        alloc,
+        board.trump(),
+        board.leader(),
+        tricks,
+        &mut course,
+        entries,
+    )
 }
 
 // The play that the entries of the Play section tell, if its tag names the seat that leads first.
-fn play_entries(alloc: Global, board: &Board, tag: &Tag, entries: &[Entry]) -> Result<Vec<Played>, BoardRefusal>
+fn play_entries(
+    alloc: Global,
+    board: &Board,
+    tag: &Tag,
+    entries: &[Entry],
+) -> Result<Vec<Played>, BoardRefusal>
     ensures { MatchResult result (λ plays. entries_played board.now tag.now entries.now ≡ Ok plays.items) (IsRefusalOf (entries_played board.now tag.now entries.now)) }
 {
     if is_led_wrongly(board, tag, entries) {
@@ -174,6 +195,7 @@ fn read_plays(alloc: Global, game: &Game, board: &Board) -> Result<Vec<Played>, 
 /// The board of a game that has at least one tag, or the first fault in this order, with its line: a value inherited by
 /// `#`; the Deal, Contract and Declarer tags; hands that aren't shown; the tags of an ending; and the Play section, its
 /// tokens first, then the seat that leads, and then its rows in order.
+#[tactic(auto, unfolding(crate::specs::BoardRead::board_read))]
 pub fn read_board(alloc: Global, game: &Game) -> Result<Board, BoardRefusal>
     requires { 1 ≤ length game.now.tags }
     ensures { MatchResult result (λ board. board_read game.now ≡ Ok board) (IsRefusalOf (board_read game.now)) }

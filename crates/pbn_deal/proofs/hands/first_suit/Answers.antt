@@ -1,5 +1,4 @@
 use Rattle.std.proofs.Common.{◌+◌, arith, rules, tests, take, drop, sym, ap, ◌∙◌}
-use Rattle.std.specs.List.{position_or_len, before_first, after_first}
 use Rattle.std.proofs.lemmas.Iterator.{YieldsList-from_slice}
 use Rattle.std.proofs.lemmas.Iterator.Search.{position_from_yields_List}
 use Rattle.std.proofs.lemmas.List.{take_all, drop_all, take_rest}

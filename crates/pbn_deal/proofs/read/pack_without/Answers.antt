@@ -1,4 +1,4 @@
-use Rattle.std.proofs.Common.{◌≡◌, ℕ, ap, ◌∙◌}
+use Rattle.std.proofs.Common.{ℕ, ap, ◌∙◌}
 use Rattle.std.specs.Prelude.{filter, not, true}
 use Rattle.card_sets.specs.SetWords.{has_card}
 use Rattle.card_sets.proofs.Sets.{filter-cards_where}

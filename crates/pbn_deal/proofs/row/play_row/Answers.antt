@@ -1,7 +1,6 @@
-use Rattle.std.proofs.Common.{◌≡◌, ℕ, ◌<◌, ◌+◌, List, [], ◌∷◌, ◌++◌, length, drop, suc, sym, ap, ◌∙◌, arith, true, get_or}
+use Rattle.std.proofs.Common.{◌≡◌, ◌<◌, ◌+◌, [], ◌∷◌, ◌++◌, length, drop, suc, sym, ap, ◌∙◌, arith, true}
 use Rattle.std.specs.Prelude.{is_ok, cond}
 use Rattle.std.proofs.Math.Seq.{drop-cons}
-use Rattle.pbn_deal.specs.declared.board.Played.{Played}
 use Rattle.pbn_deal.specs.Boards.{next_course, course_after}
 use Rattle.pbn_deal.proofs.CourseSteps.{course_after-append}
 use Rattle.pbn_deal.proofs.RowSteps.{row_more}

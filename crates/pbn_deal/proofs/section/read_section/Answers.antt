@@ -1,4 +1,4 @@
-use Rattle.std.proofs.Common.{◌≡◌, ℕ, ◌<◌, ◌+◌, ◌-◌, List, ◌∷◌, ◌++◌, [], ◌∙◌, ap, sym, arith, length, drop, get_or, suc, refl, Ok, Some, None, Option, true, false}
+use Rattle.std.proofs.Common.{◌≡◌, ℕ, ◌<◌, ◌+◌, ◌-◌, List, ◌∷◌, ◌++◌, [], ◌∙◌, ap, sym, arith, length, drop, get_or, suc, refl, Ok, Option, true, false}
 use Rattle.std.specs.Prelude.{count_by, is_ok, is_some, cond}
 use Rattle.std.proofs.Math.Seq.{drop-cons}
 use Rattle.std.proofs.lemmas.List.{append-nil}

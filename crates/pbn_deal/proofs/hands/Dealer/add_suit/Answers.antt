@@ -1,4 +1,4 @@
-use Rattle.std.proofs.Common.{◌≡◌, ◌<◌, ◌+◌, ◌∷◌, ℕ, drop, subst, sym, ap, ◌∙◌}
+use Rattle.std.proofs.Common.{◌<◌, ◌+◌, ◌∷◌, ℕ, drop, subst, sym, ap, ◌∙◌}
 use Rattle.pbn_deal.specs.Hands.{suit_cards}
 use Rattle.pbn_deal.proofs.Dealt.{IsReading, IsReading-card, suit_cards-some, suit_cards-none, card_of-below}
 use Rattle.pbn_deal.proofs.hands.Dealer.add_suit.Goals.{in-Some+else-has, in_default}

@@ -1,5 +1,4 @@
-use Rattle.std.proofs.Common.{◌≡◌, ℕ, List, drop}
-use Rattle.pbn_deal.specs.Dealing.{repeats}
+use Rattle.std.proofs.Common.{drop}
 use Rattle.pbn_deal.specs.Hands.{suit_cards}
 use Rattle.pbn_deal.proofs.Dealt.{IsReading}
 use Rattle.pbn_deal.proofs.hands.Dealer.add_suit.Given as goal

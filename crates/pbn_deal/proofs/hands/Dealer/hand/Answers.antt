@@ -1,8 +1,7 @@
-use Rattle.std.proofs.Common.{◌≡◌, ◌+◌, [], drop, refl, sym, ap, subst, ◌∙◌, arith}
+use Rattle.std.proofs.Common.{◌+◌, drop, sym, ap, subst, ◌∙◌}
 use Rattle.std.proofs.lemmas.Result.{err_from_is_err_and}
 use Rattle.std.proofs.lemmas.List.{drop_all}
-use Rattle.card_sets.specs.declared.card.Suit.TheVariants.{Spades}
-use Rattle.pbn_deal.specs.Hands.{suit_order, suits_of, suit_cards, cards_in}
+use Rattle.pbn_deal.specs.Hands.{suit_order, suits_of, cards_in}
 use Rattle.pbn_deal.proofs.Suits.{cards_in-next}
 use Rattle.pbn_deal.proofs.Dealt.{IsReading, IsReading-repeated, IsReading-more, IsHandRead-hidden, IsHandRead-shown, hand_cards-shown}
 use Rattle.pbn_deal.proofs.hands.Dealer.hand.Goals as goal
