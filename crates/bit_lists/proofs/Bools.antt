@@ -81,8 +81,8 @@ bools-suc w n =
 pub bools-from : (w n : ℕ) (bs : List Bool) → length bs ≡ w → ((i : ℕ) (d : Bool) → i < w → get_or bs i d ≡ has_bit n i) → bools w n ≡ bs
 bools-from w n bs e h =
     same_lists (bools w n) bs (length-bools w n ∙ sym e) (λ i d within.
-        let i_below : i < w = omega (arith, length-bools w n) in
-        get_or-bools w n i d i_below ∙ sym (h i d i_below))
+    let i_below : i < w = omega (arith, length-bools w n) in
+    get_or-bools w n i d i_below ∙ sym (h i d i_below))
 
 pub bools-ones : (w : ℕ) → bools w (2 ^ w - 1) ≡ replicate w true
 bools-ones w = bools-from w (2 ^ w - 1) (replicate w true) (length-replicate w true) (λ i d h. get_or-replicate w i true d h ∙ sym (has_bit-ones w i h))
@@ -94,10 +94,10 @@ bools-none w = bools-from w 0 (replicate w false) (length-replicate w false) (λ
 pub bools-set : (w n m place : ℕ) (b : Bool) → place < w → has_bit m place ≡ b → ((i : ℕ) → i < w → i ≢ place → has_bit m i ≡ has_bit n i) → bools w m ≡ slice_set (bools w n) place b
 bools-set w n m place b within here others =
     bools-from w m (slice_set (bools w n) place b) (length-set (bools w n) place b ∙ length-bools w n) (λ i d h.
-        elim (cases_eq i place) [
-        | inl same ↦ rw same (get_or-set_same (bools w n) place b d (rw (length-bools w n) within) ∙ sym here)
-        | inr apart ↦ get_or-set_other (bools w n) place i b d apart ∙ get_or-bools w n i d h ∙ sym (others i h apart)
-        ])
+    elim (cases_eq i place) [
+      | inl same ↦ rw same (get_or-set_same (bools w n) place b d (rw (length-bools w n) within) ∙ sym here)
+      | inr apart ↦ get_or-set_other (bools w n) place i b d apart ∙ get_or-bools w n i d h ∙ sym (others i h apart)
+    ])
 
 -- ---- a number and its list of bits
 

@@ -1,2 +1,2 @@
-pub mod Bools
 pub mod Places
+pub mod Bools

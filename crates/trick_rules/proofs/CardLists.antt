@@ -1,11 +1,11 @@
--- Sets of cards as lists: how long a set is once a card is out, and tests of its members.
-use Rattle.std.proofs.Common.{◌≡◌, ℕ, zero, suc, ◌+◌, ◌<◌, ◌≤◌, Bool, true, false, not, ◌&&◌, ◌||◌, cond, eqb, List, [], ◌∷◌, ◌++◌, length, filter, refl, sym, ap, ◌∙◌, subst, inl, inr, arith, add-one}
+-- Sets of cards as lists: a card out, and tests of the members.
+use Rattle.std.proofs.Common.{◌≡◌, ℕ, ◌≤◌, Bool, true, false, not, ◌&&◌, ◌||◌, eqb, List, [], ◌∷◌, ◌++◌, length, refl, sym, ap, ◌∙◌, inl, inr}
 use Rattle.std.specs.List.{list_any, list_all}
-use Rattle.std.proofs.lemmas.List.Filters.{length-filter_both}
 use Rattle.std.proofs.lemmas.List.Folds.{list_any-append}
-use Rattle.std.proofs.lemmas.Bool.{false≢true, eqb-true, eq-eqb, ne_eqb, and_parts, cases_Bool, cases_eq}
-use Rattle.card_sets.specs.SetWords.{has_card, IsCardSet, IsSubset}
-use Rattle.card_sets.proofs.Sets.{has_card-filter, has_card-below, IsCardSet-filter, IsCardSet-tail, take_out-head, tail-after, same_set}
+use Rattle.std.proofs.lemmas.Bool.{false≢true, eq-eqb, ne_eqb, and_parts, cases_Bool, cases_eq}
+use Rattle.card_sets.specs.SetWords.{has_card, IsCardSet}
+use Rattle.card_sets.proofs.SetCounts.{length-le_52}
+use Rattle.card_sets.proofs.Sets.{has_card-filter}
 use Rattle.trick_rules.specs.Play.{take_out}
 
 pub has_card-append : (xs ys : List ℕ) (c : ℕ) → has_card (xs ++ ys) c ≡ (has_card xs c || has_card ys c)
@@ -26,52 +26,10 @@ take_out-gone card xs = has_card-take_out card xs card ∙ rw (eq-eqb card card 
     no_more true = refl
     no_more false = refl
 
--- a card that is not in the list leaves it as it is
-pub take_out-absent : (card : ℕ) (xs : List ℕ) → has_card xs card ≡ false → take_out card xs ≡ xs
-take_out-absent card [] h = refl
-take_out-absent card (x ∷ xs) h =
-    elim (cases_Bool (eqb x card)) as (λ _. take_out card (x ∷ xs) ≡ x ∷ xs) [
-      | inl e ↦ absurd (false≢true (sym h ∙ rw e refl))
-      | inr e ↦ rw e (ap (λ rest. x ∷ rest) (take_out-absent card xs (rw e at h)))
-    ]
-
--- a card out of a set that has it
-pub length-take_out : (card : ℕ) (xs : List ℕ) → IsCardSet xs → has_card xs card ≡ true → length (take_out card xs) + 1 ≡ length xs
-length-take_out card [] set h = absurd (false≢true h)
-length-take_out card (x ∷ xs) set h =
-    elim (cases_eq x card) as (λ _. length (take_out card (x ∷ xs)) + 1 ≡ length (x ∷ xs)) [
-      | inl e ↦ subst (λ d. length (take_out d (x ∷ xs)) + 1 ≡ length (x ∷ xs)) e (ap (λ ys. length ys + 1) (take_out-head x xs set) ∙ add-one (length xs))
-      | inr e ↦ rw (ne_eqb x card e) (omega (arith, length-take_out card xs (IsCardSet-tail x xs set) (rw (ne_eqb x card e) at h)))
-    ]
-
--- the rest of a set without a part of it
-pub length-without : (part whole : List ℕ) → IsCardSet part → IsCardSet whole → IsSubset part whole
-    → length (filter (λ c. not (has_card part c)) whole) + length part ≡ length whole
-length-without part whole one other within =
-    let same : filter (has_card part) whole ≡ part =
-    same_set (filter (has_card part) whole) part (IsCardSet-filter (has_card part) whole other) one
-    (λ c _. has_card-filter (has_card part) whole c ∙ in_both (has_card whole c) (has_card part c) (within c)) in
-    omega (arith, length-filter_both (has_card part) (λ c. not (has_card part c)) (λ _. refl) whole, ap length same)
-  where
-    in_both : (w p : Bool) → (p ≡ true → w ≡ true) → (w && p) ≡ p
-    in_both true p h = refl
-    in_both false true h = h refl
-    in_both false false h = refl
-
--- ---- a set that is empty, and one that isn't
+-- ---- tests of the members
 
 pub first_has : (x : ℕ) (xs : List ℕ) → has_card (x ∷ xs) x ≡ true
 first_has x xs = rw (eq-eqb x x refl) refl
-
-pub some_from_length : (xs : List ℕ) → 1 ≤ length xs → (c : ℕ) × (has_card xs c ≡ true)
-some_from_length [] h = absurd (omega arith)
-some_from_length (x ∷ xs) h = (x, first_has x xs)
-
-pub length_from_some : (xs : List ℕ) (c : ℕ) → has_card xs c ≡ true → 1 ≤ length xs
-length_from_some [] c h = absurd (false≢true h)
-length_from_some (x ∷ xs) c h = omega arith
-
--- ---- tests of the members
 
 pub or_true : (b : Bool) → (b || true) ≡ true
 or_true true = refl
@@ -110,11 +68,5 @@ cards_from_list_all p (x ∷ xs) h c k =
 
 -- ---- a set has at most 52 cards
 
-length_and_first : (x : ℕ) (xs : List ℕ) → IsCardSet (x ∷ xs) → length (x ∷ xs) + x ≤ 52
-length_and_first x [] set = omega (arith, has_card-below (x ∷ []) x set (first_has x []))
-length_and_first x (y ∷ ys) set =
-    omega (arith, length_and_first y ys (IsCardSet-tail x (y ∷ ys) set), tail-after x (y ∷ ys) set y (first_has y ys))
-
 pub at_most_52 : (xs : List ℕ) → IsCardSet xs → length xs ≤ 52
-at_most_52 [] set = omega arith
-at_most_52 (x ∷ xs) set = omega (arith, length_and_first x xs set)
+at_most_52 = length-le_52

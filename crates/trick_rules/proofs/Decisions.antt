@@ -1,8 +1,8 @@
 -- Over and decided, before and after a card.
-use Rattle.std.proofs.Common.{◌≡◌, ℕ, zero, suc, ◌+◌, ◌-◌, ◌<◌, ◌≤◌, Bool, true, false, cond, eqb, ltb, List, length, Option, None, Some, refl, sym, ap, ◌∙◌, inl, inr, arith}
-use Rattle.std.proofs.lemmas.Bool.{false≢true, eqb-true, eqb-false, eq-eqb, ne_eqb, cases_Bool, cases_eq, cases_lt, ltb-true, ltb-false, lt-ltb, le-ltb}
-use Rattle.trick_rules.specs.Table.{Table, State, tricks_left, IsSound}
-use Rattle.trick_rules.specs.Play.{put_card, end_trick, after_card, CanPlay, is_declarers, winner_of, is_over, decided}
+use Rattle.std.proofs.Common.{◌≡◌, ℕ, ◌+◌, ◌-◌, ◌<◌, ◌≤◌, Bool, true, false, cond, eqb, length, None, Some, refl, sym, ap, ◌∙◌, inl, inr, arith}
+use Rattle.std.proofs.lemmas.Bool.{eqb-true, eq-eqb, ne_eqb, cases_Bool, cases_eq, cases_lt, lt-ltb, le-ltb}
+use Rattle.trick_rules.specs.Table.{Table, tricks_left, IsSound}
+use Rattle.trick_rules.specs.Play.{put_card, end_trick, after_card, CanPlay, is_declarers, is_over, decided}
 use Rattle.trick_rules.proofs.Soundness.{after_short, after_third}
 use Rattle.trick_rules.proofs.States.{tricks_left-after}
 

@@ -1,14 +1,14 @@
 -- Double dummy, with no fuel.
-use Rattle.std.proofs.Common.{◌≡◌, ◌↔◌, ℕ, zero, suc, ◌+◌, ◌<◌, ◌≤◌, Bool, true, false, cond, eqb, List, [], ◌∷◌, length, Option, None, Some, refl, sym, ap, ◌∙◌, inl, inr, arith}
+use Rattle.std.proofs.Common.{◌≡◌, ℕ, zero, suc, ◌<◌, Bool, true, false, eqb, List, [], ◌∷◌, Some, refl, sym, ap, ◌∙◌, inl, inr, arith}
 use Rattle.std.specs.List.{list_any, list_all}
 use Rattle.std.proofs.lemmas.Bool.{false≢true, eqb-true, cases_Bool, false_from_ne_true, both_ways}
 use Rattle.card_sets.specs.SetWords.{has_card}
-use Rattle.trick_rules.specs.Table.{Table, State, to_play, IsState}
-use Rattle.trick_rules.specs.Play.{after, CanPlay, is_declarers, is_over, decided, legal_in, makes_within, makes, Makes, cards_left}
+use Rattle.trick_rules.specs.Table.{State, to_play, IsState}
+use Rattle.trick_rules.specs.Play.{after, is_declarers, is_over, decided, legal_in, makes_within, makes, Makes, cards_left}
 use Rattle.trick_rules.specs.Play.Makes.{ended, some_card, each_card}
 use Rattle.trick_rules.proofs.CardLists.{or_true, first_has, list_any-from_card, card_from_list_any, list_all-from_cards, cards_from_list_all}
 use Rattle.trick_rules.proofs.States.{after-IsState, legal_can_play, cards_left-after, some_legal}
-use Rattle.trick_rules.proofs.Decisions.{decided-need, decided-over, decided-after}
+use Rattle.trick_rules.proofs.Decisions.{decided-need, decided-after}
 
 -- ---- tests that agree at each member
 

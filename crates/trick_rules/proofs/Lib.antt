@@ -1,9 +1,11 @@
 pub mod CardLists
 pub mod Turns
 pub mod Soundness
+pub mod BetweenTricks
 pub mod States
 pub mod Decisions
 pub mod DoubleDummy
 pub mod NodeLemmas
+pub mod KeptLayouts
 pub mod TrickLemmas
 pub mod PlayLaws

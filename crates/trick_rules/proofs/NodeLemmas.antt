@@ -1,20 +1,20 @@
 -- Nodes: the choices of a node, and its children.
-use Rattle.std.proofs.Common.{◌≡◌, ℕ, zero, suc, ◌+◌, ◌<◌, ◌≤◌, Bool, true, false, ◌||◌, cond, eqb, List, [], ◌∷◌, length, map, filter, get_or, take, All, Contains, refl, sym, ap, ◌∙◌, subst, inl, inr, arith}
-use Rattle.std.specs.List.{list_any, Any}
+use Rattle.std.proofs.Common.{◌≡◌, ℕ, zero, suc, ◌<◌, ◌≤◌, Bool, true, false, List, [], ◌∷◌, length, map, filter, get_or, All, Contains, refl, sym, ap, ◌∙◌, inl, inr, arith}
+use Rattle.std.specs.List.{list_any}
 use Rattle.std.proofs.lemmas.Bool.{false≢true, cases_Bool, cases_lt}
 use Rattle.std.proofs.lemmas.List.Elements.{All-map, All-filter, All-weaker, All-contains, filter_passes}
-use Rattle.std.proofs.lemmas.List.Folds.{Any-from_list_any, list_any-from_Any, list_any_more}
+use Rattle.std.proofs.lemmas.List.Folds.{Any-from_list_any, list_any-from_Any}
 use Rattle.card_sets.specs.declared.seat.Seat.{Seat}
 use Rattle.card_sets.specs.declared.seat.Seat.TheVariants.{Declarer, Left, Dummy, Right}
-use Rattle.card_sets.specs.SetWords.{has_card, cards_where}
-use Rattle.card_sets.proofs.Sets.{has_card-cards_where, has_card-cards_where_past, cards_where-agree}
-use Rattle.trick_rules.specs.Table.{Table, State, to_play, IsSound, FitsLeft, IsState}
+use Rattle.card_sets.specs.SetWords.{has_card}
+use Rattle.card_sets.proofs.Sets.{has_card-cards_where, has_card-cards_where_past}
+use Rattle.trick_rules.specs.Table.{Table, State, to_play, FitsLeft, IsState}
 use Rattle.trick_rules.specs.Play.{take_out, after_card, after, held_by, hand_of, CanPlay, is_declarers, is_over, legal_in, legal_cards}
 use Rattle.trick_rules.specs.Nodes.{Layouts, IsNode, states, is_legal, choices, child}
 use Rattle.trick_rules.proofs.States.{legal_can_play, after-IsState, some_legal}
 use Rattle.trick_rules.proofs.Soundness.{after_card_sound, held_low}
 
-abbrev state_of : Table → List ℕ → State
+abbrev pub state_of : Table → List ℕ → State
 state_of t left = record { table = t; left = left }
 
 -- ---- layouts and states
@@ -158,17 +158,3 @@ choice_somewhere n ok left =
     let some = first_state n ok in
     let card = choice_everywhere n some.0 ok left some.1 in
     (card.0, card.1)
-
--- ---- for a loop over the layouts
-
--- the choices of one layout more
-pub choices_more : (t : Table) (lefts : List (List ℕ)) (i : ℕ) (left : List ℕ) → i < length lefts → left ≡ get_or lefts i left
-    → cards_where (λ c. has_card (cards_where (λ card. list_any (is_legal t card) (take i lefts))) c || has_card (legal_in (state_of t left)) c)
-      ≡ cards_where (λ card. list_any (is_legal t card) (take (i + 1) lefts))
-choices_more t lefts i left h here =
-    cards_where-agree (λ c. has_card (cards_where (λ card. list_any (is_legal t card) (take i lefts))) c || has_card (legal_in (state_of t left)) c)
-        (λ card. list_any (is_legal t card) (take (i + 1) lefts))
-        (λ c low.
-            ap (λ b. b || is_legal t c left) (has_card-cards_where (λ card. list_any (is_legal t card) (take i lefts)) c low)
-            ∙ ap (λ hand. list_any (is_legal t c) (take i lefts) || is_legal t c hand) here
-            ∙ sym (list_any_more (is_legal t c) lefts i left h))

@@ -1,5 +1,5 @@
 -- The laws of play, each under the name of the function whose contract says it. Crates above cite them from here.
-use Rattle.std.proofs.Common.{◌≡◌, ◌≢◌, ◌↔◌, ℕ, ◌+◌, ◌<◌, Bool, true, false, cond, eqb, List, length, map, filter, Option, None, Some, All, AllPairs, Contains, refl, sym, ap, ◌∙◌, inl, inr, arith, add-one}
+use Rattle.std.proofs.Common.{◌≡◌, ◌≢◌, ◌↔◌, ℕ, ◌+◌, ◌<◌, Bool, true, false, cond, eqb, length, map, filter, None, Some, All, AllPairs, Contains, refl, sym, ◌∙◌, inl, inr, arith, add-one}
 use Rattle.std.specs.List.{list_any, list_all}
 use Rattle.std.proofs.lemmas.Bool.{false≢true, cases_Bool}
 use Rattle.card_sets.specs.declared.seat.Seat.{Seat}
@@ -7,7 +7,7 @@ use Rattle.card_sets.specs.declared.seat.Seat.TheVariants.{Declarer, Left, Dummy
 use Rattle.card_sets.specs.SetWords.{has_card, Apart}
 use Rattle.trick_rules.specs.declared.trump.Trump.{Trump}
 use Rattle.trick_rules.specs.Table.{Played, Table, State, seat_after, to_play, played_count, tricks_left, IsSound, IsState}
-use Rattle.trick_rules.specs.Play.{IsWonBy, is_declarers, winner_of, after_card, after, held_by, CanPlay, is_over, decided, hand_of, legal_in, legal_cards, makes, Makes, cards_left}
+use Rattle.trick_rules.specs.Play.{IsWonBy, is_declarers, winner_of, after_card, after, held_by, CanPlay, is_over, decided, hand_of, legal_in, makes, Makes, cards_left}
 use Rattle.trick_rules.specs.Nodes.{Layouts, IsNode, states, choices, child}
 use Rattle.trick_rules.proofs.Soundness.{after_card_sound, Apart-sym, trick_held}
 use Rattle.trick_rules.proofs.States.{after-IsState, tricks_left-after, cards_left-after, legal_can_play, legal_cards-low, some_legal, hand_length, hand_held, right_of-not_left}

@@ -1,17 +1,18 @@
 -- What a card leaves: the hands, the counts, and a sound position.
-use Rattle.std.proofs.Common.{◌≡◌, ◌≢◌, ℕ, zero, suc, ◌+◌, ◌-◌, ◌*◌, ◌<◌, ◌≤◌, Bool, true, false, not, ◌&&◌, ◌||◌, cond, eqb, List, [], ◌∷◌, ◌++◌, length, get_or, refl, sym, ap, ◌∙◌, subst, inl, inr, arith, add-one, All, AllPairs}
-use Rattle.std.proofs.lemmas.Bool.{false≢true, true≢false, eqb-true, eqb-false, eq-eqb, ne_eqb, and_parts, cases_Bool, cases_eq, both_ways, or_cases}
+use Rattle.std.proofs.Common.{◌≡◌, ◌≢◌, ℕ, zero, suc, ◌+◌, ◌-◌, ◌*◌, ◌<◌, ◌≤◌, Bool, true, false, not, cond, eqb, List, [], ◌∷◌, ◌++◌, length, get_or, refl, sym, ap, ◌∙◌, inl, inr, arith, add-one, All, AllPairs}
+use Rattle.std.proofs.lemmas.Bool.{false≢true, eq-eqb, ne_eqb, cases_Bool, cases_eq, or_cases}
 use Rattle.std.proofs.lemmas.List.{length_push}
 use Rattle.std.proofs.lemmas.List.Elements.{All-push, All-nil}
 use Rattle.std.proofs.lemmas.List.Quantifiers.{all_pairs_push}
 use Rattle.card_sets.specs.declared.seat.Seat.{Seat}
 use Rattle.card_sets.specs.declared.seat.Seat.TheVariants.{Declarer, Left, Dummy, Right}
-use Rattle.card_sets.specs.SetWords.{has_card, IsCardSet, IsSubset, Apart}
-use Rattle.trick_rules.specs.Table.{Played, Table, State, seat_after, to_play, has_played, played_count, tricks_left, IsSound, FitsLeft, IsState}
-use Rattle.trick_rules.specs.Play.{take_out, put_card, end_trick, after_card, after, held_by, hand_of, right_of, CanPlay, is_declarers, winner_of, legal_in, legal_cards, of_suit, or_whole}
-use Rattle.card_sets.proofs.Sets.{has_card-filter, IsCardSet-filter, has_card-below}
-use Rattle.trick_rules.proofs.CardLists.{has_card-append, has_card-take_out, take_out-low, take_out-gone, take_out-absent, length-take_out, length-without}
-use Rattle.trick_rules.proofs.Turns.{count_in, same_seat, count_in-suc, count_in-none, count_in-all, same_seat-self, count_in-turn}
+use Rattle.card_sets.specs.SetWords.{has_card, Apart}
+use Rattle.trick_rules.specs.Table.{Played, Table, to_play, IsSound}
+use Rattle.trick_rules.specs.Play.{take_out, put_card, end_trick, after_card, held_by, CanPlay, is_declarers}
+use Rattle.card_sets.proofs.Sets.{IsCardSet-filter, has_card-below}
+use Rattle.trick_rules.proofs.CardLists.{has_card-append, has_card-take_out, take_out-low, take_out-gone}
+use Rattle.card_sets.proofs.SetCounts.{length-take_out, take_out-absent}
+use Rattle.trick_rules.proofs.Turns.{count_in, same_seat, count_in-suc, count_in-none, count_in-all}
 
 -- ---- the hands after a card
 
@@ -30,24 +31,24 @@ pub record HandsFall (t : Table) (card : ℕ) (seat : Seat) : Type 0 where
 
 pub hands_fall : (t : Table) → IsSound t → (card : ℕ) (seat : Seat) → has_card (held_by t seat) card ≡ true → HandsFall t card seat
 hands_fall t sound card Declarer h = record {
-  declarer = length-take_out card t.declarer sound.declarer_set h;
-  dummy = omega (arith, ap (length {A = ℕ}) (take_out-absent card t.dummy (sound.declarer_dummy card h)));
-  unseen = omega (arith, ap (length {A = ℕ}) (take_out-absent card t.unseen (sound.declarer_unseen card h)));
+  declarer = length-take_out t.declarer card sound.declarer_set h;
+  dummy = omega (arith, ap (length {A = ℕ}) (take_out-absent t.dummy card (sound.declarer_dummy card h)));
+  unseen = omega (arith, ap (length {A = ℕ}) (take_out-absent t.unseen card (sound.declarer_unseen card h)));
 }
 hands_fall t sound card Dummy h = record {
-  declarer = omega (arith, ap (length {A = ℕ}) (take_out-absent card t.declarer (Apart-sym t.declarer t.dummy sound.declarer_dummy card h)));
-  dummy = length-take_out card t.dummy sound.dummy_set h;
-  unseen = omega (arith, ap (length {A = ℕ}) (take_out-absent card t.unseen (sound.dummy_unseen card h)));
+  declarer = omega (arith, ap (length {A = ℕ}) (take_out-absent t.declarer card (Apart-sym t.declarer t.dummy sound.declarer_dummy card h)));
+  dummy = length-take_out t.dummy card sound.dummy_set h;
+  unseen = omega (arith, ap (length {A = ℕ}) (take_out-absent t.unseen card (sound.dummy_unseen card h)));
 }
 hands_fall t sound card Left h = record {
-  declarer = omega (arith, ap (length {A = ℕ}) (take_out-absent card t.declarer (Apart-sym t.declarer t.unseen sound.declarer_unseen card h)));
-  dummy = omega (arith, ap (length {A = ℕ}) (take_out-absent card t.dummy (Apart-sym t.dummy t.unseen sound.dummy_unseen card h)));
-  unseen = omega (arith, length-take_out card t.unseen sound.unseen_set h);
+  declarer = omega (arith, ap (length {A = ℕ}) (take_out-absent t.declarer card (Apart-sym t.declarer t.unseen sound.declarer_unseen card h)));
+  dummy = omega (arith, ap (length {A = ℕ}) (take_out-absent t.dummy card (Apart-sym t.dummy t.unseen sound.dummy_unseen card h)));
+  unseen = omega (arith, length-take_out t.unseen card sound.unseen_set h);
 }
 hands_fall t sound card Right h = record {
-  declarer = omega (arith, ap (length {A = ℕ}) (take_out-absent card t.declarer (Apart-sym t.declarer t.unseen sound.declarer_unseen card h)));
-  dummy = omega (arith, ap (length {A = ℕ}) (take_out-absent card t.dummy (Apart-sym t.dummy t.unseen sound.dummy_unseen card h)));
-  unseen = omega (arith, length-take_out card t.unseen sound.unseen_set h);
+  declarer = omega (arith, ap (length {A = ℕ}) (take_out-absent t.declarer card (Apart-sym t.declarer t.unseen sound.declarer_unseen card h)));
+  dummy = omega (arith, ap (length {A = ℕ}) (take_out-absent t.dummy card (Apart-sym t.dummy t.unseen sound.dummy_unseen card h)));
+  unseen = omega (arith, length-take_out t.unseen card sound.unseen_set h);
 }
 
 Apart-take_out : (card : ℕ) (xs ys : List ℕ) → Apart xs ys → Apart (take_out card xs) (take_out card ys)

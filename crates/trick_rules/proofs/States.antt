@@ -1,18 +1,19 @@
 -- States: legal cards, and what follows them.
-use Rattle.std.proofs.Common.{◌≡◌, ◌≢◌, ℕ, zero, suc, ◌+◌, ◌-◌, ◌*◌, ◌<◌, ◌≤◌, Bool, true, false, not, ◌&&◌, ◌||◌, cond, eqb, ltb, List, [], ◌∷◌, ◌++◌, length, Option, None, Some, refl, sym, ap, ◌∙◌, subst, inl, inr, arith, add-one}
-use Rattle.std.proofs.lemmas.Bool.{false≢true, true≢false, eqb-true, eqb-false, eq-eqb, ne_eqb, and_parts, cases_Bool, cases_eq, both_ways, or_cases, not-true, ltb-true, ltb-false, lt-ltb, le-ltb, cond_both}
+use Rattle.std.proofs.Common.{◌≡◌, ℕ, suc, ◌+◌, ◌<◌, ◌≤◌, true, false, not, cond, eqb, List, [], ◌∷◌, ◌++◌, length, refl, sym, ap, ◌∙◌, inl, inr, arith, add-one}
+use Rattle.std.proofs.lemmas.Bool.{false≢true, eqb-false, eq-eqb, ne_eqb, and_parts, cases_Bool, cases_eq, not-true, cond_both}
 use Rattle.std.proofs.lemmas.List.{length_push}
 use Rattle.card_sets.specs.declared.card.Suit.{Suit}
 use Rattle.card_sets.specs.declared.seat.Seat.{Seat}
 use Rattle.card_sets.specs.declared.seat.Seat.TheVariants.{Declarer, Left, Dummy, Right}
 use Rattle.card_sets.specs.Cards.{suit_of, same_suit}
-use Rattle.card_sets.specs.SetWords.{has_card, IsCardSet, IsSubset, Apart}
-use Rattle.trick_rules.specs.Table.{Played, Table, State, seat_after, to_play, has_played, played_count, tricks_left, IsSound, FitsLeft, IsState}
-use Rattle.trick_rules.specs.Play.{take_out, put_card, end_trick, after_card, after, held_by, hand_of, right_of, CanPlay, is_declarers, winner_of, legal_in, legal_cards, of_suit, or_whole, cards_left, is_over, decided}
+use Rattle.card_sets.specs.SetWords.{has_card, IsSubset}
+use Rattle.trick_rules.specs.Table.{Table, State, to_play, played_count, tricks_left, IsSound, IsState}
+use Rattle.trick_rules.specs.Play.{take_out, put_card, end_trick, after_card, after, held_by, hand_of, right_of, CanPlay, legal_in, legal_cards, of_suit, or_whole, cards_left, is_over}
 use Rattle.card_sets.proofs.Sets.{has_card-filter, IsCardSet-filter}
-use Rattle.trick_rules.proofs.CardLists.{has_card-take_out, take_out-low, take_out-absent, length-take_out, length-without, some_from_length, length_from_some, first_has}
+use Rattle.trick_rules.proofs.CardLists.{has_card-take_out}
+use Rattle.card_sets.proofs.SetCounts.{length-take_out, take_out-absent, length-minus, some_card}
 use Rattle.trick_rules.proofs.Turns.{count_in, same_seat, count_in-suc, count_in-none, count_in-all, count_in-turn}
-use Rattle.trick_rules.proofs.Soundness.{HandsFall, hands_fall, after_short, after_third, after_card_sound, Apart-sym}
+use Rattle.trick_rules.proofs.Soundness.{hands_fall, after_short, after_third, after_card_sound}
 
 -- ---- legal cards are cards of the hand
 
@@ -58,10 +59,10 @@ not_part s ok card gone =
 -- Left's cards are fewer by the card where Left played it
 left_falls : (s : State) → IsState s → (card : ℕ) (seat : Seat) → has_card (hand_of s seat) card ≡ true
     → length (take_out card s.left) + same_seat seat Left ≡ length s.left
-left_falls s ok card Declarer h = omega (arith, ap (length {A = ℕ}) (take_out-absent card s.left (not_part s ok card (ok.sound.declarer_unseen card h))))
-left_falls s ok card Dummy h = omega (arith, ap (length {A = ℕ}) (take_out-absent card s.left (not_part s ok card (ok.sound.dummy_unseen card h))))
-left_falls s ok card Left h = length-take_out card s.left ok.fits.set h
-left_falls s ok card Right h = omega (arith, ap (length {A = ℕ}) (take_out-absent card s.left (right_of-not_left s card h)))
+left_falls s ok card Declarer h = omega (arith, ap (length {A = ℕ}) (take_out-absent s.left card (not_part s ok card (ok.sound.declarer_unseen card h))))
+left_falls s ok card Dummy h = omega (arith, ap (length {A = ℕ}) (take_out-absent s.left card (not_part s ok card (ok.sound.dummy_unseen card h))))
+left_falls s ok card Left h = length-take_out s.left card ok.fits.set h
+left_falls s ok card Right h = omega (arith, ap (length {A = ℕ}) (take_out-absent s.left card (right_of-not_left s card h)))
 
 -- what a card leaves of the table, whether or not the trick ends
 pub after_card-unseen : (t : Table) (card : ℕ) → (after_card t card).unseen ≡ take_out card t.unseen
@@ -200,7 +201,7 @@ hand_length s ok Declarer = refl
 hand_length s ok Left = ok.fits.count
 hand_length s ok Dummy = ok.sound.dummy_count
 hand_length s ok Right =
-    omega (arith, length-without s.left s.table.unseen ok.fits.set ok.sound.unseen_set ok.fits.part, ok.fits.count, ok.sound.unseen_count)
+    omega (arith, length-minus s.table.unseen s.left ok.sound.unseen_set ok.fits.set ok.fits.part, ok.fits.count, ok.sound.unseen_count)
 
 -- while tricks are left, the seat to play has a legal card
 pub some_legal : (s : State) → IsState s → is_over s.table ≡ false → (card : ℕ) × (has_card (legal_in s) card ≡ true)
@@ -208,4 +209,4 @@ some_legal s ok open' =
     let t = s.table in
     let turn : played_count t (to_play t) ≡ 0 = count_in-turn (length t.trick.cards) t.trick.leader ok.sound.trick_short in
     let some : tricks_left t ≡ 0 → ⊥ = eqb-false (tricks_left t) 0 open' in
-    some_from_length (legal_in s) (legal_cards-length t.trick.cards (hand_of s (to_play t)) (omega (arith, hand_length s ok (to_play t), turn, some)))
+    some_card (legal_in s) (legal_cards-length t.trick.cards (hand_of s (to_play t)) (omega (arith, hand_length s ok (to_play t), turn, some)))

@@ -1,5 +1,5 @@
 -- A position and a state, as lists of cards in card order.
-use Rattle.std.specs.Prelude.{◌≡◌, ◌≢◌, ℕ, zero, suc, ◌+◌, ◌-◌, ◌*◌, ◌%◌, ◌<◌, ◌≤◌, Bool, List, length, All, AllPairs, if◌then◌else◌, nat_lt}
+use Rattle.std.specs.Prelude.{◌≡◌, ◌≢◌, ℕ, zero, suc, ◌+◌, ◌-◌, ◌*◌, ◌%◌, ◌<◌, ◌≤◌, Bool, List, [], length, All, AllPairs, if◌then◌else◌, nat_lt}
 use Rattle.card_sets.specs.declared.seat.Seat.{Seat}
 use Rattle.card_sets.specs.declared.seat.Seat.TheVariants.{Declarer, Left, Dummy, Right}
 use Rattle.card_sets.specs.Seats.{next_seat}
@@ -75,6 +75,28 @@ pub record IsSound (t : Table) : Type 0 where
   pub need_fits : t.need ≤ 13
   pub dummy_count : length t.dummy + played_count t Dummy ≡ tricks_left t
   pub unseen_count : length t.unseen + played_count t Left + played_count t Right ≡ 2 * tricks_left t
+
+-- a position with no card in the trick
+abbrev pub table_between_tricks : List ℕ → List ℕ → List ℕ → Seat → ℕ → Trump → Table
+table_between_tricks declarer dummy unseen leader need trump = record {
+  declarer = declarer;
+  dummy = dummy;
+  unseen = unseen;
+  trick = record { leader = leader; cards = [] };
+  need = need;
+  trump = trump;
+}
+
+-- hands between two tricks: declarer's, dummy's, and the two defenders' together
+pub record HandsFit (declarer dummy unseen : List ℕ) : Type 0 where
+  pub declarer_set : IsCardSet declarer
+  pub dummy_set : IsCardSet dummy
+  pub unseen_set : IsCardSet unseen
+  pub declarer_dummy : Apart declarer dummy
+  pub declarer_unseen : Apart declarer unseen
+  pub dummy_unseen : Apart dummy unseen
+  pub dummy_count : length dummy ≡ length declarer
+  pub unseen_count : length unseen ≡ 2 * length declarer
 
 -- a Left hand that fits a position: a part of the unseen cards, with Left's number of cards
 pub record FitsLeft (t : Table) (left : List ℕ) : Type 0 where

@@ -1,8 +1,8 @@
 //! What all at the table know, and the laws of play.
-ghost use Rattle.std.specs.Prelude.{◌≡◌, ◌<◌, ◌≤◌, ◌↔◌, true, IsTrue};
+ghost use Rattle.std.specs.Prelude.{◌≡◌, ◌<◌, ◌≤◌, ◌↔◌, true, IsTrue, IsSome, IfSome};
 ghost use Rattle.card_sets.specs.SetWords.{has_card, IsCardSet};
-ghost use Rattle.trick_rules.specs.Table.{to_play as seat_to_play, tricks_left as count_of_tricks, has_played as seat_has_played, places_on as count_of_places, seat_place, IsSound, FitsLeft};
-ghost use Rattle.trick_rules.specs.Play.{is_over, decided as result_of, is_declarers, legal_cards, legal_in as legal_cards_in, hand_of, after_card, CanPlay};
+ghost use Rattle.trick_rules.specs.Table.{to_play as seat_to_play, tricks_left as count_of_tricks, has_played as seat_has_played, places_on as count_of_places, seat_place, IsSound, FitsLeft, HandsFit, table_between_tricks};
+ghost use Rattle.trick_rules.specs.Play.{is_over, decided as result_of, is_declarers, legal_cards, legal_in as legal_cards_in, held_by as cards_held_by, hand_of, after_card, CanPlay};
 
 use crate::trick::{Trick, seat_after, winner};
 use crate::trump::Trump;
@@ -51,6 +51,33 @@ impl Model for Position {
 }
 
 impl Position {
+    #[tactic(auto, using(crate::proofs::BetweenTricks::between_tricks_sound, crate::proofs::BetweenTricks::hands_from_sound))]
+    /// The position with no card in the trick: `None` exactly where it would not be sound.
+    pub fn between_tricks(
+        declarer: CardSet,
+        dummy: CardSet,
+        unseen: CardSet,
+        leader: Seat,
+        need: u8,
+        trump: Trump,
+    ) -> Option<Position>
+        ensures sound { IsSome result ↔ IsSound (table_between_tricks declarer dummy unseen leader need trump) }
+        ensures value { IfSome result (λ p. p ≡ table_between_tricks declarer dummy unseen leader need trump) }
+    {
+        if hands_fit(declarer, dummy, unseen) && need <= 13 {
+            Some(Position {
+                declarer,
+                dummy,
+                unseen,
+                trick: Trick::led_by(leader),
+                need,
+                trump,
+            })
+        } else {
+            None
+        }
+    }
+
     /// The seat to play: clockwise from the leader, past the cards of the trick.
     pub fn to_play(&self) -> Seat
         ensures value { result ≡ seat_to_play self.now }
@@ -82,7 +109,8 @@ impl Position {
 
     /// Whether no tricks are left.
     pub fn over(&self) -> bool
-        ensures { result ≡ is_over self.now }
+        ensures value { result ≡ is_over self.now }
+        ensures sound { IsSound self.now }
     {
         self.tricks_left() == 0
     }
@@ -117,6 +145,17 @@ impl Position {
         left.count() + present == self.tricks_left() && left.is_subset(self.unseen)
     }
 
+    /// The cards among which those of a seat are: its hand, or the unseen cards for a defender.
+    pub fn held_by(&self, seat: Seat) -> CardSet
+        ensures { result ≡ cards_held_by self.now seat }
+    {
+        match seat {
+            Seat::Declarer => self.declarer,
+            Seat::Dummy => self.dummy,
+            Seat::Left | Seat::Right => self.unseen,
+        }
+    }
+
     /// The cards of a seat where Left holds these.
     pub fn hand(&self, seat: Seat, left: CardSet) -> CardSet
         ensures { result ≡ hand_of (record { table = self.now; left = left }) seat }
@@ -149,6 +188,19 @@ impl Position {
             trump: self.trump,
         }
     }
+}
+
+// Whether no card is in two of the three sets, dummy's hand is as large as declarer's, and the defenders hold twice as many.
+#[tactic(auto, using(crate::proofs::CardLists::at_most_52))]
+fn hands_fit(declarer: CardSet, dummy: CardSet, unseen: CardSet) -> bool
+    ensures { IsTrue result ↔ HandsFit declarer dummy unseen }
+{
+    let apart = declarer.is_disjoint(dummy)
+        && declarer.is_disjoint(unseen)
+        && dummy.is_disjoint(unseen);
+    apart
+        && dummy.count() == declarer.count()
+        && unseen.count() == declarer.count() + declarer.count()
 }
 
 // How many places a seat sits after the leader, clockwise.

@@ -159,7 +159,7 @@ placed-ordered v (u ∷ us) new h =
 -- ---- the reduced list with one vector more
 
 -- where the vector is covered
-covered-reduced : (v : Vector) (all front : List Vector) → IsReduced all front → Covers front v → IsReduced (v ∷ all) front
+pub covered-reduced : (v : Vector) (all front : List Vector) → IsReduced all front → Covers front v → IsReduced (v ∷ all) front
 covered-reduced v all front h above = record {
   reached = λ w m. Contains-rest v all w (h.reached w m);
   covered = λ w m. elim (Contains-cases v all w m) [
@@ -171,7 +171,7 @@ covered-reduced v all front h above = record {
 }
 
 -- where it isn't
-new-reduced : (v : Vector) (all front : List Vector) → IsReduced all front → (Covers front v → ⊥) → IsReduced (v ∷ all) (placed v (undominated v front))
+pub new-reduced : (v : Vector) (all front : List Vector) → IsReduced all front → (Covers front v → ⊥) → IsReduced (v ∷ all) (placed v (undominated v front))
 new-reduced v all front h new =
     let kept : (w : Vector) → Contains (placed v (undominated v front)) w → (v ≡ w) ⊎ (Contains front w × (Dominates v w → ⊥)) = λ w m.
     elim ((placed-member v (undominated v front) w).0 m) [ inl same ↦ inl same | inr member ↦ inr ((undominated-member v front w).0 member) ] in

@@ -1,6 +1,6 @@
 -- Members of a list of vectors, and lists that stand in order.
-use Rattle.std.proofs.Common.{◌≡◌, ◌⊎◌, ℕ, suc, zero, ◌<◌, List, [], ◌∷◌, length, refl, sym, subst, ◌∙◌, arith, get_or, inl, inr, Contains, AllPairs}
-use Rattle.std.proofs.lemmas.List.Elements.{Contains-get_or}
+use Rattle.std.proofs.Common.{◌≡◌, ◌⊎◌, ℕ, suc, zero, ◌<◌, List, [], ◌∷◌, ◌++◌, length, refl, sym, subst, ◌∙◌, arith, get_or, inl, inr, Contains, AllPairs}
+use Rattle.std.proofs.lemmas.List.Elements.{Contains-get_or, Contains-append_cases, Contains-append_left, Contains-append_right}
 use Rattle.win_vectors.specs.Fronts.{Vector, Precedes}
 use Rattle.win_vectors.specs.Laws.{SameMembers}
 use Rattle.win_vectors.proofs.Orders.{Precedes-irrefl, Precedes-asym}
@@ -25,6 +25,19 @@ Contains-cases u us v h = at h.0 h.1 h.2 where
 -- an equal vector
 pub Contains-same : (us : List Vector) (v w : Vector) → v ≡ w → Contains us v → Contains us w
 Contains-same us v w e h = subst (λ (x : Vector). Contains us x) e h
+
+-- a vector put at the end, or at the start
+pub SameMembers-push : (v : Vector) (us : List Vector) → SameMembers (v ∷ us) (us ++ v ∷ [])
+SameMembers-push v us w = (
+  λ m. elim (Contains-cases v us w m) [
+    | inl same ↦ Contains-append_right us (v ∷ []) w (Contains-same (v ∷ []) v w same (Contains-first v []))
+    | inr member ↦ Contains-append_left us (v ∷ []) w member
+  ],
+  λ m. elim (Contains-append_cases us (v ∷ []) w m) [
+    | inl member ↦ Contains-rest v us w member
+    | inr last ↦ elim (Contains-cases v [] w last) [ inl same ↦ Contains-same (v ∷ us) v w same (Contains-first v us) | inr none ↦ absurd (Contains-none w none) ]
+  ],
+)
 
 -- ---- ordered lists
 

@@ -1,11 +1,11 @@
 -- The front of a set of vectors, and the reduced list of a list.
-use Rattle.std.proofs.Common.{◌≡◌, ◌↔◌, List, [], ◌∷◌, ◌++◌, refl, ap, subst, inl, inr, Contains, map}
+use Rattle.std.proofs.Common.{◌≡◌, ◌↔◌, ◌∙◌, ◌≤◌, length, arith, List, [], ◌∷◌, ◌++◌, refl, ap, subst, inl, inr, Contains, map}
 use Rattle.std.proofs.lemmas.List.Elements.{Contains-append_left, Contains-append_right, Contains-append_cases}
 use Rattle.win_vectors.specs.Vectors.{meet_of}
 use Rattle.win_vectors.specs.Fronts.{Vector, Dominates, Covers, CoversAll, IsFrontOf, IsReduced, meets}
-use Rattle.win_vectors.specs.Laws.{IsBest, ListsTheBest, IsOrderedCover, ReducedExists, ReducedIsUnique, ReducedListsTheBest, ReducedIsTheCover, ReducedIgnoresOrder, ReducedOfReducedPart, ReducedOfMeets, ReducedIsItsOwn}
+use Rattle.win_vectors.specs.Laws.{IsBest, ListsTheBest, SameMembers, CoverTheSame, IsOrderedCover, ReducedExists, ReducedIsUnique, ReducedListsTheBest, ReducedIsTheCover, ReducedIgnoresOrder, ReducedOfReducedPart, ReducedOfMeets, ReducedIsItsOwn}
 use Rattle.win_vectors.proofs.Orders.{Dominates-refl, Dominates-trans, Dominates-antisym, Dominates-by, Dominates-of, meet_of-mono}
-use Rattle.win_vectors.proofs.Members.{Contains-none, Contains-first, Contains-rest, Contains-same, Contains-cases, AllPairs-none, same_ordered}
+use Rattle.win_vectors.proofs.Members.{Contains-none, Contains-first, Contains-rest, Contains-same, Contains-cases, AllPairs-none, SameMembers-push, same_ordered}
 use Rattle.win_vectors.proofs.Insertion.{with_vector, with_vector-reduced}
 
 -- ---- the front of a set of vectors
@@ -169,6 +169,18 @@ reduced-of_part xs part ys front h = reduced-of_larger (part ++ ys) (xs ++ ys) f
     | inr in_ys ↦ (v, Contains-append_right part ys v in_ys, Dominates-refl v)
   ]
 
+-- one vector more at the end
+pub reduced-push : (all front next : List Vector) (v : Vector) → IsReduced all front → IsReduced (v ∷ front) next → IsReduced (all ++ v ∷ []) next
+reduced-push all front next v h reduced =
+    let at_end = reduced-ignores_order (v ∷ front) (front ++ v ∷ []) next (SameMembers-push v front) reduced in
+    (reduced-of_part all front (v ∷ []) next h).0 at_end
+
+-- a list with a vector has a reduced list with a vector
+pub reduced-not_empty : (all front : List Vector) → IsReduced all front → 1 ≤ length all → 1 ≤ length front
+reduced-not_empty [] front h some = absurd (omega arith)
+reduced-not_empty (v ∷ all) [] h some = let (u, member, above) = h.covered v (Contains-first v all) in absurd (Contains-none u member)
+reduced-not_empty (v ∷ all) (u ∷ front) h some = omega arith
+
 -- ---- meets
 
 -- w is a meet of one vector of each list
@@ -179,14 +191,14 @@ pub record IsMeet (f g : List Vector) (w : Vector) : Type 0 where
   pub in_second : Contains g second
   pub is : meet_of first second ≡ w
 
-Contains-map : (h : Vector → Vector) (f : List Vector) (w : Vector) → Contains (map h f) w → (u : Vector) × Contains f u × (h u ≡ w)
+pub Contains-map : (h : Vector → Vector) (f : List Vector) (w : Vector) → Contains (map h f) w → (u : Vector) × Contains f u × (h u ≡ w)
 Contains-map h [] w member = absurd (Contains-none w member)
 Contains-map h (u ∷ f) w member = elim (Contains-cases (h u) (map h f) w member) [
   | inl same ↦ (u, Contains-first u f, same)
   | inr later ↦ (let (v, in_f, same) = Contains-map h f w later in (v, Contains-rest u f v in_f, same))
 ]
 
-Contains-mapped : (h : Vector → Vector) (f : List Vector) (u : Vector) → Contains f u → Contains (map h f) (h u)
+pub Contains-mapped : (h : Vector → Vector) (f : List Vector) (u : Vector) → Contains f u → Contains (map h f) (h u)
 Contains-mapped h [] u member = absurd (Contains-none u member)
 Contains-mapped h (v ∷ f) u member = elim (Contains-cases v f u member) [
   | inl same ↦ Contains-same (h v ∷ map h f) (h v) (h u) (ap h same) (Contains-first (h v) (map h f))
@@ -209,6 +221,63 @@ meets-member f g w = (from g, λ h. Contains-same (meets f g) (meet_of h.first h
         (Contains-same (map (λ u. meet_of u x) f) (meet_of u x) (meet_of u v) (ap (meet_of u) same) (Contains-mapped (λ u. meet_of u x) f u in_f))
     | inr later ↦ Contains-append_right (map (λ u. meet_of u x) f) (meets f g) (meet_of u v) (to g u v in_f later)
   ]
+
+-- one list may be reduced before it is met
+pub reduced-of_meets_left : (xs f g front : List Vector) → IsReduced xs f → IsReduced (meets f g) front ↔ IsReduced (meets xs g) front
+reduced-of_meets_left xs f g front p = reduced-of_larger (meets f g) (meets xs g) front within dominated where
+  within : (w : Vector) → Contains (meets f g) w → Contains (meets xs g) w
+  within w member = let h = (meets-member f g w).0 member in
+      (meets-member xs g w).1 (record { first = h.first; second = h.second; in_first = p.reached h.first h.in_first; in_second = h.in_second; is = h.is })
+
+  dominated : CoversAll (meets f g) (meets xs g)
+  dominated w member =
+      let h = (meets-member xs g w).0 member in
+      let (u, in_f, above) = p.covered h.first h.in_first in
+      let meet = meet_of u h.second in (
+        meet,
+        (meets-member f g meet).1 (record { first = u; second = h.second; in_first = in_f; in_second = h.in_second; is = refl }),
+        Dominates-of meet (meet_of h.first h.second) w h.is (meet_of-mono u h.second h.first h.second above (Dominates-refl h.second)),
+      )
+
+-- one vector more in the second list
+pub meets-push : (f g : List Vector) (v : Vector) → SameMembers (meets f g ++ map (λ u. meet_of u v) f) (meets f (g ++ v ∷ []))
+meets-push f g v w = (there, back) where
+  there : Contains (meets f g ++ map (λ u. meet_of u v) f) w → Contains (meets f (g ++ v ∷ [])) w
+  there m = elim (Contains-append_cases (meets f g) (map (λ u. meet_of u v) f) w m) [
+    | inl old ↦ (let h = (meets-member f g w).0 old in
+        (meets-member f (g ++ v ∷ []) w).1 (record { first = h.first; second = h.second; in_first = h.in_first; in_second = Contains-append_left g (v ∷ []) h.second h.in_second; is = h.is }))
+    | inr now ↦ (let (u, in_f, same) = Contains-map (λ u. meet_of u v) f w now in
+        (meets-member f (g ++ v ∷ []) w).1 (record { first = u; second = v; in_first = in_f; in_second = Contains-append_right g (v ∷ []) v (Contains-first v []); is = same }))
+  ]
+
+  back : Contains (meets f (g ++ v ∷ [])) w → Contains (meets f g ++ map (λ u. meet_of u v) f) w
+  back m =
+      let h = (meets-member f (g ++ v ∷ []) w).0 m in
+      elim (Contains-append_cases g (v ∷ []) h.second h.in_second) [
+        | inl old ↦ Contains-append_left (meets f g) (map (λ u. meet_of u v) f) w
+            ((meets-member f g w).1 (record { first = h.first; second = h.second; in_first = h.in_first; in_second = old; is = h.is }))
+        | inr last ↦ elim (Contains-cases v [] h.second last) [
+          | inl same ↦ Contains-append_right (meets f g) (map (λ u. meet_of u v) f) w
+              (Contains-same (map (λ u. meet_of u v) f) (meet_of h.first v) w (ap (meet_of h.first) same ∙ h.is) (Contains-mapped (λ u. meet_of u v) f h.first h.in_first))
+          | inr none ↦ absurd (Contains-none h.second none)
+        ]
+      ]
+
+-- the front of two lists of vectors has a vector where both do
+pub meets-not_empty : (f g : List Vector) → 1 ≤ length f → 1 ≤ length g → 1 ≤ length (meets f g)
+meets-not_empty [] g some other = absurd (omega arith)
+meets-not_empty (u ∷ f) [] some other = absurd (omega arith)
+meets-not_empty (u ∷ f) (v ∷ g) some other = omega arith
+
+-- vectors that cover the same have the same reduced list
+pub reduced-same_cover : (xs ys front : List Vector) → CoverTheSame xs ys → IsReduced xs front → IsReduced ys front
+reduced-same_cover xs ys front same h =
+    let cover = (reduced-is_the_cover xs front).0 h in
+    (reduced-is_the_cover ys front).1 (record {
+      apart = cover.apart;
+      ordered = cover.ordered;
+      same = λ v. (λ c. (same v).0 ((cover.same v).0 c), λ c. (cover.same v).1 ((same v).1 c));
+    })
 
 pub reduced-of_meets : ReducedOfMeets
 reduced-of_meets xs f ys g front p q = reduced-of_larger (meets f g) (meets xs ys) front within dominated where

@@ -1,11 +1,11 @@
 -- Lists of bits: ones, meet, dominance, and the parts that a mask picks.
-use Rattle.std.proofs.Common.{◌≡◌, ℕ, suc, zero, ◌+◌, ◌<◌, ◌≤◌, Bool, true, false, ◌&&◌, [], ◌∷◌, ◌++◌, length, refl, ap, arith, if◌then◌else◌, get_or}
+use Rattle.std.proofs.Common.{◌≡◌, ℕ, suc, zero, ◌+◌, ◌<◌, ◌≤◌, Bool, true, false, ◌&&◌, ◌||◌, [], ◌∷◌, ◌++◌, length, refl, ap, arith, if◌then◌else◌, get_or}
 use Rattle.std.proofs.lemmas.Bool.Decides.{nat_tests}
 use Rattle.std.proofs.lemmas.Bool.{true≢false, false≢true}
 use Rattle.std.specs.Bool.{Decides}
 use Rattle.std.proofs.Math.Bool.{beq}
 use Rattle.std.specs.Cmp.Lexicographic.{pointwise, pointwise_decides}
-use Rattle.win_vectors.specs.Vectors.{ones_of, meet_of, dominates, restrict_of, spread_of, earlier_one, vector_order}
+use Rattle.win_vectors.specs.Vectors.{ones_of, meet_of, either_of, dominates, restrict_of, spread_of, earlier_one, vector_order}
 use Rattle.std.specs.declared.cmp.Ordering.TheVariants.{Less, Equal, Greater}
 use Rattle.win_vectors.specs.Fronts.{Vector, IsAtLeast, Dominates}
 
@@ -43,6 +43,17 @@ get_or-meet_of [] vs i d h k = absurd (omega arith)
 get_or-meet_of (u ∷ us) [] i d h k = absurd (omega arith)
 get_or-meet_of (u ∷ us) (v ∷ vs) zero d h k = refl
 get_or-meet_of (u ∷ us) (v ∷ vs) (suc i) d h k = get_or-meet_of us vs i d (omega arith) (omega arith)
+
+pub length-either_of : (us vs : Vector) → length us ≡ length vs → length (either_of us vs) ≡ length us
+length-either_of [] vs e = refl
+length-either_of (u ∷ us) [] e = omega arith
+length-either_of (u ∷ us) (v ∷ vs) e = omega (arith, length-either_of us vs (omega arith))
+
+pub get_or-either_of : (us vs : Vector) (i : ℕ) (d : Bool) → i < length us → i < length vs → get_or (either_of us vs) i d ≡ (get_or us i d || get_or vs i d)
+get_or-either_of [] vs i d h k = absurd (omega arith)
+get_or-either_of (u ∷ us) [] i d h k = absurd (omega arith)
+get_or-either_of (u ∷ us) (v ∷ vs) zero d h k = refl
+get_or-either_of (u ∷ us) (v ∷ vs) (suc i) d h k = get_or-either_of us vs i d (omega arith) (omega arith)
 
 -- ---- dominance
 

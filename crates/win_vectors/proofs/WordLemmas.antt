@@ -14,10 +14,10 @@ use Rattle.std.specs.Int.Count.{ones, ones_step}
 use Rattle.std.proofs.lemmas.List.Elements.{AllZip-get_or}
 use Rattle.bit_lists.specs.Bits.{has_bit, bools, number_of}
 use Rattle.bit_lists.proofs.Bools.{has_bit-and, has_bit-or, has_bit-zero, bools-zero, bools-suc, bools-more, bools-same, bools-from, bools-set, length-bools, get_or-bools, number_of-bools}
-use Rattle.win_vectors.specs.Vectors.{ones_of, meet_of, dominates, earlier_one, vector_order, restrict_of, spread_of}
+use Rattle.win_vectors.specs.Vectors.{ones_of, meet_of, either_of, dominates, earlier_one, vector_order, restrict_of, spread_of}
 use Rattle.win_vectors.specs.Fronts.{Vector, IsAtLeast, Dominates}
 use Rattle.win_vectors.specs.Words.{IsVectorWord}
-use Rattle.win_vectors.proofs.VectorLemmas.{length-meet_of, get_or-meet_of, Decides-dominates, Dominates-from_places, ones_of-append, ones_of-le, restrict_of-push, spread_of-push_one, spread_of-push_zero, DifferAt, earlier_one-less, earlier_one-greater, vector_order-same}
+use Rattle.win_vectors.proofs.VectorLemmas.{length-meet_of, get_or-meet_of, length-either_of, get_or-either_of, Decides-dominates, Dominates-from_places, ones_of-append, ones_of-le, restrict_of-push, spread_of-push_one, spread_of-push_zero, DifferAt, earlier_one-less, earlier_one-greater, vector_order-same}
 
 -- ---- count and meet
 
@@ -39,6 +39,14 @@ meet_of-bools w a b =
     let in_first : i < length (bools w a) = rw (length-bools w a) within in
     let in_second : i < length (bools w b) = rw (length-bools w b) within in
     get_or-meet_of (bools w a) (bools w b) i d in_first in_second ∙ rw (get_or-bools w a i d within, get_or-bools w b i d within, has_bit-and a b i) refl))
+
+pub either_of-bools : (w a b : ℕ) → either_of (bools w a) (bools w b) ≡ bools w (bit_or a b)
+either_of-bools w a b =
+    let long : length (either_of (bools w a) (bools w b)) ≡ w = length-either_of (bools w a) (bools w b) (length-bools w a ∙ sym (length-bools w b)) ∙ length-bools w a in
+    sym (bools-from w (bit_or a b) (either_of (bools w a) (bools w b)) long (λ i d within.
+    let in_first : i < length (bools w a) = rw (length-bools w a) within in
+    let in_second : i < length (bools w b) = rw (length-bools w b) within in
+    get_or-either_of (bools w a) (bools w b) i d in_first in_second ∙ rw (get_or-bools w a i d within, get_or-bools w b i d within, has_bit-or a b i) refl))
 
 -- ---- dominance
 

@@ -14,6 +14,12 @@ meet_of [] vs = []
 meet_of (u ∷ us) [] = []
 meet_of (u ∷ us) (v ∷ vs) = (u && v) ∷ meet_of us vs
 
+-- 1 where either has 1
+abbrev pub either_of : List Bool → List Bool → List Bool
+either_of [] vs = []
+either_of (u ∷ us) [] = []
+either_of (u ∷ us) (v ∷ vs) = (u || v) ∷ either_of us vs
+
 -- whether the two have equal length, and the first has 1 wherever the second has 1
 abbrev pub dominates : List Bool → List Bool → Bool
 dominates [] [] = true

@@ -6,7 +6,7 @@ ghost use Rattle.std.proofs.Math.Bool.{beq};
 ghost use Rattle.std.specs.Cmp.Lexicographic.{pointwise};
 ghost use Rattle.std.specs.Cmp.Rules.{comparing};
 ghost use Rattle.win_vectors.specs.Fronts.{Dominates};
-ghost use Rattle.win_vectors.specs.Vectors.{dominates as is_above, meet_of, ones_of, restrict_of, spread_of, vector_order};
+ghost use Rattle.win_vectors.specs.Vectors.{dominates as is_above, either_of, meet_of, ones_of, restrict_of, spread_of, vector_order};
 
 use std::cmp::Ordering;
 use std::marker::Model;
@@ -41,6 +41,17 @@ impl Model for WinVector {
       width = length-bools a.width a.bits i;
       bits = number_of-bools a.width a.bits h.fits i;
     } };
+}
+
+/// One layout that isn't made: what a collection puts into places that it doesn't use.
+impl Default for WinVector {
+    ghost use Rattle.std.specs.Prelude.{◌≡◌, false, [], ◌∷◌};
+
+    ghost is_default = { λ v. v ≡ false ∷ [] };
+
+    fn default() -> WinVector {
+        WinVector::none(1)
+    }
 }
 
 impl PartialEq for WinVector {
@@ -131,6 +142,17 @@ impl WinVector {
         }
     }
 
+    /// 1 where either has 1.
+    pub fn either(self, other: WinVector) -> WinVector
+        requires { length self ≡ length other }
+        ensures { result ≡ either_of self other }
+    {
+        WinVector {
+            width: self.width,
+            bits: self.bits | other.bits,
+        }
+    }
+
     /// Whether this vector has 1 wherever the other has.
     pub fn dominates(self, other: WinVector) -> bool
         requires { length self ≡ length other }
@@ -215,3 +237,6 @@ fn ones_below(width: u8) -> u64
         (1u64 << width) - 1
     }
 }
+
+#[cfg(test)]
+mod tests;

@@ -1,4 +1,4 @@
-use Rattle.std.proofs.Common.{◌≡◌, sym, subst}
+use Rattle.std.proofs.Common.{sym, subst}
 use Rattle.trick_rules.specs.Table.{Table, IsSound}
 use Rattle.trick_rules.specs.Play.{CanPlay}
 use Rattle.trick_rules.proofs.Soundness.{after_card_sound, after_card-parts}
@@ -10,8 +10,8 @@ invariant_of-result c =
     let t : Table = record { declarer = p.declarer; dummy = p.dummy; unseen = p.unseen; trick = p.trick; need = p.need; trump = p.trump } in
     let can : CanPlay t c.args.card = rw (← c.position.view_is) at c.requires in
     let parts = after_card-parts t c.args.card c.without.result c.without-2.result c.without-3.result c.trick_after-trick.result.0 c.trick_after-trick.result.1
-            c.without.ensures.value c.without-2.ensures.value c.without-3.ensures.value
-            (rw (← c.position.view_is) at c.trick_after-trick.ensures.trick) (rw (← c.position.view_is) at c.trick_after-trick.ensures.need) in
+    c.without.ensures.value c.without-2.ensures.value c.without-3.ensures.value
+    (rw (← c.position.view_is) at c.trick_after-trick.ensures.trick) (rw (← c.position.view_is) at c.trick_after-trick.ensures.need) in
     subst IsSound (sym parts) (after_card_sound t c.args.card c.position.invariant can)
 
 pub returns-clause-sound : goal.returns-clause-sound

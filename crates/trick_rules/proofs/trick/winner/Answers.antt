@@ -1,6 +1,6 @@
-use Rattle.std.proofs.Common.{◌≡◌, ◌+◌, length, get_or, map, sym, ap, ◌∙◌, arith}
+use Rattle.std.proofs.Common.{◌≡◌, ◌+◌, length, get_or, map, sym, ◌∙◌, arith}
 use Rattle.card_sets.specs.Cards.{suit_of}
-use Rattle.trick_rules.specs.Play.{strength, winner_of}
+use Rattle.trick_rules.specs.Play.{strength}
 use Rattle.trick_rules.proofs.TrickLemmas.{IsHighest, IsHighest-takes, IsHighest-keeps, strength_read, winner_from_highest}
 use Rattle.trick_rules.proofs.trick.winner.Goals as goal
 use Rattle.trick_rules.proofs.trick.winner.Goals.{then-strength, else-strength}
@@ -14,14 +14,15 @@ loop-place-preserved c =
     let card_best : c.index-deref-best.result ≡ get_or cards c.loop-place.best c.index-deref-best.result = rw c.deref-in-loop-place.ensures.0 at c.index-deref-best.is in
     let card_place : c.index-deref-place.result ≡ get_or cards c.loop-place.place c.index-deref-place.result = rw c.deref-in-loop-place-2.ensures.0 at c.index-deref-place.is in
     let at_best : get_or xs c.loop-place.best 0 ≡ c.strength.result =
-        strength_read trump cards c.loop-place.best c.index-deref-0.result c.index-deref-best.result (omega (arith, c.loop-place.invariant.within, c.len-place-end.ensures.value)) first card_best
-        ∙ rw (← c.suit-led.ensures.value) (sym c.strength.ensures.value) in
+    strength_read trump cards c.loop-place.best c.index-deref-0.result c.index-deref-best.result (omega (arith, c.loop-place.invariant.within, c.len-place-end.ensures.value)) first card_best
+    ∙ rw (← c.suit-led.ensures.value) (sym c.strength.ensures.value) in
     let at_place : get_or xs c.loop-place.place 0 ≡ c.strength-in-loop-place.result =
-        strength_read trump cards c.loop-place.place c.index-deref-0.result c.index-deref-place.result (omega (arith, c.len-place-end.ensures.value)) first card_place
-        ∙ rw (← c.suit-led.ensures.value) (sym c.strength-in-loop-place.ensures.value) in
+    strength_read trump cards c.loop-place.place c.index-deref-0.result c.index-deref-place.result (omega (arith, c.len-place-end.ensures.value)) first card_place
+    ∙ rw (← c.suit-led.ensures.value) (sym c.strength-in-loop-place.ensures.value) in
     elim c.if-strength.branch as (λ _. IsHighest xs (c.loop-place.place + 1) c.if-strength.best) [
-      then-strength w ↦ rw w.best-is (IsHighest-takes xs c.loop-place.place c.loop-place.best c.loop-place.invariant (omega (arith, at_best, at_place, w.if-strength.true)))
-    | else-strength w ↦ rw w.best-is (IsHighest-keeps xs c.loop-place.place c.loop-place.best c.loop-place.invariant (omega (arith, at_best, at_place, w.if-strength.false))) ]
+      | then-strength w ↦ rw w.best-is (IsHighest-takes xs c.loop-place.place c.loop-place.best c.loop-place.invariant (omega (arith, at_best, at_place, w.if-strength.true)))
+      | else-strength w ↦ rw w.best-is (IsHighest-keeps xs c.loop-place.place c.loop-place.best c.loop-place.invariant (omega (arith, at_best, at_place, w.if-strength.false)))
+    ]
 
 pub returns : goal.returns
 returns c =

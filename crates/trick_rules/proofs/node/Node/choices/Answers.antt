@@ -1,5 +1,5 @@
 use Rattle.std.proofs.Common.{◌∙◌}
-use Rattle.trick_rules.proofs.NodeLemmas.{choices_more}
+use Rattle.trick_rules.proofs.KeptLayouts.{choices_more}
 use Rattle.trick_rules.proofs.node.Node.choices.Goals as goal
 
 pub loop-left-preserved : goal.loop-left-preserved

@@ -1,0 +1,36 @@
+-- A sink in memory as its callers see it.
+use Rattle.std.specs.Prelude.{ℕ, ◌-◌, Bool, ◌&&◌, ◌||◌, ◌==◌, if◌then◌else◌, nat_lt, List, [], ◌++◌, length, take}
+use Rattle.am_outside.specs.Faults.{one_more}
+
+-- what a sink in memory holds
+pub record SinkState : Type 0 where
+  -- what was written
+  pub bytes : List ℕ
+  -- how many bytes fit in all
+  pub room : ℕ
+  -- the number of the write that fails, from 1; 0 where none does
+  pub fail_at : ℕ
+  -- writes asked for so far
+  pub calls : ℕ
+  -- faults counted so far
+  pub faults : ℕ
+
+-- whether the next write is the one that fails
+abbrev pub fails_next : SinkState → Bool
+fails_next sink = one_more sink.calls == sink.fail_at
+
+-- the part of a piece that the next write takes: none where it fails, and else what fits
+abbrev pub part_taken : SinkState → List ℕ → List ℕ
+part_taken sink piece = if fails_next sink then [] else take (sink.room - length sink.bytes) piece
+
+-- whether the next write counts a fault: it fails, or the piece has bytes and none of them fits
+abbrev pub counts_fault : SinkState → List ℕ → Bool
+counts_fault sink piece = fails_next sink || (nat_lt 0 (length piece) && (sink.room - length sink.bytes == 0))
+
+-- the sink after a write of this piece
+abbrev pub after_write : SinkState → List ℕ → SinkState
+after_write sink piece = record sink {
+  bytes = sink.bytes ++ part_taken sink piece;
+  calls = one_more sink.calls;
+  faults = if counts_fault sink piece then one_more sink.faults else sink.faults;
+}

@@ -1,0 +1,10 @@
+//! Double dummy: whether declarer's side takes the need with all cards seen by all.
+//! It stands on `trick_rules`, whose `makes` says what double dummy is.
+//! Each solver here is promised to answer `makes`, whatever its ways.
+#![tactic(auto)]
+
+mod plain;
+#[cfg(test)]
+mod tests;
+
+pub use plain::makes_plain;

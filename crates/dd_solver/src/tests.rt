@@ -1,0 +1,204 @@
+//! Endings whose answers were worked out apart from the program.
+use crate::makes_plain;
+use card_sets::{Card, CardSet, Rank, Seat, Suit};
+use std::process::Abort;
+use trick_rules::{Position, Trump};
+
+/// The four hands of an ending, who leads, trumps, and the tricks that declarer's side takes double dummy.
+#[derive(Clone, Copy)]
+struct Ending {
+    declarer: &'static str,
+    left: &'static str,
+    dummy: &'static str,
+    right: &'static str,
+    leader: Seat,
+    trump: Trump,
+    tricks: u8,
+}
+
+/// By another program, which agrees with Bo Haglund's double dummy solver.
+const ENDINGS: [Ending; 12] = [
+    Ending {
+        declarer: "SK H6 CQ",
+        left: "ST D3 CJ",
+        dummy: "H5 HA C6",
+        right: "SJ D8 DT",
+        leader: Seat::Right,
+        trump: Trump::Suit(Suit::Spades),
+        tricks: 1,
+    },
+    Ending {
+        declarer: "S6 HK HA",
+        left: "HQ DK CA",
+        dummy: "S5 H6 D3",
+        right: "S8 C6 C7",
+        leader: Seat::Dummy,
+        trump: Trump::NoTrump,
+        tricks: 2,
+    },
+    Ending {
+        declarer: "S9 H3 H7",
+        left: "S5 SA DA",
+        dummy: "S6 DK CT",
+        right: "SK HQ D8",
+        leader: Seat::Right,
+        trump: Trump::Suit(Suit::Hearts),
+        tricks: 1,
+    },
+    Ending {
+        declarer: "SA H4 C9",
+        left: "S4 DJ C6",
+        dummy: "H9 C5 CJ",
+        right: "S9 HK DA",
+        leader: Seat::Right,
+        trump: Trump::Suit(Suit::Clubs),
+        tricks: 2,
+    },
+    Ending {
+        declarer: "HK C3 C7",
+        left: "D6 DT C5",
+        dummy: "S2 D9 C9",
+        right: "S3 H3 D3",
+        leader: Seat::Dummy,
+        trump: Trump::Suit(Suit::Diamonds),
+        tricks: 1,
+    },
+    Ending {
+        declarer: "H5 H6 HK",
+        left: "S2 S5 HA",
+        dummy: "S6 D2 C7",
+        right: "HJ DK C3",
+        leader: Seat::Dummy,
+        trump: Trump::NoTrump,
+        tricks: 2,
+    },
+    Ending {
+        declarer: "S4 H2 C3 C5",
+        left: "S8 SK D5 CJ",
+        dummy: "D2 C8 CQ CK",
+        right: "S2 ST HQ C7",
+        leader: Seat::Dummy,
+        trump: Trump::Suit(Suit::Spades),
+        tricks: 1,
+    },
+    Ending {
+        declarer: "SQ H5 D7 CA",
+        left: "S8 H9 D5 D6",
+        dummy: "S5 S9 SJ D8",
+        right: "H2 H7 DJ C7",
+        leader: Seat::Declarer,
+        trump: Trump::NoTrump,
+        tricks: 2,
+    },
+    Ending {
+        declarer: "S6 SA HJ DK",
+        left: "S3 HK D4 C2",
+        dummy: "S5 H3 HA CA",
+        right: "S4 H4 C6 CT",
+        leader: Seat::Left,
+        trump: Trump::Suit(Suit::Hearts),
+        tricks: 3,
+    },
+    Ending {
+        declarer: "SQ H8 D7 C9",
+        left: "S7 DK DA C3",
+        dummy: "ST SJ H3 CQ",
+        right: "S4 HA D4 C7",
+        leader: Seat::Right,
+        trump: Trump::Suit(Suit::Diamonds),
+        tricks: 1,
+    },
+    Ending {
+        declarer: "S9 SA DJ CT",
+        left: "S8 H3 H5 C4",
+        dummy: "D7 D9 C9 CA",
+        right: "D5 C2 CQ CK",
+        leader: Seat::Declarer,
+        trump: Trump::Suit(Suit::Clubs),
+        tricks: 2,
+    },
+    Ending {
+        declarer: "SQ HA D4 C7",
+        left: "S6 H3 D9 C2",
+        dummy: "H2 HT HQ C8",
+        right: "S4 ST H8 DK",
+        leader: Seat::Left,
+        trump: Trump::NoTrump,
+        tricks: 3,
+    },
+];
+
+/// A card by the letters of its suit and its rank, as `S2` and `CT`.
+fn card(suit: u8, rank: u8) -> Card {
+    let suit = match suit {
+        b'S' => Suit::Spades,
+        b'H' => Suit::Hearts,
+        b'D' => Suit::Diamonds,
+        _ => Suit::Clubs,
+    };
+    let number = match rank {
+        b'A' => 14,
+        b'K' => 13,
+        b'Q' => 12,
+        b'J' => 11,
+        b'T' => 10,
+        b'3'..=b'9' => rank - b'0',
+        _ => 2,
+    };
+    Card::new(suit, Rank::new(number))
+}
+
+/// The cards of a text with a blank between any two.
+fn cards(text: &str) -> CardSet {
+    let mut set = CardSet::empty();
+    for letters in text.as_bytes().chunks(3) {
+        if let [suit, rank, ..] = letters {
+            set = set.with(card(*suit, *rank));
+        }
+    }
+    set
+}
+
+/// Whether declarer's side takes that many tricks of the ending.
+fn takes(rt: &impl Abort, ending: &Ending, need: u8) -> bool {
+    let left = cards(ending.left);
+    let unseen = left.either(cards(ending.right));
+    let (declarer, dummy) = (cards(ending.declarer), cards(ending.dummy));
+    let start = Position::between_tricks(
+        declarer,
+        dummy,
+        unseen,
+        ending.leader,
+        need,
+        ending.trump,
+    );
+    let position = start.expect(rt, "the ending is sound");
+    assert!(rt; position.fits(left));
+    makes_plain(&position, left)
+}
+
+#[test]
+fn just_the_tricks_of_each_ending(rt: HostRuntime) {
+    for ending in &ENDINGS {
+        assert!(rt; takes(&rt, ending, ending.tricks));
+        assert!(rt; !takes(&rt, ending, ending.tricks.saturating_add(1)));
+    }
+}
+
+/// Dummy is to lead S3 or S2 with no trumps, and declarer holds SK SJ. With the ace and the queen on either side one trick
+/// is made: the king goes on low cards, and the jack where Right plays the queen or Left has to play the ace.
+#[test]
+fn one_trick_in_both_layouts(rt: HostRuntime) {
+    for (left, right) in [("S5 SQ", "S7 SA"), ("S5 SA", "S7 SQ")] {
+        let ending = Ending {
+            declarer: "SJ SK",
+            left,
+            dummy: "S2 S3",
+            right,
+            leader: Seat::Dummy,
+            trump: Trump::NoTrump,
+            tricks: 1,
+        };
+        assert!(rt; takes(&rt, &ending, 1));
+    }
+}

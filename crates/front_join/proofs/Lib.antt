@@ -1,0 +1,2 @@
+mod JoinLemmas
+pub mod JoinLaws

@@ -1,0 +1,245 @@
+//! `Front`: an ordered list of vectors of one width.
+
+ghost use Rattle.std.specs.Prelude.{◌≡◌, ◌↔◌, ◌≤◌, ◌<◌, ◌+◌, ◌++◌, ◌∷◌, [], IsTrue, IsOk, IsSome, IfOk, IfSome, OnOk, OnErr, length, slice_get, take, All};
+ghost use Rattle.std.specs.List.{HoldsAt};
+ghost use Rattle.pareto_fronts.specs.FrontValue.{IsFront, HasSpareRoom, HaveSameVectors};
+ghost use Rattle.win_vectors.specs.Fronts.{Covers, CoversAll, HaveWidth, IsFirstAbove, IsReduced, Precedes};
+ghost use Rattle.win_vectors.specs.Vectors.{dominates as is_above};
+
+use smallvec::SmallVec;
+use std::alloc::{AllocError, Global};
+use std::marker::Model;
+use win_vectors::{MAX_WIDTH, WinVector};
+
+/// How many vectors a front keeps before it allocates.
+pub const INLINE_VECTORS: usize = 4;
+
+/// The best vectors of one width, in printing order: none of them dominates another.
+///
+/// No call lowers its room: the sum of its length and of its spare room.
+#[derive(Drop)]
+pub struct Front {
+    width: u8,
+    vectors: SmallVec<WinVector, INLINE_VECTORS>,
+}
+
+impl Model for Front {
+    ghost use Rattle.pareto_fronts.specs.FrontValue.{FrontValue, IsFront};
+
+    ghost Value = { FrontValue };
+
+    ghost view = { λ a. record {
+      width = a.width;
+      vectors = a.vectors.items;
+      room = a.vectors.capacity;
+    } };
+
+    ghost invariant = { λ a. IsFront (record {
+      width = a.width;
+      vectors = a.vectors.items;
+      room = a.vectors.capacity;
+    }) };
+}
+
+impl Front {
+    /// A front with no vector, for so many layouts.
+    pub fn new(alloc: Global, width: u8) -> Front
+        requires low { 1 ≤ width }
+        requires high { width ≤ MAX_WIDTH }
+        ensures width { result.width ≡ width }
+        ensures empty { result.vectors ≡ [] }
+        ensures room { result.room ≡ INLINE_VECTORS }
+        ensures front { IsFront result }
+    {
+        Front {
+            width,
+            vectors: SmallVec::new(alloc),
+        }
+    }
+
+    /// How many layouts its vectors have.
+    pub fn width(&self) -> u8
+        ensures { result ≡ self.now.width }
+    {
+        self.width
+    }
+
+    /// How many vectors there are.
+    pub fn len(&self) -> usize
+        ensures value { result ≡ length self.now.vectors }
+        ensures front { IsFront self.now }
+    {
+        self.vectors.len()
+    }
+
+    /// Whether there is no vector.
+    pub fn is_empty(&self) -> bool
+        ensures { IsTrue result ↔ (self.now.vectors ≡ []) }
+    {
+        self.vectors.is_empty()
+    }
+
+    /// The vector at a place, which is counted from 0.
+    pub fn get(&self, place: usize) -> WinVector
+        requires { place < length self.now.vectors }
+        ensures { slice_get self.now.vectors place ≡ Some result }
+    {
+        self.vectors[place]
+    }
+
+    /// The vectors, in printing order.
+    pub fn as_slice(&self) -> &[WinVector]
+        ensures value { result.now ≡ self.now.vectors }
+        ensures front { IsFront self.now }
+    {
+        self.vectors.as_slice()
+    }
+
+    /// Whether some vector dominates this one.
+    pub fn covers(&self, vector: &WinVector) -> bool
+        requires { length vector.now ≡ self.now.width }
+        ensures { IsTrue result ↔ Covers self.now.vectors vector.now }
+    {
+        is_covered(self.vectors.as_slice(), *vector)
+    }
+
+    /// Whether the other front covers each vector of this one.
+    pub fn covered_by(&self, other: &Front) -> bool
+        requires { other.now.width ≡ self.now.width }
+        ensures { IsTrue result ↔ CoversAll other.now.vectors self.now.vectors }
+    {
+        self.vectors.iter().all(|mine| other.covers(mine))
+    }
+
+    /// The first vector that dominates the target, if one does.
+    pub fn pick(&self, target: &WinVector) -> Option<WinVector>
+        requires { length target.now ≡ self.now.width }
+        ensures found { IsSome result ↔ Covers self.now.vectors target.now }
+        ensures first { IfSome result (IsFirstAbove self.now.vectors target.now) }
+    {
+        for mine in self.vectors.iter() {
+            if mine.dominates(*target) {
+                return Some(*mine);
+            }
+        }
+        None
+    }
+
+    /// Makes room for so many more vectors.
+    pub fn reserve(&mut self, more: usize) -> Result<(), AllocError>
+        ensures vectors { HaveSameVectors self.old self.new }
+        ensures ok { OnOk result (HasSpareRoom self.new more) }
+        ensures succeeds { HasSpareRoom self.old more → IsOk result }
+        ensures err { OnErr result (self.new ≡ self.old) }
+        ensures room { self.old.room ≤ self.new.room }
+    {
+        self.vectors.reserve(more)
+    }
+
+    /// Leaves the best of its vectors and of this one. The front is unchanged where memory is wanted, which may be where
+    /// there is no spare room.
+    pub fn insert(&mut self, vector: WinVector) -> Result<(), AllocError>
+        requires { length vector ≡ self.old.width }
+        ensures front { IsFront self.new }
+        ensures width { self.new.width ≡ self.old.width }
+        ensures ok { OnOk result (IsReduced (vector ∷ self.old.vectors) self.new.vectors) }
+        ensures succeeds { HasSpareRoom self.old 1 → IsOk result }
+        ensures err { OnErr result (self.new ≡ self.old) }
+        ensures room { self.old.room ≤ self.new.room }
+    {
+        if is_covered(self.vectors.as_slice(), vector) {
+            return Ok(());
+        }
+        self.vectors.reserve(1)?;
+        self.add(vector);
+        Ok(())
+    }
+
+    /// Leaves the best of the vectors of both fronts. The front is unchanged where memory is wanted, which may be where its
+    /// spare room is less than the other's length.
+    pub fn union(&mut self, other: &Front) -> Result<(), AllocError>
+        requires { other.now.width ≡ self.old.width }
+        ensures front { IsFront self.new }
+        ensures width { self.new.width ≡ self.old.width }
+        ensures ok { OnOk result (IsReduced (self.old.vectors ++ other.now.vectors) self.new.vectors) }
+        ensures succeeds { HasSpareRoom self.old (length other.now.vectors) → IsOk result }
+        ensures err { OnErr result (self.new ≡ self.old) }
+        ensures room { self.old.room ≤ self.new.room }
+    {
+        self.vectors.reserve(other.vectors.len())?;
+        for vector in other.vectors.iter() {
+            if !is_covered(self.vectors.as_slice(), *vector) {
+                self.add(*vector);
+            }
+        }
+        Ok(())
+    }
+
+    /// An equal front.
+    pub fn copy(&self) -> Result<Front, AllocError>
+        ensures same { IfOk result (HaveSameVectors self.now) }
+        ensures front { IfOk result IsFront }
+    {
+        let vectors = SmallVec::from_slice(*self.vectors.allocator(), self.vectors.as_slice())?;
+        Ok(Front {
+            width: self.width,
+            vectors,
+        })
+    }
+
+    /// Takes every vector out, and keeps the room.
+    pub fn clear(&mut self)
+        ensures width { self.new.width ≡ self.old.width }
+        ensures empty { self.new.vectors ≡ [] }
+        ensures room { self.old.room ≤ self.new.room }
+    {
+        self.vectors.clear();
+    }
+
+    // Puts in a vector that no vector dominates, and takes out those that it dominates.
+    fn add(&mut self, vector: WinVector)
+        requires same_width { length vector ≡ self.old.width }
+        requires spare { HasSpareRoom self.old 1 }
+        requires new { ¬ Covers self.old.vectors vector }
+        ensures front { IsFront self.new }
+        ensures width { self.new.width ≡ self.old.width }
+        ensures reduced { IsReduced (vector ∷ self.old.vectors) self.new.vectors }
+        ensures longer { length self.new.vectors ≤ length self.old.vectors + 1 }
+        ensures room { self.new.room ≡ self.old.room }
+    {
+        self.vectors.retain(|mine| !dominates_alike(vector, *mine));
+        let place = place_of(self.vectors.as_slice(), vector);
+        let _ = self.vectors.insert(place, vector);
+    }
+}
+
+// Whether some vector of the list dominates this one.
+fn is_covered(vectors: &[WinVector], vector: WinVector) -> bool
+    requires { HaveWidth (length vector) vectors.now }
+    ensures { IsTrue result ↔ Covers vectors.now vector }
+{
+    vectors.iter().any(|mine| mine.dominates(vector))
+}
+
+// Whether the two are of one width, and the first dominates the second.
+fn dominates_alike(vector: WinVector, mine: WinVector) -> bool
+    ensures { result ≡ is_above vector mine }
+{
+    vector.width() == mine.width() && vector.dominates(mine)
+}
+
+// How many vectors of an ordered list stand before this one.
+fn place_of(vectors: &[WinVector], vector: WinVector) -> usize
+    requires { HaveWidth (length vector) vectors.now }
+    ensures bound { result ≤ length vectors.now }
+    ensures before { All (λ mine. Precedes mine vector) (take result vectors.now) }
+    ensures not_at { result < length vectors.now
+        → HoldsAt (λ mine. ¬ Precedes mine vector) vectors.now result }
+{
+    for (place, mine) in vectors.iter().enumerate() {
+        if !mine.order(vector).is_lt() {
+            return place;
+        }
+    }
+    vectors.len()
+}

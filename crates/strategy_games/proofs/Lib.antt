@@ -1,0 +1,14 @@
+pub mod Lists
+pub mod Vectors
+pub mod Fronts
+pub mod Masks
+pub mod Wins
+pub mod Recursion
+pub mod Nodes
+pub mod Moves
+pub mod Sizes
+pub mod Counts
+pub mod Cuts
+pub mod Chosen
+pub mod Faults
+pub mod FinesseLemmas

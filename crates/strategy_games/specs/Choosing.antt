@@ -1,0 +1,47 @@
+-- Which strategy is printed for a vector, and which card is named.
+use Rattle.std.specs.Prelude.{◌≡◌, ◌≤◌, ℕ, zero, suc, true, false, ⊤, List, ◌∷◌, ◌++◌, Contains}
+use Rattle.win_vectors.specs.Vectors.{ones_of, restrict_of}
+use Rattle.win_vectors.specs.Fronts.{Vector, Covers, IsFirstAbove}
+use Rattle.strategy_games.specs.Games.{Game, mask}
+use Rattle.strategy_games.specs.Plans.{Plan, Replies, Stop, Play, Hear, NoReply, Reply, cards_of, stops, IsFront}
+
+-- x is the first of the list of which P holds
+abbrev pub IsFirstOf : {X : Type 0} → (X → Type 0) → List X → X → Type 0
+IsFirstOf {X} P xs x = (earlier later : List X) × (xs ≡ earlier ++ x ∷ later) × ((y : X) → Contains earlier y → P y → ⊥) × P x
+
+module _ {N S C : Type 0} (g : Game N S C) where
+  -- u is the first vector of the front that dominates t
+  abbrev pub IsPick : N → ℕ → Vector → Vector → Type 0
+  IsPick n m t u = (f : List Vector) × IsFront g n m f × IsFirstAbove f t u
+
+  -- after the card, with m moves, some vector of the front dominates u
+  abbrev pub Keeps : N → ℕ → Vector → C → Type 0
+  Keeps n m u c = (f : List Vector) × IsFront g (g.child n c) m f × Covers f u
+
+  abbrev mutual
+    -- the plan that is printed for a vector t which the front dominates
+    pub IsChosenPlan : Plan C → N → ℕ → Vector → Type 0
+    IsChosenPlan Stop n m t = stops g n m ≡ true
+    IsChosenPlan (Play c q) n zero t = ⊥
+    IsChosenPlan (Play c q) n (suc m) t = (g.is_decided n ≡ false) × (g.is_ours n ≡ true)
+        × (u : Vector) × IsPick n (suc m) t u × IsFirstOf (Keeps n m u) (g.choices n) c × IsChosenPlan q (g.child n c) m u
+    IsChosenPlan (Hear rs) n m t = (stops g n m ≡ false) × (g.is_ours n ≡ false)
+        × (u : Vector) × IsPick n m t u × (cards_of rs ≡ g.choices n) × AreChosenReplies rs n m u
+
+    -- each reply is printed for the part of u at the layouts in which its card is legal
+    pub AreChosenReplies : Replies C → N → ℕ → Vector → Type 0
+    AreChosenReplies NoReply n m u = ⊤
+    AreChosenReplies (Reply c q rs) n m u = IsChosenPlan q (g.child n c) m (restrict_of u (mask g n c)) × AreChosenReplies rs n m u
+
+  -- some vector of the node's front has this many ones
+  abbrev pub HasCount : N → ℕ → ℕ → Type 0
+  HasCount n m b = (f : List Vector) × IsFront g n m f × (v : Vector) × Contains f v × (ones_of v ≡ b)
+
+  -- the greatest number of layouts that one vector of the front wins
+  abbrev pub IsBestCount : N → ℕ → ℕ → Type 0
+  IsBestCount n m b = HasCount n m b × ((c : ℕ) → HasCount n m c → c ≤ b)
+
+  -- the first of the choices after which the best count is kept
+  abbrev pub IsNamedCard : N → ℕ → C → Type 0
+  IsNamedCard n zero c = ⊥
+  IsNamedCard n (suc m) c = (b : ℕ) × IsBestCount n (suc m) b × IsFirstOf (λ d. HasCount (g.child n d) m b) (g.choices n) c

@@ -1,0 +1,98 @@
+//! What declarer's strategies win when several layouts are possible, and which win vectors are the best that any of them reaches.
+//! It stands on `win_vectors`; a game gives its nodes, cards and double dummy by implementing `HiddenGame`, and nothing here runs.
+//! Each function's contract is a law that holds for every such game; the definitions stand in specs/.
+#![tactic(auto)]
+
+ghost use Rattle.std.specs.Prelude.{Bool, Decides, ◌≡◌};
+ghost use Rattle.strategy_games.specs.Games.{Game, IsLawful, IsDoubleDummy, IsSettled};
+ghost use Rattle.strategy_games.specs.Laws.{EndsSomewhere, HasOneFront, HasRecursion, HasSteps, HasMoreMoves, HasChosenPlan, HasSizes, HasBestCount, HasNamedCard, HasCuts, HasFirstMisfit};
+
+/// A game of hidden layouts: a node is what everybody sees, with the layouts that are still possible.
+///
+/// An implementation names its nodes, states and cards and gives the game over them, the condition under
+/// which a node is sound, a test of equal cards, and the proofs that its rules hold at sound nodes.
+/// Then every law below holds for it, by a call of the law's function at the implementing type.
+pub trait HiddenGame {
+    ghost Node: { Type 0 };
+
+    ghost State: { Type 0 };
+
+    ghost Card: { Type 0 };
+
+    ghost game: { Game Node State Card };
+
+    ghost Sound: { Node → Type 0 };
+
+    ghost same: { Card → Card → Bool };
+
+    ghost lawful: { IsLawful game Sound };
+
+    ghost double_dummy: { IsDoubleDummy game Sound };
+
+    ghost settled: { IsSettled game Sound };
+
+    ghost tells_cards: { (c d : Card) → Decides (same c d) (c ≡ d) };
+}
+
+/// A strategy ends somewhere in each layout, so that a layout isn't won because nothing was looked at.
+pub fn strategy_ends<G: HiddenGame>()
+    ensures { EndsSomewhere G.game G.Sound }
+{}
+
+/// Exactly one list is the front of a node with a number of moves, and it isn't empty.
+pub fn one_front<G: HiddenGame>()
+    ensures { HasOneFront G.game G.Sound }
+{}
+
+/// The front at declarer's side is the best of the children's fronts with a move less, one after the other;
+/// at a defender it is the best of all meets of one spread vector of each child's front with the same moves.
+pub fn front_recursion<G: HiddenGame>()
+    ensures { HasRecursion G.game G.Sound }
+{}
+
+/// The same recursion card by card, as a search goes through the choices of a node.
+pub fn front_steps<G: HiddenGame>()
+    ensures { HasSteps G.game G.Sound }
+{}
+
+/// Each vector of the front with a move more is dominated by one with fewer, and the best count never rises with the moves.
+pub fn front_more_moves<G: HiddenGame>()
+    ensures { HasMoreMoves G.game G.Sound }
+{}
+
+/// For a target that the front dominates exactly one plan is the chosen one; it is a strategy,
+/// and its vector is the first vector of the front that dominates the target.
+pub fn chosen_plan_wins<G: HiddenGame>()
+    ensures { HasChosenPlan G.game G.Sound }
+{}
+
+/// The size of the tree is 1 where the plan stops and else 1 more than its children's sizes together;
+/// it never falls as the moves rise, and a child's size is below its node's.
+pub fn tree_size_laws<G: HiddenGame>()
+    ensures { HasSizes G.game G.Sound }
+{}
+
+/// No strategy wins more layouts than the best count, and the first vector of the front has that count.
+pub fn best_count_is_most<G: HiddenGame>()
+    ensures { HasBestCount G.game G.Sound }
+{}
+
+/// Where declarer's side is to play and play isn't over exactly one card is named,
+/// and some strategy that begins with it wins the best count.
+pub fn named_card_wins<G: HiddenGame>()
+    ensures { HasNamedCard G.game G.Sound }
+{}
+
+/// Where a search may stop early: a list that covers a node's front, the front with a move less,
+/// each child of declarer's side, or the replies to some of a defender's cards covers what every strategy wins.
+pub fn cuts_hold<G: HiddenGame>()
+    ensures { HasCuts G.game G.Sound }
+{}
+
+/// A plan has no first misfit exactly where it is a strategy.
+pub fn first_misfit_tells<G: HiddenGame>()
+    ensures { HasFirstMisfit G.game G.same }
+{}
+
+#[cfg(test)]
+mod tests;

@@ -1,0 +1,188 @@
+-- What is written of a plan is read back.
+use Rattle.std.proofs.Common.{◌≡◌, ℕ, zero, suc, ◌+◌, ◌-◌, ◌*◌, ◌/◌, ◌%◌, ◌<◌, ◌≤◌, ◌^◌, Bool, true, false, not, ◌&&◌, ◌==◌, cond, Option, Some, None, Result, Ok, Err, List, [], ◌∷◌, ◌++◌, length, take, drop, get_or, map, codes, max, bytes_eq, position, find, ◌⊎◌, inl, inr, refl, sym, ap, subst, ◌∙◌, arith, append_assoc, append-nil, length-append}
+use Rattle.std.specs.Option.{option_map, option_and_then, option_or}
+use Rattle.std.specs.List.{list_all, range_with_len, position_or_len}
+use Rattle.std.specs.Fmt.{decimal}
+use Rattle.std.proofs.lemmas.Fmt.{decimal_injective}
+use Rattle.std.proofs.lemmas.Bool.{cases_eq, cases_lt, ne_eqb, false≢true}
+use Rattle.std.proofs.lemmas.Bool.Decides.{Decides-eqb, Decides-ltb}
+use Rattle.std.proofs.lemmas.Slice.Eq.{bytes_eq-Decides}
+use Rattle.std.proofs.lemmas.List.{drop_at, take_at}
+use Rattle.std.proofs.lemmas.List.Folds.{list_all_at}
+use Rattle.std.proofs.lemmas.List.FromFn.{get_or-range_with_len, length-range_with_len}
+use Rattle.card_letters.specs.Letters.{card_text}
+use Rattle.strategy_games.specs.Plans as games
+use Rattle.strategy_games.specs.Plans.{Plan, Replies, cards_of}
+use Rattle.strategy_tree.specs.declared.plan_reader.PlanFault.{PlanFault}
+use Rattle.strategy_tree.specs.declared.plan_reader.PlanLine.{PlanLine}
+use Rattle.strategy_tree.specs.declared.plan_reader.PlanLine.TheVariants.{Stop, Play, Hear}
+use Rattle.strategy_tree.specs.PlanText.{line_of, stop_line, play_line, hear_line, on_line, plan_text, replies_text, levels_of, levels_below, HasReplies, HaveReplies, HasCards, HaveCards}
+use Rattle.strategy_tree.specs.PlanRead.{text_after, card_named, number_named, play_said, hear_said, plan_line, reply_line, line_at, said_at, replies_read, node_read, plan_read}
+use Rattle.strategy_tree.proofs.Reading.{decimal_one, decimal_two, text_after-append}
+use Rattle.strategy_tree.proofs.ReadingNodes.{node_read-stop, node_read-play, node_read-hear}
+
+-- ---- lines
+
+-- no byte ends a line
+abbrev is_line : List ℕ → Bool
+is_line text = list_all (λ b. not (b == 10)) text
+
+and_parts : (a b : Bool) → (a && b) ≡ true → (a ≡ true) × (b ≡ true)
+and_parts true b h = (refl, h)
+and_parts false b h = absurd (false≢true h)
+
+position_or_len-line : (text rest : List ℕ) → is_line text ≡ true → position_or_len (λ b. b == 10) (text ++ 10 ∷ rest) ≡ length text
+position_or_len-line [] rest line = refl
+position_or_len-line (b ∷ text) rest line = let parts = and_parts (not (b == 10)) (is_line text) line in rw parts.0 (omega (arith, position_or_len-line text rest parts.1))
+
+position_is : (p : ℕ → Bool) (xs : List ℕ) (i : ℕ) → position_or_len p xs ≡ i → i < length xs → position p xs ≡ Some i
+position_is p xs i is low = rw (is, (Decides-ltb i (length xs)).1 low) refl
+
+position-line : (text rest : List ℕ) → is_line text ≡ true → position (λ b. b == 10) (text ++ 10 ∷ rest) ≡ Some (length text)
+position-line text rest line =
+    position_is (λ b. b == 10) (text ++ 10 ∷ rest) (length text) (position_or_len-line text rest line) (omega (arith, length-append text (10 ∷ rest)))
+
+-- the line that begins behind these bytes
+line_at-here : (before text rest : List ℕ) → is_line text ≡ true → line_at (before ++ (text ++ 10 ∷ rest)) (length before) ≡ Some text
+unfolding line_at
+line_at-here before text rest line = rw (drop_at before (text ++ 10 ∷ rest) (length before) refl, position-line text rest line, take_at text (10 ∷ rest) (length text) refl) refl
+
+-- what it says, and where the next one begins
+said_at-here : {A : Type 0} (says : List ℕ → Option A) (before text rest : List ℕ) (x : A) → is_line text ≡ true → says text ≡ Some x
+    → said_at says (before ++ (line_of text ++ rest)) (length before) ≡ Some (x, length (before ++ line_of text))
+said_at-here says before text rest x line said =
+    let here : line_at (before ++ (line_of text ++ rest)) (length before) ≡ Some text = subst (λ bytes. line_at (before ++ bytes) (length before) ≡ Some text) (sym (append_assoc text (10 ∷ []) rest)) (line_at-here before text rest line) in
+    let next : length before + length text + 1 ≡ length (before ++ line_of text) = omega (arith, length-append before (line_of text), length-append text (10 ∷ [])) in
+    rw (here, said, next) refl
+
+-- ---- what each line says
+
+-- the option has this number
+abbrev is_number : Option ℕ → ℕ → Bool
+is_number None n = false
+is_number (Some m) n = m == n
+
+number_is : (o : Option ℕ) (n : ℕ) → is_number o n ≡ true → o ≡ Some n
+number_is None n h = absurd (false≢true h)
+number_is (Some m) n h = ap (λ x. Some x) ((Decides-eqb m n).0 h)
+
+-- a test that each number below a limit passes
+below_limit : (p : ℕ → Bool) (limit n : ℕ) → list_all p (range_with_len 0 limit) ≡ true → n < limit → p n ≡ true
+below_limit p limit n all low = go (p n) refl
+  where
+    go : (b : Bool) → p n ≡ b → b ≡ true
+    go true is = refl
+    go false is =
+        let same : 0 + n ≡ n = omega arith in
+        let at : get_or (range_with_len 0 limit) n 0 ≡ n = get_or-range_with_len 0 limit n 0 low ∙ same in
+        absurd (false≢true (sym (list_all_at p (range_with_len 0 limit) n 0 (omega (arith, length-range_with_len 0 limit)) (rw at is)) ∙ all))
+
+-- each card is read from its two letters, which end no line
+abbrev reads_card : ℕ → Bool
+reads_card card = is_number (card_named (card_text card)) card && is_line (card_text card)
+
+reads_each_card : list_all reads_card (range_with_len 0 52) ≡ true
+reads_each_card = refl
+
+card_named-card_text : (card : ℕ) → card < 52 → (card_named (card_text card) ≡ Some card) × (is_line (card_text card) ≡ true)
+card_named-card_text card low =
+    let parts = and_parts _ _ (below_limit reads_card 52 card reads_each_card low) in (number_is _ card parts.0, parts.1)
+
+-- the first number that passes
+find-range : (p : ℕ → Bool) (a len n : ℕ) → a ≤ n → n < a + len → p n ≡ true → ((k : ℕ) → k < n → p k ≡ false) → find p (range_with_len a len) ≡ Some n
+find-range p a zero n from low holds fails = absurd (omega arith)
+find-range p a (suc len) n from low holds fails = elim (cases_eq a n) [
+  | inl same ↦ rw (subst (λ x. p x ≡ true) (sym same) holds) (ap (λ x. Some x) same)
+  | inr other ↦ let past : a < n = omega arith in rw (fails a past) (find-range p (a + 1) len n (omega arith) (omega arith) holds fails)
+]
+
+number_named-decimal : (most n : ℕ) → 1 ≤ n → n ≤ most → n < 100 → number_named most (decimal n) ≡ Some n
+unfolding number_named
+number_named-decimal most n from to small =
+    find-range (λ k. bytes_eq (decimal n) (decimal k)) 1 most n from (omega arith) ((bytes_eq-Decides (decimal n) (decimal n)).1 refl) other
+  where
+    other : (k : ℕ) → k < n → bytes_eq (decimal n) (decimal k) ≡ false
+    other k below = go (bytes_eq (decimal n) (decimal k)) refl
+      where
+        go : (b : Bool) → bytes_eq (decimal n) (decimal k) ≡ b → b ≡ false
+        go false is = refl
+        go true is = let same : n ≡ k = decimal_injective n k (omega arith) (omega arith) ((bytes_eq-Decides (decimal n) (decimal k)).0 is) in absurd (omega arith)
+
+digit_line : (d : ℕ) (rest : List ℕ) → d < 10 → is_line rest ≡ true → is_line ((48 + d) ∷ rest) ≡ true
+digit_line d rest low line = let other : (48 + d == 10) ≡ false = ne_eqb (48 + d) 10 (λ e. omega arith) in rw other line
+
+is_line-decimal : (n : ℕ) → n < 100 → is_line (decimal n) ≡ true
+is_line-decimal n small = elim (cases_lt n 10) [
+  | inl one ↦ rw (decimal_one n one) (digit_line (n % 10) [] (omega arith) refl)
+  | inr two ↦ rw (decimal_two n two small) (digit_line (n / 10 % 10) ((48 + n % 10) ∷ []) (omega arith) (digit_line (n % 10) [] (omega arith) refl))
+]
+
+-- ---- the four lines
+
+stop-said : plan_line (codes "stop") ≡ Some Stop
+unfolding plan_line
+stop-said = refl
+
+play-said : (card : ℕ) → card < 52 → plan_line (codes "play " ++ card_text card) ≡ Some (Play card)
+unfolding plan_line play_said
+play-said card low = ap (λ named. option_or (option_map Play named) (hear_said (codes "play " ++ card_text card))) (card_named-card_text card low).0
+
+on-said : (card : ℕ) → card < 52 → reply_line (codes "on " ++ card_text card) ≡ Some card
+unfolding reply_line
+on-said card low = (card_named-card_text card low).0
+
+hear-said : (count : ℕ) → 1 ≤ count → count ≤ 52 → plan_line (codes "hear " ++ decimal count) ≡ Some (Hear count)
+unfolding plan_line hear_said play_said
+hear-said count from to = ap (λ named. option_map Hear named) (number_named-decimal 52 count from to (omega arith))
+
+-- ---- plans
+
+-- a node's line behind these bytes, and what follows it
+line_here : {A : Type 0} (says : List ℕ → Option A) (bytes before text rest more : List ℕ) (x : A) → is_line text ≡ true → says text ≡ Some x → more ≡ line_of text ++ rest → bytes ≡ before ++ more
+    → Some (x, length (before ++ line_of text)) ≡ said_at says bytes (length before)
+line_here says bytes before text rest more x line said is bytes_are = rw (bytes_are, is) (sym (said_at-here says before text rest x line said))
+
+replies_read-reply : (below : ℕ → Result (Plan ℕ × ℕ) PlanFault) (bytes : List ℕ) (at card next : ℕ) (plan : Plan ℕ) (end : ℕ) (later : Replies ℕ) (last count : ℕ)
+    → Some (card, next) ≡ said_at reply_line bytes at → below next ≡ Ok (plan, end) → replies_read below count bytes end ≡ Ok (later, last)
+    → replies_read below (suc count) bytes at ≡ Ok (games.Reply card plan later, last)
+replies_read-reply below bytes at card next plan end later last count said read more = rw (← said, read, more) refl
+
+-- behind one part, and then behind the next
+part : (before first second rest bytes : List ℕ) → bytes ≡ before ++ (first ++ second ++ rest) → bytes ≡ (before ++ first) ++ (second ++ rest)
+part before first second rest bytes are = are ∙ ap (λ more. before ++ more) (append_assoc first second rest) ∙ sym (append_assoc before first (second ++ rest))
+
+mutual
+  unfolding stop_line play_line hear_line on_line
+
+  pub reads_plan : (plan : Plan ℕ) (levels : ℕ) (bytes before rest : List ℕ) → levels_of plan ≤ levels → HasReplies plan → HasCards plan → bytes ≡ before ++ (plan_text plan ++ rest)
+      → node_read levels bytes (length before) ≡ Ok (plan, length (before ++ plan_text plan))
+  reads_plan games.Stop levels bytes before rest fits replies cards are =
+      node_read-stop levels bytes (length before) (length (before ++ stop_line)) (omega arith) (line_here plan_line bytes before (codes "stop") rest _ Stop refl stop-said refl are)
+  reads_plan (games.Play card plan) levels bytes before rest fits replies cards are =
+      let said = line_here plan_line bytes before (codes "play " ++ card_text card) (plan_text plan ++ rest) _ (Play card) (card_named-card_text card cards.0).1 (play-said card cards.0) (append_assoc (play_line card) (plan_text plan) rest) are in
+      let below = reads_plan plan (levels - 1) bytes (before ++ play_line card) rest (omega arith) replies cards.1 (part before (play_line card) (plan_text plan) rest bytes are) in
+      node_read-play levels bytes (length before) card (length (before ++ play_line card)) plan _ (omega arith) said below ∙ ap (λ text. Ok (games.Play card plan, length text)) (append_assoc before (play_line card) (plan_text plan))
+  reads_plan (games.Hear rs) levels bytes before rest fits replies cards are =
+      let count = length (cards_of rs) in
+      let said = line_here plan_line bytes before (codes "hear " ++ decimal count) (replies_text rs ++ rest) _ (Hear count) (is_line-decimal count (omega (arith, replies.1))) (hear-said count replies.0 replies.1) (append_assoc (hear_line count) (replies_text rs) rest) are in
+      let below = reads_replies rs (levels - 1) bytes (before ++ hear_line count) rest (omega arith) replies.2 cards (part before (hear_line count) (replies_text rs) rest bytes are) in
+      node_read-hear levels bytes (length before) count (length (before ++ hear_line count)) rs _ (omega arith) said below ∙ ap (λ text. Ok (games.Hear rs, length text)) (append_assoc before (hear_line count) (replies_text rs))
+
+  reads_replies : (rs : Replies ℕ) (levels : ℕ) (bytes before rest : List ℕ) → levels_below rs ≤ levels → HaveReplies rs → HaveCards rs → bytes ≡ before ++ (replies_text rs ++ rest)
+      → replies_read (λ place. node_read levels bytes place) (length (cards_of rs)) bytes (length before) ≡ Ok (rs, length (before ++ replies_text rs))
+  reads_replies games.NoReply levels bytes before rest fits replies cards are = ap (λ text. Ok (games.NoReply, length text)) (sym (append-nil before))
+  reads_replies (games.Reply card plan later) levels bytes before rest fits replies cards are =
+      let first = on_line card in
+      let all = first ++ plan_text plan ++ replies_text later in
+      let here : bytes ≡ before ++ (first ++ (plan_text plan ++ (replies_text later ++ rest))) = are ∙ ap (λ more. before ++ more) (append_assoc (first ++ plan_text plan) (replies_text later) rest ∙ append_assoc first (plan_text plan) (replies_text later ++ rest)) in
+      let said = line_here reply_line bytes before (codes "on " ++ card_text card) (plan_text plan ++ (replies_text later ++ rest)) _ card (card_named-card_text card cards.0).1 (on-said card cards.0) refl here in
+      let below = reads_plan plan levels bytes (before ++ first) (replies_text later ++ rest) (omega arith) replies.0 cards.1 (here ∙ sym (append_assoc before first (plan_text plan ++ (replies_text later ++ rest)))) in
+      let after = reads_replies later levels bytes (before ++ first ++ plan_text plan) rest (omega arith) replies.1 cards.2
+      (here ∙ sym (append_assoc before first (plan_text plan ++ (replies_text later ++ rest))) ∙ sym (append_assoc (before ++ first) (plan_text plan) (replies_text later ++ rest))) in
+      replies_read-reply (λ place. node_read levels bytes place) bytes (length before) card (length (before ++ first)) plan (length (before ++ first ++ plan_text plan)) later _ (length (cards_of later)) said below after
+      ∙ ap (λ text. Ok (games.Reply card plan later, length text)) (ap (λ text. text ++ replies_text later) (append_assoc before first (plan_text plan)) ∙ append_assoc before (first ++ plan_text plan) (replies_text later))
+
+-- what is written behind some bytes is read back from there, whatever follows
+pub reads_back : (plan : Plan ℕ) (old rest : List ℕ) → levels_of plan ≤ 64 → HasReplies plan → HasCards plan → plan_read ((old ++ plan_text plan) ++ rest) (length old) ≡ Ok (plan, length (old ++ plan_text plan))
+unfolding plan_read
+reads_back plan old rest fits replies cards = reads_plan plan 64 ((old ++ plan_text plan) ++ rest) old rest fits replies cards (append_assoc old (plan_text plan) rest)

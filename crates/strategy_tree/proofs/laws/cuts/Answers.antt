@@ -1,0 +1,14 @@
+use Rattle.strategy_tree.proofs.BridgeLaws as laws
+use Rattle.strategy_tree.proofs.laws.cuts.Goals as goal
+
+pub returns-clause-covered : goal.returns-clause-covered
+returns-clause-covered c = laws.cuts.covered
+
+pub returns-clause-wider : goal.returns-clause-wider
+returns-clause-wider c = laws.cuts.wider
+
+pub returns-clause-deeper : goal.returns-clause-deeper
+returns-clause-deeper c = laws.cuts.deeper
+
+pub returns-clause-never : goal.returns-clause-never
+returns-clause-never c = laws.cuts.never

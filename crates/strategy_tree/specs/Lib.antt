@@ -1,0 +1,4 @@
+pub mod PlanMeaning
+pub mod PlanText
+pub mod PlanRead
+pub mod Bridge

@@ -1,0 +1,99 @@
+-- How a plan is read: its lines in order, each node before those below it. The first fault is the answer.
+use Rattle.std.specs.Prelude.{ℕ, zero, suc, ◌+◌, Bool, Option, None, Some, option_and_then, Result, Ok, Err, List, [], ◌∷◌, length, take, drop, find, position, if◌then◌else◌, ◌==◌, bytes_eq, codes}
+use Rattle.std.specs.Option.{option_map, option_or}
+use Rattle.std.specs.List.{range_with_len}
+use Rattle.std.specs.Fmt.{decimal}
+use Rattle.card_letters.specs.Letters.{card_read}
+use Rattle.strategy_games.specs.Plans as games
+use Rattle.strategy_games.specs.Plans.{Plan, Replies}
+use Rattle.strategy_tree.specs.declared.plan_reader.PlanFault.{PlanFault}
+use Rattle.strategy_tree.specs.declared.plan_reader.PlanFault.TheVariants.{Line, Deep}
+use Rattle.strategy_tree.specs.declared.plan_reader.PlanLine.{PlanLine}
+use Rattle.strategy_tree.specs.declared.plan_reader.PlanLine.TheVariants.{Stop, Play, Hear}
+
+-- ---- one line
+
+-- what follows a word at the front of a text
+abbrev pub text_after : List ℕ → List ℕ → Option (List ℕ)
+text_after [] text = Some text
+text_after (w ∷ word) [] = None
+text_after (w ∷ word) (b ∷ text) = if w == b then text_after word text else None
+
+-- a card by its two letters, in either case
+abbrev pub card_named : List ℕ → Option ℕ
+card_named (suit ∷ rank ∷ []) = card_read suit rank
+card_named _ = None
+
+-- a decimal number from 1 to the greatest allowed
+unfoldable pub number_named : ℕ → List ℕ → Option ℕ
+number_named most text = find (λ n. bytes_eq text (decimal n)) (range_with_len 1 most)
+
+-- a number of replies
+abbrev pub count_named : List ℕ → Option ℕ
+count_named text = number_named 52 text
+
+-- `play` and a card
+unfoldable pub play_said : List ℕ → Option PlanLine
+play_said text = option_map Play (option_and_then card_named (text_after (codes "play ") text))
+
+-- `hear` and a number of replies
+unfoldable pub hear_said : List ℕ → Option PlanLine
+hear_said text = option_map Hear (option_and_then count_named (text_after (codes "hear ") text))
+
+-- the line of a node
+unfoldable pub plan_line : List ℕ → Option PlanLine
+plan_line text = if bytes_eq text (codes "stop") then Some Stop else option_or (play_said text) (hear_said text)
+
+-- a line before a reply: `on` and the defender's card
+unfoldable pub reply_line : List ℕ → Option ℕ
+reply_line text = option_and_then card_named (text_after (codes "on ") text)
+
+-- the line that begins at a place, without its end; nothing where the text ends before the line does
+unfoldable pub line_at : List ℕ → ℕ → Option (List ℕ)
+line_at bytes at = option_map (λ n. take n (drop at bytes)) (position (λ b. b == 10) (drop at bytes))
+
+-- what the line that begins at a place says, and the place after it
+abbrev pub said_at : {A : Type 0} → (List ℕ → Option A) → List ℕ → ℕ → Option (A × ℕ)
+said_at says bytes at = option_and_then (λ line. option_map (λ said. (said, at + length line + 1)) (says line)) (line_at bytes at)
+
+-- ---- one node after another
+
+infixl 10 ◌>>=◌
+abbrev pub ◌>>=◌ : {A B : Type 0} → Result A PlanFault → (A → Result B PlanFault) → Result B PlanFault
+Ok x >>= f = f x
+Err fault >>= f = Err fault
+
+-- a line that has to stand at a place
+abbrev pub line_or_fault : {A : Type 0} → ℕ → Option A → Result A PlanFault
+line_or_fault at None = Err (Line at)
+line_or_fault at (Some x) = Ok x
+
+-- so many replies, given how the plans in them are read, and the place after them
+abbrev pub replies_read : (ℕ → Result (Plan ℕ × ℕ) PlanFault) → ℕ → List ℕ → ℕ → Result (Replies ℕ × ℕ) PlanFault
+replies_read below zero bytes at = Ok (games.NoReply, at)
+replies_read below (suc count) bytes at = do
+  said ← line_or_fault at (said_at reply_line bytes at)
+  plan ← below said.1
+  later ← replies_read below count bytes plan.1
+  Ok (games.Reply said.0 plan.0 later.0, later.1)
+
+-- what follows a node's line
+abbrev pub below_line : (ℕ → Result (Plan ℕ × ℕ) PlanFault) → List ℕ → PlanLine → ℕ → Result (Plan ℕ × ℕ) PlanFault
+below_line below bytes Stop at = Ok (games.Stop, at)
+below_line below bytes (Play card) at = do
+  rest ← below at
+  Ok (games.Play card rest.0, rest.1)
+below_line below bytes (Hear count) at = do
+  replies ← replies_read below count bytes at
+  Ok (games.Hear replies.0, replies.1)
+
+-- the plan whose first line begins at a place, and the place after its last line, where so many levels of nodes may stand
+unfoldable pub node_read : ℕ → List ℕ → ℕ → Result (Plan ℕ × ℕ) PlanFault
+node_read zero bytes at = Err (Deep at)
+node_read (suc levels) bytes at = do
+  said ← line_or_fault at (said_at plan_line bytes at)
+  below_line (λ next. node_read levels bytes next) bytes said.0 said.1
+
+-- a plan has at most 64 levels
+unfoldable pub plan_read : List ℕ → ℕ → Result (Plan ℕ × ℕ) PlanFault
+plan_read bytes start = node_read 64 bytes start

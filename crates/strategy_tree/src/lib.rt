@@ -1,0 +1,15 @@
+//! Bridge as a game of hidden layouts: declarer's strategies in memory and in text, what they win, and the laws of their fronts.
+//! It stands on the rules of play, on win vectors and on the theory of games with hidden layouts.
+//! A contract speaks of a plan as a tree of cards, and each law is the contract of a function.
+#![tactic(auto)]
+
+pub mod laws;
+pub mod plan;
+pub mod plan_reader;
+pub mod plan_text;
+
+pub use plan::{Plan, Reply};
+pub use plan_reader::{PlanFault, plan_text_reads_back, read_plan};
+
+#[cfg(test)]
+mod tests;
