@@ -9,3 +9,4 @@ pub mod RowSteps
 pub mod CourseSteps
 pub mod PlaySound
 pub mod DealtBoards
+pub mod ReadBack

@@ -1,5 +1,5 @@
 -- A suit as it is written, one letter after another.
-use Rattle.std.proofs.Common.{◌≡◌, ℕ, suc, ◌+◌, ◌-◌, ◌<◌, Bool, true, false, List, [], ◌∷◌, ◌++◌, map, filter, refl, sym, ap, ◌∙◌, arith, append_assoc, Option}
+use Rattle.std.proofs.Common.{◌≡◌, ℕ, suc, ◌+◌, ◌-◌, ◌<◌, true, false, List, [], ◌∷◌, ◌++◌, map, filter, refl, sym, ap, ◌∙◌, arith, append_assoc, Option}
 use Rattle.std.specs.List.{range_with_len, join_with_byte}
 use Rattle.std.proofs.lemmas.List.{append-nil}
 use Rattle.card_sets.specs.declared.card.Suit.{Suit}

@@ -1,6 +1,6 @@
-use Rattle.std.proofs.Common.{◌∙◌, arith, ap, not}
+use Rattle.std.proofs.Common.{arith, not}
 use Rattle.std.proofs.lemmas.List.Sums.{prefix_len-le-length}
-use Rattle.pbn_text.specs.Blanks.{is_blank, words}
+use Rattle.pbn_text.specs.Blanks.{is_blank}
 use Rattle.pbn_text.proofs.Words.{words_none, words_more}
 use Rattle.pbn_text.proofs.blanks.first_word.Goals as goal
 

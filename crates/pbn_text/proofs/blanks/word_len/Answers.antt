@@ -1,8 +1,6 @@
 use Rattle.std.proofs.Common.{◌∙◌, rules, tests}
-use Rattle.std.specs.List.{position_or_len}
 use Rattle.std.proofs.lemmas.Iterator.{YieldsList-from_slice}
 use Rattle.std.proofs.lemmas.Iterator.Search.{position_from_yields_List}
-use Rattle.std.proofs.lemmas.List.Sums.{prefix_len-le-length}
 use Rattle.pbn_text.specs.Blanks.{is_blank}
 use Rattle.pbn_text.proofs.Words.{end_from_position}
 use Rattle.pbn_text.proofs.blanks.word_len.Goals as goal
