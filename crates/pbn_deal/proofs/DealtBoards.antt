@@ -10,11 +10,11 @@ use Rattle.card_sets.specs.SetWords.{has_card, cards_where, IsCardSet, IsSubset,
 use Rattle.card_sets.proofs.Sets.{has_card-cards_where, cards_where-agree, filter-cards_where, IsCardSet-cards_where, has_card-below, Apart-sym}
 use Rattle.bit_lists.specs.Bits.{below}
 use Rattle.trick_rules.specs.declared.trump.Trump.{Trump}
-use Rattle.trick_rules.proofs.CardLists.{length-without}
+use Rattle.card_sets.proofs.SetCounts.{length-minus, length-either}
 use Rattle.pbn_deal.specs.declared.deal.DealValue.{DealValue}
 use Rattle.pbn_deal.specs.Deal.{hand_at, compass_place, IsSoundDeal}
 use Rattle.pbn_deal.specs.Boards.{BoardValue, compass_of, dealt_board, FitsUnseen, IsDealt}
-use Rattle.pbn_deal.specs.BoardRead.{both_hands, unseen_in}
+use Rattle.pbn_deal.specs.BoardRead.{together, both_hands, unseen_in}
 
 -- ---- sets
 
@@ -26,7 +26,7 @@ unfolding pack cards_where below
 length-pack = refl
 
 -- a set that leaves out what another has
-apart_by : (t : ℕ → Bool) (xs : List ℕ) → IsCardSet xs → ((c : ℕ) → has_card xs c ≡ true → t c ≡ false) → Apart xs (cards_where t)
+pub apart_by : (t : ℕ → Bool) (xs : List ℕ) → IsCardSet xs → ((c : ℕ) → has_card xs c ≡ true → t c ≡ false) → Apart xs (cards_where t)
 apart_by t xs a_set out c holds = has_card-cards_where t c (has_card-below xs c a_set holds) ∙ out c holds
 
 in_pack : (xs : List ℕ) → IsCardSet xs → IsSubset xs pack
@@ -42,26 +42,9 @@ length-rest own dummy own_set dummy_set apart =
     let first_is : filter (λ c. not (has_card own c)) pack ≡ first = filter-cards_where (λ c. not (has_card own c)) (λ _. true) in
     let inside : IsSubset dummy first = λ c holds.
     has_card-cards_where (λ c. not (has_card own c)) c (has_card-below dummy c dummy_set holds) ∙ ap not (Apart-sym own dummy apart c holds) in
-    let second = length-without dummy first dummy_set (IsCardSet-cards_where (λ c. not (has_card own c))) inside in
-    let whole = length-without own pack own_set (IsCardSet-cards_where (λ _. true)) (in_pack own own_set) in
+    let second = length-minus first dummy (IsCardSet-cards_where (λ c. not (has_card own c))) dummy_set inside in
+    let whole = length-minus pack own (IsCardSet-cards_where (λ _. true)) own_set (in_pack own own_set) in
     omega (arith, ap length first_is, second, whole, length-pack, ap length (filter-cards_where (λ c. not (has_card dummy c)) (λ c. not (has_card own c))))
-
-other_half : (l r : Bool) → (l ≡ true → r ≡ false) → ((l || r) && not l) ≡ r
-other_half true r apart = sym (apart refl)
-other_half false true apart = refl
-other_half false false apart = refl
-
--- two hands together
-length-both : (left right : List ℕ) → IsCardSet left → IsCardSet right → Apart left right
-    → length (cards_where (λ c. has_card left c || has_card right c)) ≡ length right + length left
-length-both left right left_set right_set apart =
-    let both = cards_where (λ c. has_card left c || has_card right c) in
-    let inside : IsSubset left both = λ c holds.
-    has_card-cards_where (λ c. has_card left c || has_card right c) c (has_card-below left c left_set holds) ∙ ap (λ b. b || has_card right c) holds in
-    let half : filter (λ c. not (has_card left c)) both ≡ right =
-    filter-cards_where (λ c. not (has_card left c)) (λ c. has_card left c || has_card right c)
-    ∙ cards_where-agree (λ c. (has_card left c || has_card right c) && not (has_card left c)) (has_card right) (λ c within. other_half (has_card left c) (has_card right c) (apart c)) ∙ sym right_set in
-    omega (arith, length-without left both left_set (IsCardSet-cards_where (λ c. has_card left c || has_card right c)) inside, ap length half)
 
 -- ---- places
 
@@ -129,12 +112,12 @@ unseen_rest b own_set dummy_set apart own_full dummy_full = record {
 pub unseen_both : (b : BoardValue) (left right : List ℕ) → IsCardSet b.declarer_hand → IsCardSet b.dummy_hand → IsCardSet left → IsCardSet right
     → Apart b.declarer_hand left → Apart b.declarer_hand right → Apart b.dummy_hand left → Apart b.dummy_hand right → Apart left right
     → length left ≡ length b.declarer_hand → length right ≡ length b.declarer_hand
-    → FitsUnseen b (cards_where (λ c. has_card left c || has_card right c))
+    → FitsUnseen b (together left right)
 unseen_both b left right own_set dummy_set left_set right_set own_left own_right dummy_left dummy_right apart left_size right_size = record {
   set = IsCardSet-cards_where (λ c. has_card left c || has_card right c);
   declarer_apart = apart_by (λ c. has_card left c || has_card right c) b.declarer_hand own_set (λ c holds. neither (has_card left c) (has_card right c) (own_left c holds) (own_right c holds));
   dummy_apart = apart_by (λ c. has_card left c || has_card right c) b.dummy_hand dummy_set (λ c holds. neither (has_card left c) (has_card right c) (dummy_left c holds) (dummy_right c holds));
-  count = omega (arith, length-both left right left_set right_set apart);
+  count = omega (arith, length-either left right left_set right_set apart);
 }
 
 both_fit : (deal : DealValue) (declarer : Compass) (b : BoardValue) → IsSoundDeal deal → hand_at deal declarer ≡ Some b.declarer_hand → hand_at deal (compass_of declarer Dummy) ≡ Some b.dummy_hand

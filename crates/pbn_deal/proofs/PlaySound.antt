@@ -13,7 +13,7 @@ use Rattle.card_sets.proofs.Sets.{IsCardSet-filter}
 use Rattle.trick_rules.specs.declared.trump.Trump.{Trump}
 use Rattle.trick_rules.specs.Table.{places_on}
 use Rattle.trick_rules.specs.Play.{legal_cards, take_out}
-use Rattle.trick_rules.proofs.CardLists.{length-take_out}
+use Rattle.card_sets.proofs.SetCounts.{length-take_out, nil_from_length}
 use Rattle.trick_rules.proofs.States.{legal_cards-low}
 use Rattle.pbn_deal.specs.declared.board.Played.{Played}
 use Rattle.pbn_deal.specs.declared.course.Course.{Course}
@@ -129,10 +129,6 @@ record IsTrickStart (tricks : ℕ) (course : Course) : Type 0 where
   declarer_count : length course.declarer ≡ tricks
   dummy_count : length course.dummy ≡ tricks
 
-nil_from_length : (xs : List ℕ) → length xs ≡ 0 → xs ≡ []
-nil_from_length [] none = refl
-nil_from_length (x ∷ xs) none = absurd (omega arith)
-
 -- a hand with no card has a fault
 no_hand : (trick hand : List ℕ) (card : ℕ) → hand ≡ [] → hand_fault trick hand card ≡ Some PlayNotHeld
 no_hand trick hand card none = ap (λ h. hand_fault trick h card) none
@@ -182,7 +178,7 @@ same_hand hand a_set = record { a_set = a_set; count = omega arith }
 card_falls : (trick hand : List ℕ) (card : ℕ) → IsCardSet hand → has_card (legal_cards trick hand) card ≡ true → HandFalls hand (take_out card hand) 1
 card_falls trick hand card a_set legal = record {
   a_set = IsCardSet-filter (λ c. not (eqb c card)) hand a_set;
-  count = length-take_out card hand a_set (legal_cards-low trick hand card legal);
+  count = length-take_out hand card a_set (legal_cards-low trick hand card legal);
 }
 
 declarer_step : (course : Course) (seat : Seat) (card : ℕ) → IsCardSet course.declarer → IsFair course seat card → HandFalls course.declarer (declarer_without seat card course.declarer) (is_declarer seat)

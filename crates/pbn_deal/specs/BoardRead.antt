@@ -24,10 +24,14 @@ use Rattle.pbn_deal.specs.Rows.{rows_of, rows_played}
 abbrev pub line_named : List ℕ → GameValue → ℕ
 line_named name game = unwrap_or (option_map (λ tag. tag.line) (tag_named name game)) 0
 
+-- the cards of two hands together
+abbrev pub together : List ℕ → List ℕ → List ℕ
+together left right = cards_where (λ card. has_card left card || has_card right card)
+
 abbrev pub both_hands : Option (List ℕ) → Option (List ℕ) → Option (List ℕ)
 both_hands None right = None
 both_hands (Some left) None = None
-both_hands (Some left) (Some right) = Some (cards_where (λ card. has_card left card || has_card right card))
+both_hands (Some left) (Some right) = Some (together left right)
 
 -- the cards that the two defenders hold together: what is left of the pack where no card is missing, and otherwise their hands where both are shown
 abbrev pub unseen_in : DealValue → Compass → List ℕ → List ℕ → Option (List ℕ)

@@ -81,7 +81,7 @@ unfoldable pub section_read : List TokenValue → Result (List Entry) BoardRefus
 section_read tokens = unless_other (find (λ token. is_other (mark_of token.text)) (section_of tokens)) (map entry_of (section_of tokens))
 
 -- a list read, with more at its front
-abbrev pub prepend : {A : Type 0} → List A → Result (List A) BoardRefusal → Result (List A) BoardRefusal
+abbrev pub prepend : {A E : Type 0} → List A → Result (List A) E → Result (List A) E
 prepend front (Ok rest) = Ok (front ++ rest)
 prepend front (Err refusal) = Err refusal
 
