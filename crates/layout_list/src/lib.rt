@@ -3,6 +3,10 @@
 //! Its contract promises the kept layouts with their root node, or the first fault with its line.
 #![tactic(auto)]
 
+pub mod fault;
 pub mod kept;
+pub mod line;
+pub mod verdict;
 
+pub use fault::LayoutFault;
 pub use kept::{Cause, Dropped, Kept};

@@ -120,7 +120,7 @@ unseen_both b left right own_set dummy_set left_set right_set own_left own_right
   count = omega (arith, length-either left right left_set right_set apart);
 }
 
-both_fit : (deal : DealValue) (declarer : Compass) (b : BoardValue) → IsSoundDeal deal → hand_at deal declarer ≡ Some b.declarer_hand → hand_at deal (compass_of declarer Dummy) ≡ Some b.dummy_hand
+pub both_fit : (deal : DealValue) (declarer : Compass) (b : BoardValue) → IsSoundDeal deal → hand_at deal declarer ≡ Some b.declarer_hand → hand_at deal (compass_of declarer Dummy) ≡ Some b.dummy_hand
     → (left right : Option (List ℕ)) → hand_at deal (compass_of declarer Left) ≡ left → hand_at deal (compass_of declarer Right) ≡ right
     → IfSome (both_hands left right) (FitsUnseen b)
 both_fit deal declarer b sound own_is dummy_is None right left_is right_is = tt

@@ -23,18 +23,6 @@ use pbn_text::{Game, Tag};
 use std::alloc::Global;
 use trick_rules::Trick;
 
-// The hand of a seat; `None` where it isn't shown.
-fn hand_at(deal: &DealValue, seat: Compass) -> Option<CardSet>
-    ensures { result ≡ hand_at deal.now seat }
-{
-    match seat {
-        Compass::N => deal.hands[0],
-        Compass::E => deal.hands[1],
-        Compass::S => deal.hands[2],
-        Compass::W => deal.hands[3],
-    }
-}
-
 // The line of the first tag of a name.
 fn line_named(game: &Game, name: &[u8]) -> u32
     ensures { result ≡ line_named name.now game.now }
@@ -64,8 +52,8 @@ fn unseen_cards(
     if own.count() == 13 {
         return Some(pack_without(own, dummy));
     }
-    let left = hand_at(deal, compass_of(declarer, Seat::Left))?;
-    let right = hand_at(deal, compass_of(declarer, Seat::Right))?;
+    let left = deal.hand(compass_of(declarer, Seat::Left))?;
+    let right = deal.hand(compass_of(declarer, Seat::Right))?;
     Some(left.either(right))
 }
 
@@ -87,8 +75,8 @@ fn deal_board(
         line,
         kind: BoardFault::HandHidden,
     };
-    let own = hand_at(deal, declarer).ok_or(hidden)?;
-    let dummy = hand_at(deal, compass_of(declarer, Seat::Dummy)).ok_or(hidden)?;
+    let own = deal.hand(declarer).ok_or(hidden)?;
+    let dummy = deal.hand(compass_of(declarer, Seat::Dummy)).ok_or(hidden)?;
     let ending = read_ending(
         line,
         declarer,
