@@ -4,6 +4,7 @@ use Rattle.card_sets.specs.SetWords.{has_card}
 use Rattle.trick_rules.specs.Table.{Table, State}
 use Rattle.trick_rules.specs.Play.{is_declarers, legal_cards, hand_of, take_out, after_card, after}
 use Rattle.pbn_deal.specs.declared.board.Played.{Played}
+use Rattle.pbn_deal.specs.declared.course.Course.{Course}
 use Rattle.pbn_deal.specs.Boards.{BoardValue, first_trick}
 use Rattle.layout_list.specs.declared.kept.Cause.{Cause}
 use Rattle.layout_list.specs.declared.kept.Cause.TheVariants.{NotHeld, Revoke}
@@ -46,3 +47,7 @@ table_after t (play ∷ plays) = table_after (after_card t play.card) plays
 abbrev pub hand_after : List ℕ → List Played → List ℕ
 hand_after hand [] = hand
 hand_after hand (play ∷ plays) = hand_after (take_out play.card hand) plays
+
+-- the course of play as declarer's side sees it at a position
+abbrev pub course_of : Table → Course
+course_of t = record { declarer = t.declarer; dummy = t.dummy; trick = t.trick }
