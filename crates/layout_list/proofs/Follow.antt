@@ -31,6 +31,7 @@ after_card-trick : (t : Table) (card : ℕ) → (after_card t card).trick ≡ ne
 after_card-trick t card = by_end (length t.trick.cards == 3) where
   longer : Trick
   longer = record { leader = t.trick.leader; cards = t.trick.cards ++ card ∷ [] }
+
   by_end : (b : Bool) → (cond b (end_trick (put_card t card)) (put_card t card)).trick ≡ cond b (end_trick (put_card t card)).trick (put_card t card).trick
   by_end true = refl
   by_end false = refl
@@ -80,7 +81,7 @@ pub onward : (s : State) (play : Played) (plays : List Played) → IsState s →
 onward s play plays state fair none =
     let turn : play.seat ≡ to_play s.table = fair.0 in
     let legal : has_card (legal_in s) play.card ≡ true =
-      subst (λ (seat : Seat). has_card (legal_cards s.table.trick.cards (hand_of s seat)) play.card ≡ true) turn (legal_without_cause s play.seat play.card fair.1 none) in
+    subst (λ (seat : Seat). has_card (legal_cards s.table.trick.cards (hand_of s seat)) play.card ≡ true) turn (legal_without_cause s play.seat play.card fair.1 none) in
     let can = a_legal_card_can_be_played s play.card state legal in
     let moved = subst (λ (k : Course). IsCourse s.table.trump k plays) (course_of-after s.table play.card state.sound can) fair.2 in
     record {

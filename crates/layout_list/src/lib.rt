@@ -6,7 +6,9 @@
 pub mod fault;
 pub mod kept;
 pub mod line;
+pub mod list;
 pub mod verdict;
 
 pub use fault::LayoutFault;
 pub use kept::{Cause, Dropped, Kept};
+pub use list::layouts;

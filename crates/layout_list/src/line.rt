@@ -1,5 +1,5 @@
 //! The lines of a layout file.
-ghost use Rattle.std.specs.Prelude.{◌≡◌, ◌&&◌, ◌<◌, ◌-◌, ◌^◌, ◌∷◌, [], Ok, length, MatchOption, MatchResult, IfOk, IfSome};
+ghost use Rattle.std.specs.Prelude.{◌≡◌, ◌&&◌, ◌<◌, ◌≤◌, ◌-◌, ◌^◌, ◌∷◌, [], Ok, length, MatchOption, MatchResult, IfOk, IfSome};
 ghost use Rattle.pbn_deal.specs.BoardRead.{together};
 ghost use Rattle.std.specs.List.{slice_split, list_all};
 ghost use Rattle.pbn_text.specs.Blanks.{is_blank};
@@ -84,7 +84,12 @@ fn defenders_in(board: &Board, unseen: Option<CardSet>, deal: &DealValue) -> Opt
 
 // The defenders' hands in a line.
 #[tactic(auto, unfolding(crate::specs::Lines::line_read))]
-fn read_line(board: &Board, unseen: Option<CardSet>, number: u32, line: &[u8]) -> Result<Defenders, LayoutFault>
+fn read_line(
+    board: &Board,
+    unseen: Option<CardSet>,
+    number: u32,
+    line: &[u8],
+) -> Result<Defenders, LayoutFault>
     ensures value { result ≡ line_read board.now unseen number line.now }
     ensures fits { IfOk result (FitsBoard board.now) }
     ensures told { IfOk result (λ layout. IsTold unseen (together layout.left layout.right)) }
@@ -102,6 +107,7 @@ pub fn read_lines(alloc: Global, bytes: &[u8], board: &Board) -> Result<Vec<Defe
         (λ layouts. lines_read board.now board.now.unseen 0 (layout_lines (numbered_lines bytes.now)) ≡ Ok layouts.items)
         (IsFaultOf (lines_read board.now board.now.unseen 0 (layout_lines (numbered_lines bytes.now)))) }
     ensures one_deal { IfOk result (λ layouts. IsOneDeal board.now layouts.items) }
+    ensures few { IfOk result (λ layouts. length layouts.items ≤ 64) }
 {
     let mut layouts = Vec::new(alloc);
     let mut unseen = board.unseen();

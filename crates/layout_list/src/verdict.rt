@@ -1,6 +1,6 @@
 //! What the play says of a layout.
 ghost use Rattle.std.specs.Prelude.{◌≡◌, ◌<◌, Some, None, length, MatchResult, IfOk};
-ghost use Rattle.trick_rules.specs.Table.{IsState};
+ghost use Rattle.trick_rules.specs.Table.{IsSound, IsState};
 ghost use Rattle.pbn_deal.specs.Boards.{IsCourse, FitsUnseen};
 ghost use Rattle.layout_list.specs.Verdicts.{first_table, cause_of, contradiction, table_after, hand_after, course_of};
 
@@ -43,7 +43,8 @@ pub struct Followed {
 /// The position before the first card, where these cards are unseen.
 pub fn first_position(board: &Board, unseen: CardSet) -> Position
     requires { FitsUnseen board.now unseen }
-    ensures { result ≡ first_table board.now unseen }
+    ensures value { result ≡ first_table board.now unseen }
+    ensures sound { IsSound result }
 {
     Position {
         declarer: board.declarer_hand(),

@@ -12,7 +12,7 @@ invariant-lines l = record {
   few : length l.layouts.items ≤ 64;
   over : AreOver l.board l.unseen l.layouts.items;
   read : lines_read l.board l.board.unseen 0 (layout_lines (numbered_lines l.bytes))
-    ≡ prepend l.layouts.items (lines_read l.board l.unseen (length l.layouts.items) (layout_lines (lines_left (l.number + 1) (option_map (λ text. text.now) l.rest))));
+      ≡ prepend l.layouts.items (lines_read l.board l.unseen (length l.layouts.items) (layout_lines (lines_left (l.number + 1) (option_map (λ text. text.now) l.rest))));
 }
 
 abbrev pub decreases-lines : goal.decreases-lines

@@ -45,8 +45,8 @@ loop-index-preserved c =
       state = subst IsState same on.state;
       fair = subst (λ (n : State). IsCourse n.table.trump (course_of n.table) rest) same on.fair;
       verdict =
-        c.loop-index.invariant.verdict ∙ ap (contradiction (i + 1) s) split ∙ ap (λ o. or_later o (i + 1) (contradiction (i + 1 + 1) (after s play.card) rest)) none
-        ∙ ap (λ n. contradiction (i + 1 + 1) n rest) same;
+          c.loop-index.invariant.verdict ∙ ap (contradiction (i + 1) s) split ∙ ap (λ o. or_later o (i + 1) (contradiction (i + 1 + 1) (after s play.card) rest)) none
+          ∙ ap (λ n. contradiction (i + 1 + 1) n rest) same;
       position = c.loop-index.invariant.position ∙ ap (table_after t) split ∙ ap (λ t. table_after t rest) table_is;
       left = c.loop-index.invariant.left ∙ ap (hand_after c.loop-index.hand) split ∙ ap (λ h. hand_after h rest) hand_is;
     }
