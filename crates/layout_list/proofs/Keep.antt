@@ -115,3 +115,9 @@ kept_some b layouts first start plays numbers lefts ruled_out position node is s
     ∙ sym (ap (λ n. Ok (record { numbers = n; dropped = ruled_out; node = node })) numbers_are
     ∙ ap (λ d. Ok (record { numbers = numbers_kept plays start all; dropped = d; node = node })) ruled_out_are
     ∙ ap (λ n. Ok (record { numbers = numbers_kept plays start all; dropped = dropped plays start all; node = n })) node_same)
+
+-- as many numbers are kept as hands
+pub as_many : (plays : List Played) (t : Table) (layouts : List Defenders) (numbers : List ℕ) (lefts : List (List ℕ))
+    → numbers ≡ numbers_kept plays t (enumerate_from 1 layouts) → lefts ≡ lefts_kept plays t (enumerate_from 1 layouts) → length numbers ≡ length lefts
+as_many plays t layouts numbers lefts numbers_are lefts_are =
+    ap length numbers_are ∙ sym (map_some (λ l. hand_after l.1.left plays) (λ l. l.0) (allowed plays t (enumerate_from 1 layouts))) ∙ sym (ap length lefts_are)

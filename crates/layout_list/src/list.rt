@@ -118,7 +118,8 @@ fn root_node(alloc: Global, position: Position, lefts: &[CardSet]) -> Result<Nod
 fn keep(alloc: Global, board: &Board, layouts: &[Defenders]) -> Result<Kept, LayoutFault>
     requires one_deal { IsOneDeal board.now layouts.now }
     requires few { length layouts.now ≤ 64 }
-    ensures { MatchResult result (λ kept. kept_of board.now layouts.now ≡ Ok kept) (IsFaultOf (kept_of board.now layouts.now)) }
+    ensures kept { MatchResult result (λ kept. kept_of board.now layouts.now ≡ Ok kept) (IsFaultOf (kept_of board.now layouts.now)) }
+    ensures as_many { IfOk result (λ kept. length kept.numbers ≡ length kept.node.lefts) }
 {
     let Some(first) = layouts.first() else {
         return Err(LayoutFault::NoneLeft);
@@ -150,7 +151,8 @@ fn keep(alloc: Global, board: &Board, layouts: &[Defenders]) -> Result<Kept, Lay
 #[tactic(auto, unfolding(crate::specs::Layouts::layouts_read))]
 pub fn layouts(alloc: Global, bytes: &[u8], board: &Board) -> Result<Kept, LayoutFault>
     requires { length bytes.now < 2 ^ 32 - 1 }
-    ensures { MatchResult result (λ kept. layouts_read bytes.now board.now ≡ Ok kept) (IsFaultOf (layouts_read bytes.now board.now)) }
+    ensures kept { MatchResult result (λ kept. layouts_read bytes.now board.now ≡ Ok kept) (IsFaultOf (layouts_read bytes.now board.now)) }
+    ensures as_many { IfOk result (λ kept. length kept.numbers ≡ length kept.node.lefts) }
 {
     let found = read_lines(alloc, bytes, board)?;
     keep(alloc, board, &found)
