@@ -4,7 +4,9 @@
 #![tactic(auto)]
 
 mod plain;
+mod solver;
 #[cfg(test)]
 mod tests;
 
 pub use plain::makes_plain;
+pub use solver::Solver;

@@ -1,5 +1,5 @@
 //! Endings whose answers were worked out apart from the program.
-use crate::makes_plain;
+use crate::{Solver, makes_plain};
 use card_sets::{Card, CardSet, Rank, Seat, Suit};
 use std::process::Abort;
 use trick_rules::{Position, Trump};
@@ -160,7 +160,7 @@ fn cards(text: &str) -> CardSet {
 }
 
 /// Whether declarer's side takes that many tricks of the ending.
-fn takes(rt: &impl Abort, ending: &Ending, need: u8) -> bool {
+fn takes(rt: &impl Abort, solver: &mut Solver, ending: &Ending, need: u8) -> bool {
     let left = cards(ending.left);
     let unseen = left.either(cards(ending.right));
     let (declarer, dummy) = (cards(ending.declarer), cards(ending.dummy));
@@ -174,14 +174,17 @@ fn takes(rt: &impl Abort, ending: &Ending, need: u8) -> bool {
     );
     let position = start.expect(rt, "the ending is sound");
     assert!(rt; position.fits(left));
-    makes_plain(&position, left)
+    let made = solver.makes(&position, left);
+    assert_eq!(rt; makes_plain(&position, left), made);
+    made
 }
 
 #[test]
 fn just_the_tricks_of_each_ending(rt: HostRuntime) {
+    let mut solver = Solver::new(rt.alloc());
     for ending in &ENDINGS {
-        assert!(rt; takes(&rt, ending, ending.tricks));
-        assert!(rt; !takes(&rt, ending, ending.tricks.saturating_add(1)));
+        assert!(rt; takes(&rt, &mut solver, ending, ending.tricks));
+        assert!(rt; !takes(&rt, &mut solver, ending, ending.tricks.saturating_add(1)));
     }
 }
 
@@ -189,6 +192,7 @@ fn just_the_tricks_of_each_ending(rt: HostRuntime) {
 /// is made: the king goes on low cards, and the jack where Right plays the queen or Left has to play the ace.
 #[test]
 fn one_trick_in_both_layouts(rt: HostRuntime) {
+    let mut solver = Solver::new(rt.alloc());
     for (left, right) in [("S5 SQ", "S7 SA"), ("S5 SA", "S7 SQ")] {
         let ending = Ending {
             declarer: "SJ SK",
@@ -199,6 +203,6 @@ fn one_trick_in_both_layouts(rt: HostRuntime) {
             trump: Trump::NoTrump,
             tricks: 1,
         };
-        assert!(rt; takes(&rt, &ending, 1));
+        assert!(rt; takes(&rt, &mut solver, &ending, 1));
     }
 }

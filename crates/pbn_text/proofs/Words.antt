@@ -38,7 +38,7 @@ pub record Parts (p : ℕ → Bool) (text : List ℕ) : Type 0 where
   pub split : slice_split p text ≡ take (position_or_len p text) text ∷ others
   pub rest : filter has_bytes others ≡ pieces p (drop (position_or_len p text) text)
 
-position_or_len-cons : (p : ℕ → Bool) (byte : ℕ) (rest : List ℕ) → p byte ≡ false → position_or_len p (byte ∷ rest) ≡ suc (position_or_len p rest)
+pub position_or_len-cons : (p : ℕ → Bool) (byte : ℕ) (rest : List ℕ) → p byte ≡ false → position_or_len p (byte ∷ rest) ≡ suc (position_or_len p rest)
 position_or_len-cons p byte rest other = rw (other) (omega arith)
 
 position_or_len-here : (p : ℕ → Bool) (byte : ℕ) (rest : List ℕ) → p byte ≡ true → position_or_len p (byte ∷ rest) ≡ 0

@@ -1,13 +1,14 @@
-//! What a PBN text says: games, their tags, and the tokens that stand below a tag.
+//! What a text holds: games of tag pairs and tokens.
+
 use am_outside::Text;
 use std::marker::Model;
 
-/// A word or a string of a section, and the line on which it begins, from 1.
-///
-/// A string has its quotes and its backslashes, as they stand in the file.
+/// A string, or a run of bytes without blanks.
 #[derive(Debug, Drop)]
 pub struct Token {
+    /// The bytes as they stand in the file, a string's quotes and backslashes among them.
     pub text: Text,
+    /// The line on which it begins, from 1.
     pub line: u32,
 }
 
@@ -19,13 +20,14 @@ impl Model for Token {
     ghost view = { λ token. record { text = token.text; line = token.line } };
 }
 
-/// A tag pair, the line of its bracket, from 1, and the tokens up to the next tag of its game.
-///
-/// The value has neither quotes nor the backslashes that took another character.
+/// A tag pair, and the tokens after it up to the next.
 #[derive(Debug, Drop)]
 pub struct Tag {
+    /// Letters, digits and underscores, one at least.
     pub name: Text,
+    /// The characters between the quotes, without each backslash that took another.
     pub value: Text,
+    /// The line of the opening bracket, from 1.
     pub line: u32,
     pub tokens: Vec<Token>,
 }
@@ -38,7 +40,7 @@ impl Model for Tag {
     ghost view = { λ tag. record { name = tag.name; value = tag.value; line = tag.line; tokens = tag.tokens.items } };
 }
 
-/// A game: its tags in the order of the text. Each game of a text has at least one.
+/// A group of tag pairs, in the order of the file. Each game of a file has at least one.
 #[derive(Debug, Drop)]
 pub struct Game {
     pub tags: Vec<Tag>,
@@ -50,19 +52,4 @@ impl Model for Game {
     ghost Value = { GameValue };
 
     ghost view = { λ game. record { tags = game.tags.items } };
-}
-
-/// What a text can have wrong in itself.
-#[derive(Clone, Copy, Debug, PartialEq, Eq)]
-pub enum Syntax {
-    /// A string isn't closed on its line.
-    OpenString = 1,
-    /// A bracket isn't followed by a name, a string and a closing bracket.
-    BadTag = 2,
-    /// A brace comment isn't closed.
-    OpenBrace = 3,
-    /// A byte is a control character that no text has.
-    NotText = 4,
-    /// A token stands before the first tag of its game.
-    StrayToken = 5,
 }

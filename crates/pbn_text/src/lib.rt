@@ -4,7 +4,15 @@
 #![tactic(auto)]
 
 pub mod blanks;
+mod collector;
+pub mod fault;
 pub mod game;
+mod items;
+mod reader;
+mod reading;
+mod scan;
 
 pub use blanks::{first_word, is_blank, skip_blanks};
-pub use game::{Game, Syntax, Tag, Token};
+pub use fault::{Syntax, TextFault};
+pub use game::{Game, Tag, Token};
+pub use reading::games;

@@ -1,0 +1,5 @@
+pub mod Tried
+pub mod OpenNodes
+pub mod Leaves
+pub mod OursSoFar
+pub mod TheirsSoFar

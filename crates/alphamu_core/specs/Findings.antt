@@ -1,0 +1,19 @@
+-- What a search finds.
+use Rattle.std.specs.Prelude.{⊤, ℕ, List}
+use Rattle.win_vectors.specs.Fronts.{Vector}
+use Rattle.trick_rules.specs.Nodes.{Layouts}
+use Rattle.strategy_games.specs.Plans.{IsBelow}
+use Rattle.strategy_tree.specs.Bridge.{bridge}
+use Rattle.front_table.specs.Proven.{IsFrontAt}
+use Rattle.alphamu_core.specs.declared.answers.Found.{Found}
+use Rattle.alphamu_core.specs.declared.answers.Found.TheVariants.{Exact, Below}
+
+-- an exact answer is the front of the node with these moves; an answer below says that alpha dominates what every strategy wins
+abbrev pub IsFound : Layouts → ℕ → List Vector → Found → Type 0
+IsFound n moves alpha (Exact front) = IsFrontAt n moves front
+IsFound n moves alpha Below = IsBelow bridge n moves alpha
+
+-- the answer is a front
+abbrev pub IsExact : Found → Type 0
+IsExact (Exact front) = ⊤
+IsExact Below = ⊥

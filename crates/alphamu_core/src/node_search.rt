@@ -1,0 +1,49 @@
+//! The search of a node.
+ghost use Rattle.std.specs.Prelude.{◌≡◌, ◌+◌, ◌<◌, ◌≤◌, ◌⊎◌, [], true, length, IfOk, IsErrOf};
+ghost use Rattle.strategy_games.specs.Plans.{tree_size};
+ghost use Rattle.strategy_tree.specs.Bridge.{bridge};
+ghost use Rattle.cut_rules.specs.Rules.{no_cuts};
+ghost use Rattle.alphamu_core.specs.Findings.{IsFound, IsExact};
+
+use crate::answers::{Found, SearchFault};
+use crate::budget::Budget;
+use crate::plain::node_front;
+use cut_rules::CutRules;
+use dd_solver::Solver;
+use front_table::FrontStore;
+use pareto_fronts::Front;
+use std::alloc::Global;
+use trick_rules::Node;
+
+/// Searches a node with so many moves of declarer's side, at most 26.
+///
+/// A list of vectors, alpha, may spare work: a node may be left where alpha dominates what every strategy wins there.
+/// The store may hold fronts already, and may be given some. The budget pays for each node that is entered.
+pub fn search<S: FrontStore>(
+    alloc: Global,
+    store: &mut S,
+    solver: &mut Solver,
+    budget: &mut Budget,
+    node: &Node,
+    moves: u8,
+    alpha: &Front,
+    rules: CutRules,
+) -> Result<Found, SearchFault>
+    requires width { alpha.now.width ≡ length node.now.lefts }
+    requires few_moves { moves ≤ 26 }
+    ensures found { IfOk result (IsFound node.now moves alpha.now.vectors) }
+    ensures never { (alpha.now.vectors ≡ []) ⊎ (rules ≡ no_cuts) → IfOk result IsExact }
+
+    // Each node entered costs one.
+    ensures spent { IsErrOf result SearchFault.Spent → budget.old < tree_size bridge node.now moves }
+    ensures counts { rules ≡ no_cuts → S.blind ≡ true
+        → IfOk result (λ _. budget.new + tree_size bridge node.now moves ≡ budget.old) }
+    ensures entered { IfOk result (λ _. budget.new < budget.old) }
+    ensures never_rises { budget.new ≤ budget.old }
+    ensures falls { budget.old ≤ budget.new + tree_size bridge node.now moves }
+
+    ensures grown { S.grown store.old store.new }
+{
+    let front = node_front(alloc, solver, budget, node, moves)?;
+    Ok(Found::Exact(front))
+}

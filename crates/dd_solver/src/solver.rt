@@ -1,0 +1,30 @@
+//! A solver that is asked again and again.
+ghost use Rattle.std.specs.Prelude.{◌≡◌};
+ghost use Rattle.trick_rules.specs.Table.{FitsLeft};
+ghost use Rattle.trick_rules.specs.Play.{makes as makes_of};
+
+use crate::plain::makes_plain;
+use card_sets::CardSet;
+use std::alloc::Global;
+use trick_rules::Position;
+
+/// Answers double dummy. What it remembers of earlier questions changes no answer.
+#[derive(Debug, Drop)]
+pub struct Solver {}
+
+impl Solver {
+    /// A solver that remembers nothing yet. It takes no memory.
+    pub fn new(_alloc: Global) -> Solver {
+        Solver {}
+    }
+
+    /// Whether declarer's side takes the need where Left holds these cards, with all cards seen by all.
+    ///
+    /// It succeeds without memory.
+    pub fn makes(&mut self, position: &Position, left: CardSet) -> bool
+        requires { FitsLeft position.now left }
+        ensures { result ≡ makes_of (record { table = position.now; left = left }) }
+    {
+        makes_plain(position, left)
+    }
+}

@@ -1,0 +1,2 @@
+pub mod Proven
+pub mod Stores

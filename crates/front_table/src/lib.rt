@@ -1,0 +1,10 @@
+//! Fronts that are known already, and where a search may look for them.
+//! It stands on `strategy_tree` and `pareto_fronts`.
+//! A hit is the definition's front of that node with those moves; what is put into a store is proved to be one.
+#![tactic(auto)]
+
+mod proven;
+mod store;
+
+pub use proven::ProvenFront;
+pub use store::{FrontStore, Look, NoStore, Put};

@@ -1,0 +1,55 @@
+//! A front that is proved to be the front of its node.
+ghost use Rattle.std.specs.Prelude.{◌≡◌};
+ghost use Rattle.front_table.specs.Proven.{IsFrontAt};
+
+use pareto_fronts::Front;
+use std::marker::Model;
+use trick_rules::Node;
+
+/// A node, a number of moves of declarer's side, and the front that the definitions give for them.
+#[derive(Drop)]
+pub struct ProvenFront {
+    node: Node,
+    moves: u8,
+    front: Front,
+}
+
+impl Model for ProvenFront {
+    ghost use Rattle.front_table.specs.Proven.{ProvenValue, IsFrontAt};
+
+    ghost Value = { ProvenValue };
+
+    ghost view = { λ proven. record { node = proven.node; moves = proven.moves; front = proven.front } };
+
+    ghost invariant = { λ proven. IsFrontAt proven.node proven.moves proven.front };
+}
+
+impl ProvenFront {
+    /// An entry, of a front that is proved.
+    pub fn new(node: Node, moves: u8, front: Front) -> ProvenFront
+        requires { IsFrontAt node moves front }
+        ensures { result ≡ record { node = node; moves = moves; front = front } }
+    {
+        ProvenFront { node, moves, front }
+    }
+
+    pub fn node(&self) -> &Node
+        ensures { result.now ≡ self.now.node }
+    {
+        &self.node
+    }
+
+    /// How many cards of declarer's side the front looks ahead.
+    pub fn moves(&self) -> u8
+        ensures { result ≡ self.now.moves }
+    {
+        self.moves
+    }
+
+    pub fn front(&self) -> &Front
+        ensures value { result.now ≡ self.now.front }
+        ensures proven { IsFrontAt self.now.node self.now.moves self.now.front }
+    {
+        &self.front
+    }
+}

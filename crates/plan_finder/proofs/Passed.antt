@@ -1,0 +1,97 @@
+-- The cards of declarer's side that don't keep a vector.
+use Rattle.std.proofs.Common.{◌≡◌, ◌∙◌, ◌-◌, ◌<◌, ◌≤◌, ◌*◌, ◌+◌, ◌++◌, ℕ, suc, true, false, List, [], ◌∷◌, Contains, length, refl, sym, ap, subst, append_assoc, arith, ⊎_elim}
+use Rattle.std.proofs.lemmas.List.{append-nil}
+use Rattle.card_sets.specs.SetWords.{IsCardSet}
+use Rattle.card_sets.proofs.Sets.{tail-after}
+use Rattle.win_vectors.specs.Fronts.{Vector, Covers, IsFirstAbove}
+use Rattle.pareto_fronts.specs.FrontValue.{FrontValue}
+use Rattle.trick_rules.specs.Nodes.{Layouts, IsNode, choices, child}
+use Rattle.strategy_games.specs.Plans.{stops, tree_size, CanWin}
+use Rattle.strategy_games.specs.Choosing.{Keeps, IsFirstOf, IsPick}
+use Rattle.strategy_games.proofs.Fronts.{front_unique}
+use Rattle.strategy_games.proofs.Lists.{Contains-here, Contains-nil, Contains-cons, Contains-append, Contains-append_second, first_is_member}
+use Rattle.strategy_tree.specs.Bridge.{bridge}
+use Rattle.strategy_tree.proofs.CardLists.{has_card-from_Contains}
+use Rattle.strategy_tree.proofs.BridgeLaws.{chosen_plan}
+use Rattle.front_table.specs.Proven.{IsFrontAt}
+use Rattle.alphamu_core.proofs.OpenNodes.{some_moves, is_open, length-our_child}
+use Rattle.plan_finder.specs.Targets.{IsOfFront}
+use Rattle.plan_finder.specs.Choices.{IsSpentAt}
+use Rattle.plan_finder.proofs.Picks.{length-of_front, picked}
+
+-- after none of the cards that were passed some vector of the front dominates this one
+pub record NoneKeeps (n : Layouts) (moves : ℕ) (vector : Vector) (cards : List ℕ) : Type 0 where
+  pub passed : List ℕ
+  pub split : choices n ≡ passed ++ cards
+  pub none : (c : ℕ) → Contains passed c → Keeps bridge n (moves - 1) vector c → ⊥
+
+module _ (n : Layouts) (moves : ℕ) (vector : Vector) where
+  pub none_passed : (cards : List ℕ) → cards ≡ choices n → NoneKeeps n moves vector cards
+  none_passed cards e = record { passed = []; split = sym e; none = λ c among keeps. Contains-nil c among }
+
+  module _ {cards : List ℕ} (so : NoneKeeps n moves vector cards) where
+    -- in the end some card does
+    pub some_keeps : IsNode n → stops bridge n moves ≡ false → bridge.is_ours n ≡ true → IsOfFront n moves vector → cards ≡ [] → ⊥
+    some_keeps sound goes_on ours of ended =
+        let at : IsOfFront n (suc (moves - 1)) vector = subst (λ k. IsOfFront n k vector) (some_moves n moves goes_on) of in
+        let kept = chosen_plan.kept n (moves - 1) vector at.0 sound (is_open n moves goes_on) ours at.1 at.2 in
+        let all : choices n ≡ so.passed = so.split ∙ ap (λ cards. so.passed ++ cards) ended ∙ append-nil so.passed in
+        so.none kept.0 (subst (λ cards. Contains cards kept.0) all kept.1) kept.2
+
+    module _ {card : ℕ} {rest : List ℕ} (taken : cards ≡ card ∷ rest) where
+      parts : choices n ≡ so.passed ++ card ∷ rest
+      parts = so.split ∙ ap (λ cards. so.passed ++ cards) taken
+
+      pub next_choice : Contains (choices n) card
+      next_choice = subst (λ cards. Contains cards card) (sym parts) (Contains-append_second so.passed (card ∷ rest) card (Contains-here card rest))
+
+      -- the first card that keeps the vector isn't before this one
+      not_before : IsCardSet cards → (first : ℕ) → IsFirstOf (Keeps bridge n (moves - 1) vector) (choices n) first → card ≤ first
+      not_before set first h =
+          let among = subst (λ cards. Contains cards first) parts (first_is_member (Keeps bridge n (moves - 1) vector) (choices n) first h) in
+          ⊎_elim
+          (λ (before : Contains so.passed first). absurd (so.none first before h.4))
+          (λ (here : Contains (card ∷ rest) first). ⊎_elim
+            (λ (same : card ≡ first). let at : card ≡ first = same in omega arith)
+            (λ (later : Contains rest first).
+              let after = tail-after card rest (subst (λ cards. IsCardSet cards) taken set) first (has_card-from_Contains rest first later) in
+              omega arith)
+            (Contains-cons card rest first here))
+          (Contains-append so.passed (card ∷ rest) first among)
+
+      module _ {m : Layouts} (is_child : m ≡ child n card) where
+        pub spent_here : (nodes : ℕ) → IsCardSet cards → nodes < tree_size bridge m (moves - 1) → IsSpentAt n moves vector nodes card
+        spent_here nodes set larger = record {
+          choice = next_choice;
+          larger = subst (λ (m : Layouts). nodes < tree_size bridge m (moves - 1)) is_child larger;
+          not_after = not_before set;
+        }
+
+        pub same_width : (found : FrontValue) → bridge.is_ours n ≡ true → IsOfFront n moves vector → IsFrontAt m (moves - 1) found → length vector ≡ found.width
+        same_width found ours of front =
+            length-of_front n moves vector of ∙ sym (length-our_child n card ours (has_card-from_Contains (choices n) card next_choice)) ∙ ap (λ (m : Layouts). length m.lefts) (sym is_child) ∙ sym front.width
+
+        module _ (found : FrontValue) (front : IsFrontAt m (moves - 1) found) where
+          here : IsFrontAt (child n card) (moves - 1) found
+          here = subst (λ m. IsFrontAt m (moves - 1) found) is_child front
+
+          pub first_found : Covers found.vectors vector → IsFirstOf (Keeps bridge n (moves - 1) vector) (choices n) card
+          first_found covers = (so.passed, rest, parts, so.none, (found.vectors, here.front, covers))
+
+          pub first_pick : (above : Vector) → IsFirstAbove found.vectors vector above → IsPick bridge (child n card) (moves - 1) vector above
+          first_pick above first = picked (child n card) (moves - 1) found vector above here first
+
+          pub none_more : (Covers found.vectors vector → ⊥) → NoneKeeps n moves vector rest
+          none_more not_here = record {
+            passed = so.passed ++ card ∷ [];
+            split = parts ∙ sym (append_assoc so.passed (card ∷ []) rest);
+            none = λ c among keeps. ⊎_elim
+                (λ (before : Contains so.passed c). so.none c before keeps)
+                (λ (last : Contains (card ∷ []) c). ⊎_elim
+                  (λ (same : card ≡ c).
+                    let at : Keeps bridge n (moves - 1) vector card = subst (λ c. Keeps bridge n (moves - 1) vector c) (sym same) keeps in
+                    not_here (subst (λ vectors. Covers vectors vector) (front_unique (CanWin bridge (child n card) (moves - 1)) at.0 found.vectors at.1 here.front) at.2))
+                  (λ (never : Contains [] c). Contains-nil c never)
+                  (Contains-cons card [] c last))
+                (Contains-append so.passed (card ∷ []) c among);
+          }

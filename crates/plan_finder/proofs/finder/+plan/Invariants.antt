@@ -1,0 +1,23 @@
+use Rattle.std.proofs.Common.{◌+◌, ◌*◌, length}
+use Rattle.trick_rules.specs.Play.{cards_left}
+use Rattle.plan_finder.proofs.Replied.{RepliedSoFar}
+use Rattle.plan_finder.proofs.finder.+plan.Given as goal
+
+-- each card is one fewer to play
+abbrev pub decreases-plan_for : goal.decreases-plan_for
+decreases-plan_for g l = 2 * cards_left l.node.now.table
+
+abbrev pub decreases-plan_below : goal.decreases-plan_below
+decreases-plan_below g l = 2 * cards_left l.node.now.table + 1
+
+abbrev pub decreases-replies : goal.decreases-replies
+decreases-replies g l = 2 * cards_left l.node.now.table
+
+abbrev pub invariant-replies-cards : goal.invariant-replies-cards
+invariant-replies-cards g l = record {
+  so : RepliedSoFar l.node l.moves l.vector l.cards l.replies.items;
+  grown : g.S.FrontStore.grown l.fn.store l.store;
+}
+
+abbrev pub decreases-replies-cards : goal.decreases-replies-cards
+decreases-replies-cards g l = length l.cards

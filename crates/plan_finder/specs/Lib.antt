@@ -1,0 +1,3 @@
+pub mod Targets
+pub mod TooLarge
+pub mod Choices

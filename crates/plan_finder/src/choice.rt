@@ -1,0 +1,106 @@
+//! The card that a plan takes at declarer's side, by the fronts after each card.
+ghost use Rattle.std.specs.Prelude.{◌≡◌, ◌<◌, ◌≤◌, ℕ, true, false, IfOk, IsErrOf};
+ghost use Rattle.trick_rules.specs.Nodes.{IsNode};
+ghost use Rattle.strategy_games.specs.Plans.{stops, tree_size};
+ghost use Rattle.strategy_tree.specs.Bridge.{bridge};
+ghost use Rattle.front_table.specs.Proven.{IsFrontAt};
+ghost use Rattle.plan_finder.specs.Choices.{IsFirstChoice, IsSpentAt};
+ghost use Rattle.plan_finder.specs.Targets.{IsOfFront};
+
+use alphamu_core::{Budget, Found, RootFault, SearchFault, search};
+use card_sets::Card;
+use cut_rules::CutRules;
+use dd_solver::Solver;
+use front_table::FrontStore;
+use pareto_fronts::Front;
+use std::alloc::Global;
+use trick_rules::Node;
+use win_vectors::WinVector;
+
+/// A card of declarer's side, the node after it, and the vector that the plan goes on with there.
+#[derive(Drop)]
+pub struct Choice {
+    pub card: Card,
+    pub child: Node,
+    pub vector: WinVector,
+}
+
+/// The first card after which some vector of the front dominates this one.
+pub fn first_choice<S: FrontStore>(
+    alloc: Global,
+    store: &mut S,
+    solver: &mut Solver,
+    node: &Node,
+    moves: u8,
+    vector: &WinVector,
+    nodes: u64,
+) -> Result<Choice, RootFault>
+    requires few_moves { moves ≤ 26 }
+    requires a_node { IsNode node.now }
+    requires goes_on { stops bridge node.now moves ≡ false }
+    requires ours { bridge.is_ours node.now ≡ true }
+    requires vector { IsOfFront node.now moves vector.now }
+    ensures first { IfOk result (IsFirstChoice node.now moves vector.now) }
+    ensures spent { (card : ℕ) → IsErrOf result (RootFault.Spent card)
+        → IsSpentAt node.now moves vector.now nodes card }
+    ensures grown { S.grown store.old store.new }
+{
+    let mut cards = node.choices();
+    'cards: while let Some(card) = cards.pop_first() {
+        let (child, _) = node.child(alloc, card)?;
+        let front = match front_of(alloc, store, solver, &child, moves - 1, nodes) {
+            Ok(front) => front,
+            Err(fault) => return Err(at_card(fault, card)),
+        };
+        if let Some(above) = front.pick(vector) {
+            return Ok(Choice {
+                card,
+                child,
+                vector: above,
+            });
+        }
+    }
+    unreachable!()
+}
+
+/// The front of a node, by a search with a budget of its own.
+pub fn front_of<S: FrontStore>(
+    alloc: Global,
+    store: &mut S,
+    solver: &mut Solver,
+    node: &Node,
+    moves: u8,
+    nodes: u64,
+) -> Result<Front, SearchFault>
+    requires { moves ≤ 26 }
+    ensures front { IfOk result (IsFrontAt node.now moves) }
+    ensures spent { IsErrOf result SearchFault.Spent → nodes < tree_size bridge node.now moves }
+    ensures grown { S.grown store.old store.new }
+{
+    let mut budget = Budget::new(nodes);
+    let alpha = Front::new(alloc, node.width());
+    match search(alloc, store, solver, &mut budget, node, moves, &alpha, CutRules::none())? {
+        Found::Exact(front) => Ok(front),
+        Found::Below => unreachable!(),
+    }
+}
+
+/// The fault of a search after a root card.
+pub fn at_card(fault: SearchFault, card: Card) -> RootFault
+    ensures { (other : ℕ) → result ≡ RootFault.Spent other → (other ≡ card) × (fault ≡ SearchFault.Spent) }
+{
+    match fault {
+        SearchFault::Spent => RootFault::Spent(card),
+        SearchFault::Memory => RootFault::Memory,
+    }
+}
+
+/// The fault where no root card is to be named.
+pub fn without_card(fault: RootFault) -> SearchFault
+    ensures { result ≡ SearchFault.Spent → (card : ℕ) × (fault ≡ RootFault.Spent card) }
+{
+    match fault {
+        RootFault::Spent(_) => SearchFault::Spent,
+        RootFault::Memory => SearchFault::Memory,
+    }
+}
