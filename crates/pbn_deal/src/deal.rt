@@ -2,7 +2,7 @@
 ghost use Rattle.std.specs.Prelude.{◌≡◌, ◌==◌, false, map, length, option_map, MatchOption, IfOk};
 ghost use Rattle.pbn_text.specs.Blanks.{words};
 ghost use Rattle.pbn_deal.specs.Dealing.{hands_of};
-ghost use Rattle.pbn_deal.specs.Deal.{seat_ahead, from_north, are_one_size, shown_sizes, deal_read, IsSoundDeal};
+ghost use Rattle.pbn_deal.specs.Deal.{seat_ahead, from_north, are_one_size, shown_sizes, deal_read, hand_at, IsSoundDeal};
 
 use crate::hands::FourHands;
 use card_letters::read_compass;
@@ -15,6 +15,20 @@ use thiserror::Error;
 pub struct DealValue {
     /// The hands of North, East, South and West; `None` for a hand that isn't shown.
     pub hands: [Option<CardSet>; 4],
+}
+
+impl DealValue {
+    /// The hand of a seat; `None` where it isn't shown.
+    pub fn hand(&self, seat: Compass) -> Option<CardSet>
+        ensures { result ≡ hand_at self.now seat }
+    {
+        match seat {
+            Compass::N => self.hands[0],
+            Compass::E => self.hands[1],
+            Compass::S => self.hands[2],
+            Compass::W => self.hands[3],
+        }
+    }
 }
 
 /// What is wrong with a value in the Deal form: the first fault in this order.
