@@ -179,6 +179,7 @@ fn finishes_when_each_layout_has_a_child(rt: HostRuntime) -> Result<(), AllocErr
     let mut joiner = Joiner::new(rt.alloc(), 1);
     let mut child = Front::new(rt.alloc(), 1);
     child.insert(WinVector::none(1))?;
+    assert!(rt; !child.is_empty());
     joiner.add(&child, &WinVector::all(1))?;
     let front = joiner.finish();
     assert!(rt; has_vectors(&rt, &front, "0"));
