@@ -11,7 +11,7 @@ use pareto_fronts::Front;
 use std::alloc::{AllocError, Global};
 use std::process::Abort;
 use std::test::Fail;
-use trick_rules::{Node, Position, Trump};
+use trick_rules::{Node, Position, Trick, Trump};
 
 fn card(suit: u8, rank: u8) -> Card {
     let suit = match suit {
@@ -72,15 +72,27 @@ fn assert_vectors(rt: &impl Abort, front: &Front, wanted: &[&[u8]]) {
     }
 }
 
+/// Whether the two tricks are equal.
+fn same_trick(one: &Trick, other: &Trick) -> bool
+    ensures { IsTrue result → one.now ≡ other.now }
+{
+    one.leader == other.leader && one.cards.as_slice() == other.cards.as_slice()
+}
+
+/// Whether the three hands that all know are the same.
+fn same_hands(one: &Position, other: &Position) -> bool
+    ensures { IsTrue result → (one.now.declarer ≡ other.now.declarer) × (one.now.dummy ≡ other.now.dummy)
+        × (one.now.unseen ≡ other.now.unseen) }
+{
+    one.declarer == other.declarer && one.dummy == other.dummy && one.unseen == other.unseen
+}
+
 /// Whether the two positions are equal.
 fn same_position(one: &Position, other: &Position) -> bool
     ensures { IsTrue result → one.now ≡ other.now }
 {
-    one.declarer == other.declarer
-        && one.dummy == other.dummy
-        && one.unseen == other.unseen
-        && one.trick.leader == other.trick.leader
-        && one.trick.cards.as_slice() == other.trick.cards.as_slice()
+    same_hands(one, other)
+        && same_trick(&one.trick, &other.trick)
         && one.need == other.need
         && one.trump == other.trump
 }
@@ -169,22 +181,44 @@ fn front_over<S: FrontStore>(
 {
     let alpha = Front::new(alloc, node.width());
     let mut solver = Solver::new(alloc);
-    match search(alloc, store, &mut solver, budget, node, moves, &alpha, CutRules::none())? {
+    match search(
+        alloc,
+        store,
+        &mut solver,
+        budget,
+        node,
+        moves,
+        &alpha,
+        CutRules::none(),
+    )? {
         Found::Exact(front) => Ok(front),
         Found::Below => unreachable!(),
     }
 }
 
 /// What is won after dummy's card from the ending with these two layouts.
-fn assert_fronts(rt: &HostRuntime, lefts: [&[u8]; 2], plain: &[&[u8]], one_move: &[&[u8]]) -> Result<(), Fail> {
-    let alloc = rt.alloc();
+fn assert_fronts(
+    rt: &impl Abort,
+    alloc: Global,
+    lefts: [&[u8]; 2],
+    plain: &[&[u8]],
+    one_move: &[&[u8]],
+) -> Result<(), Fail> {
     let root = ending(rt, alloc, lefts)?;
     for dummys in root.choices() {
         assert!(rt; root.choices().has(dummys));
         let (node, _) = root.child(alloc, dummys)?;
         let mut budget = Budget::new(100);
-        assert_vectors(rt, &front_over(alloc, &mut NoStore, &mut budget, &node, 0)?, plain);
-        assert_vectors(rt, &front_over(alloc, &mut NoStore, &mut budget, &node, 1)?, one_move);
+        assert_vectors(
+            rt,
+            &front_over(alloc, &mut NoStore, &mut budget, &node, 0)?,
+            plain,
+        );
+        assert_vectors(
+            rt,
+            &front_over(alloc, &mut NoStore, &mut budget, &node, 1)?,
+            one_move,
+        );
     }
     Ok(())
 }
@@ -192,8 +226,14 @@ fn assert_fronts(rt: &HostRuntime, lefts: [&[u8]; 2], plain: &[&[u8]], one_move:
 /// Declarer who sees the layouts makes both; one who doesn't has to guess, where they differ.
 #[test]
 fn a_guess_in_two_layouts_and_none_in_one(rt: HostRuntime) -> Result<(), Fail> {
-    assert_fronts(&rt, [b"S5 SQ", b"S5 SA"], &[b"11"], &[b"10", b"01"])?;
-    assert_fronts(&rt, [b"S5 SQ", b"S5 SQ"], &[b"11"], &[b"11"])?;
+    assert_fronts(
+        &rt,
+        rt.alloc(),
+        [b"S5 SQ", b"S5 SA"],
+        &[b"11"],
+        &[b"10", b"01"],
+    )?;
+    assert_fronts(&rt, rt.alloc(), [b"S5 SQ", b"S5 SQ"], &[b"11"], &[b"11"])?;
     Ok(())
 }
 
@@ -229,7 +269,16 @@ fn alpha_and_cuts_change_no_front(rt: HostRuntime) -> Result<(), Fail> {
     assert_vectors(&rt, &alpha, &[b"10", b"01"]);
     let mut budget = Budget::new(10);
     let rules = CutRules::all(Stop::Never);
-    match search(alloc, &mut NoStore, &mut solver, &mut budget, &node, 1, &alpha, rules)? {
+    match search(
+        alloc,
+        &mut NoStore,
+        &mut solver,
+        &mut budget,
+        &node,
+        1,
+        &alpha,
+        rules,
+    )? {
         Found::Exact(front) => assert_vectors(&rt, &front, &[b"10", b"01"]),
         Found::Below => {}
     }
@@ -246,7 +295,11 @@ fn stores_of_other_kinds(rt: HostRuntime) -> Result<(), Fail> {
     let front = front_over(alloc, &mut Forgetful, &mut budget, &node, 1)?;
     assert_vectors(&rt, &front, &[b"10", b"01"]);
     let mut store = OneEntry { entry: None };
-    assert_vectors(&rt, &front_over(alloc, &mut store, &mut budget, &node, 1)?, &[b"10", b"01"]);
+    assert_vectors(
+        &rt,
+        &front_over(alloc, &mut store, &mut budget, &node, 1)?,
+        &[b"10", b"01"],
+    );
     assert_eq!(rt; store.look(&node, 1, &mut out), Look::Miss);
     let entry = ProvenFront::new(node.copy(alloc)?, 1, front);
     assert!(rt; matches!(store.put(entry), Put::Kept));
@@ -256,7 +309,10 @@ fn stores_of_other_kinds(rt: HostRuntime) -> Result<(), Fail> {
     assert_vectors(&rt, &out, &[b"10", b"01"]);
     let again = front_over(alloc, &mut store, &mut budget, &node, 1)?;
     let entry = ProvenFront::new(node.copy(alloc)?, 1, again);
-    assert_eq!(rt; NoStore.look(entry.node(), entry.moves(), &mut out), Look::Miss);
+    assert_eq!(rt;
+        NoStore.look(entry.node(), entry.moves(), &mut out),
+        Look::Miss
+    );
     let Put::Full(entry) = NoStore.put(entry) else {
         return Err(Fail::from("an entry was kept"));
     };
