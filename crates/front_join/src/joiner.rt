@@ -87,7 +87,9 @@ impl Joiner {
     /// The front of the children, once each layout is in one of them.
     pub fn finish(self) -> Front
         requires { self.covered ≡ replicate self.optimistic.width true }
-        ensures { result ≡ self.optimistic }
+        ensures value { result ≡ self.optimistic }
+        ensures front { IsFront result }
+        ensures not_empty { 1 ≤ length result.vectors }
     {
         let Joiner {
             alloc: _,
@@ -138,3 +140,6 @@ fn insert_meets(
     }
     Ok(())
 }
+
+#[cfg(test)]
+mod tests;

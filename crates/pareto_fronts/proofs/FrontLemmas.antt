@@ -1,15 +1,15 @@
 -- Steps of the calls of a front.
-use Rattle.std.proofs.Common.{◌≡◌, ◌≢◌, ℕ, suc, zero, ◌+◌, ◌<◌, ◌≤◌, true, false, List, [], ◌∷◌, ◌++◌, length, refl, sym, ap, subst, ◌∙◌, arith, get_or, inl, inr, AllPairs, All, insert, take, Result, Ok, Err, IsOk, OnOk}
+use Rattle.std.proofs.Common.{◌≡◌, ◌≢◌, ℕ, suc, zero, ◌+◌, ◌<◌, ◌≤◌, true, false, List, [], ◌∷◌, ◌++◌, length, refl, sym, ap, subst, ◌∙◌, arith, add-zero, get_or, inl, inr, AllPairs, All, insert, take, drop, not, Any, Contains, Result, Ok, Err, IsOk, OnOk}
 use Rattle.std.proofs.lemmas.Bool.{false≢true, cases_Bool, cases_order}
-use Rattle.std.proofs.lemmas.List.Elements.{Contains-get_or, All-contains}
-use Rattle.std.proofs.lemmas.List.{get_or_default, get_or-take, length-take, take_more, append_assoc}
-use Rattle.std.specs.List.{HoldsAt}
+use Rattle.std.proofs.lemmas.List.Elements.{Contains-get_or, All-contains, All-filter, All-more, All-nil, Contains-append_cases}
+use Rattle.std.proofs.lemmas.List.{get_or_default, get_or-take, length-take, take_more, append_assoc, take-append-drop, drop_all, get_or-drop, length-drop}
 use Rattle.win_vectors.specs.Vectors.{dominates}
 use Rattle.win_vectors.specs.Fronts.{Vector, Dominates, Precedes, Covers, HaveWidth, IsReduced, IsFirstAbove}
 use Rattle.pareto_fronts.specs.FrontValue.{FrontValue, IsFront}
+use Rattle.pareto_fronts.specs.Places.{IsPlaceFor}
 use Rattle.win_vectors.proofs.VectorLemmas.{Decides-dominates}
-use Rattle.win_vectors.proofs.Orders.{Dominates-length}
-use Rattle.win_vectors.proofs.Insertion.{is_before, placed, undominated, covered-reduced, Decides-is_before}
+use Rattle.win_vectors.proofs.Orders.{Dominates-length, Dominates-refl, Dominates-precedes, Precedes-irrefl, Precedes-asym, Precedes-trans, Precedes-cases}
+use Rattle.win_vectors.proofs.Insertion.{is_before, placed, undominated, covered-reduced, new-reduced, Decides-is_before}
 use Rattle.win_vectors.proofs.Reduction.{reduced-its_own, reduced-push}
 
 -- what an Ok says
@@ -26,21 +26,108 @@ dominates-apart u v apart =
       | inr fails ↦ fails
     ]
 
--- a vector inserted behind those that stand before it
-pub placed-from : (v : Vector) (us : List Vector) (place : ℕ) → place ≤ length us → All (λ u. Precedes u v) (take place us)
-    → (place < length us → HoldsAt (λ u. ¬ Precedes u v) us place) → insert us place v ≡ placed v us
-placed-from v [] zero within before not_at = refl
-placed-from v [] (suc place) within before not_at = absurd (omega arith)
-placed-from v (u ∷ us) zero within before not_at =
+-- ---- the place of a vector
+
+-- a vector doesn't dominate one that is printed before it
+behind : (v u : Vector) → Precedes u v → dominates v u ≡ false
+behind v u before =
+    let test = Decides-dominates v u in
+    elim (cases_Bool (dominates v u)) [
+      | inl holds ↦ elim (Dominates-precedes v u (test.0 holds)) [
+        | inl same ↦ absurd (Precedes-irrefl v (subst (λ (x : Vector). Precedes x v) (sym same) before))
+        | inr after ↦ absurd (Precedes-asym u v before after)
+      ]
+      | inr fails ↦ fails
+    ]
+
+placed-first : (v : Vector) (us : List Vector) → All (λ u. Precedes v u) us → placed v us ≡ v ∷ us
+placed-first v [] after = refl
+placed-first v (u ∷ us) after =
     let test = Decides-is_before u v in
     elim (cases_Bool (is_before u v)) [
-      | inl holds ↦ absurd (not_at (omega arith) u (test.0 holds))
+      | inl holds ↦ absurd (Precedes-asym u v (test.0 holds) (after 0 u (omega arith)))
       | inr fails ↦ rw fails refl
     ]
-placed-from v (u ∷ us) (suc place) within before not_at =
+
+-- those that v dominates stand behind its place
+undominated-long : (v : Vector) (us : List Vector) (place : ℕ) → place ≤ length us → All (λ u. Precedes u v) (take place us) → place ≤ length (undominated v us)
+undominated-long v us zero within before = omega arith
+undominated-long v [] (suc place) within before = absurd (omega arith)
+undominated-long v (u ∷ us) (suc place) within before =
+    rw (behind v u (before 0 u (omega arith))) (omega (arith, undominated-long v us place (omega arith) (λ k d low. before (suc k) d (omega arith))))
+
+undominated-insert : (v : Vector) (us : List Vector) (place : ℕ) → place ≤ length us → All (λ u. Precedes u v) (take place us) → All (λ u. Precedes v u) (drop place us)
+    → insert (undominated v us) place v ≡ placed v (undominated v us)
+undominated-insert v us zero within before after = sym (placed-first v (undominated v us) (All-filter (λ u. not (dominates v u)) (λ u. Precedes v u) us after))
+undominated-insert v [] (suc place) within before after = absurd (omega arith)
+undominated-insert v (u ∷ us) (suc place) within before after =
     let first : is_before u v ≡ true = (Decides-is_before u v).1 (before 0 u (omega arith)) in
-    let rest = placed-from v us place (omega arith) (λ k d low. before (suc k) d (omega arith)) (λ low d. not_at (omega arith) d) in
-    rw first (ap (λ ws. u ∷ ws) rest)
+    let rest = undominated-insert v us place (omega arith) (λ k d low. before (suc k) d (omega arith)) after in
+    rw (behind v u (before 0 u (omega arith)), first) (ap (λ ws. u ∷ ws) rest)
+
+undominated-all : (v : Vector) (us : List Vector) (place : ℕ) → place ≤ length us → All (λ u. Precedes u v) (take place us) → (Any (λ u. Dominates v u) (drop place us) → ⊥) → undominated v us ≡ us
+undominated-all v [] zero within before none = refl
+undominated-all v (u ∷ us) zero within before none =
+    let test = Decides-dominates v u in
+    let rest = undominated-all v us zero (omega arith) (λ k d low. absurd (omega arith)) (λ one. none (suc one.0, one.1, omega arith, one.3, one.4)) in
+    elim (cases_Bool (dominates v u)) [
+      | inl holds ↦ absurd (none (0, u, omega arith, refl, test.0 holds))
+      | inr fails ↦ rw fails (ap (λ ws. u ∷ ws) rest)
+    ]
+undominated-all v [] (suc place) within before none = absurd (omega arith)
+undominated-all v (u ∷ us) (suc place) within before none =
+    let rest = undominated-all v us place (omega arith) (λ k d low. before (suc k) d (omega arith)) none in
+    rw (behind v u (before 0 u (omega arith))) (ap (λ ws. u ∷ ws) rest)
+
+-- ---- a search for the place
+
+-- so many vectors of the list are printed before v, and none of them dominates it
+pub record Passed (us : List Vector) (v : Vector) (place : ℕ) : Type 0 where
+  pub before : All (λ u. Precedes u v) (take place us)
+  pub clear : All (λ u. ¬ Dominates u v) (take place us)
+
+pub Passed-more : (us : List Vector) (v : Vector) (place : ℕ) (u : Vector) → place < length us → u ≡ get_or us place u → is_before u v ≡ true → ¬ Dominates u v → Passed us v place → Passed us v (place + 1)
+Passed-more us v place u within is before clear h = record {
+  before = All-more (λ (x : Vector). Precedes x v) us place u within h.before (subst (λ (x : Vector). Precedes x v) is ((Decides-is_before u v).0 before));
+  clear = All-more (λ (x : Vector). ¬ Dominates x v) us place u within h.clear (subst (λ (x : Vector). ¬ Dominates x v) is clear);
+}
+
+-- no vector before or behind the place dominates v
+place-new : (us : List Vector) (v : Vector) (place : ℕ) → Passed us v place → All (λ u. Precedes v u) (drop place us) → ¬ Covers us v
+place-new us v place h after (u, member, above) =
+    let parts : take place us ++ drop place us ≡ us = take-append-drop place us in
+    let split : Contains (take place us ++ drop place us) u = rw parts member in
+    elim (Contains-append_cases (take place us) (drop place us) u split) [
+      | inl before ↦ All-contains (λ (x : Vector). ¬ Dominates x v) (take place us) u h.clear before above
+      | inr behind ↦
+          let later = All-contains (λ (x : Vector). Precedes v x) (drop place us) u after behind in
+          elim (Dominates-precedes u v above) [
+            | inl same ↦ Precedes-irrefl v (subst (λ (x : Vector). Precedes v x) same later)
+            | inr earlier ↦ Precedes-asym u v earlier later
+          ]
+    ]
+
+pub place-end : (us : List Vector) (v : Vector) (place : ℕ) → length us ≤ place → place ≤ length us → Passed us v place → IsPlaceFor us v place
+place-end us v place low high h =
+    let none : drop place us ≡ [] = drop_all place us low in
+    let after : All (λ u. Precedes v u) (drop place us) = rw none (All-nil (λ u. Precedes v u)) in
+    record { within = high; before = h.before; after = after; new = place-new us v place h after }
+
+pub place-found : (us : List Vector) (v : Vector) (place : ℕ) (u : Vector) → place < length us → u ≡ get_or us place u → is_before u v ≡ false → ¬ Dominates u v → AllPairs Precedes us → Passed us v place → IsPlaceFor us v place
+place-found us v place u within is not_before clear ordered h =
+    let first : Precedes v u = elim (Precedes-cases v u) [
+      | inl same ↦ absurd (clear (subst (λ (x : Vector). Dominates x v) same (Dominates-refl v)))
+      | inr (inl before) ↦ before
+      | inr (inr after) ↦ absurd (false≢true (sym not_before ∙ (Decides-is_before u v).1 after))
+    ] in
+    let after : All (λ x. Precedes v x) (drop place us) = λ k d low. behind_first k d low first in
+    record { within = omega arith; before = h.before; after = after; new = place-new us v place h after } where
+      behind_first : (k : ℕ) (d : Vector) → k < length (drop place us) → Precedes v u → Precedes v (get_or (drop place us) k d)
+      behind_first zero d low first = rw (get_or-drop place us 0 d, add-zero, get_or_default us place d u within, ← is) first
+      behind_first (suc k) d low first =
+          let far : place + suc k < length us = omega (arith, length-drop place us) in
+          let step = ordered place (place + suc k) u (omega arith) far in
+          rw (get_or-drop place us (suc k) d, get_or_default us (place + suc k) d u far) (Precedes-trans v u (get_or us (place + suc k) u) first (subst (λ (x : Vector). Precedes x (get_or us (place + suc k) u)) (sym is) step))
 
 -- the reduced list has the widths of the list
 pub HaveWidth-reduced : (width : ℕ) (all front : List Vector) → IsReduced all front → HaveWidth width all → HaveWidth width front
@@ -67,10 +154,16 @@ first_above front t place u within is above none ordered = record {
       ];
 }
 
--- the list after retain and insert
-pub added : (v : Vector) (old kept new : List Vector) (place : ℕ) → kept ≡ undominated v old → new ≡ insert kept place v → place ≤ length kept → All (λ u. Precedes u v) (take place kept)
-    → (place < length kept → HoldsAt (λ u. ¬ Precedes u v) kept place) → new ≡ placed v (undominated v old)
-added v old kept new place is_kept is_new within before not_at = is_new ∙ placed-from v kept place within before not_at ∙ ap (placed v) is_kept
+-- the list after a vector was put in
+pub put-reduced : (v : Vector) (us kept : List Vector) (place : ℕ) → IsPlaceFor us v place → IsReduced us us → kept ≡ undominated v us → IsReduced (v ∷ us) (insert kept place v)
+put-reduced v us kept place h reduced is =
+    rw (is, undominated-insert v us place h.within h.before h.after) (new-reduced v us us reduced h.new)
+
+pub put-long : (v : Vector) (us kept : List Vector) (place : ℕ) → IsPlaceFor us v place → kept ≡ undominated v us → place ≤ length kept
+put-long v us kept place h is = rw is (undominated-long v us place h.within h.before)
+
+pub put-all : (v : Vector) (us : List Vector) (place : ℕ) → IsPlaceFor us v place → (Any (λ u. Dominates v u) (drop place us) → ⊥) → us ≡ undominated v us
+put-all v us place h none = sym (undominated-all v us place h.within h.before none)
 
 -- the first vectors of a list were put into a front
 pub record Unites (old : FrontValue) (vectors : List Vector) (done : ℕ) (new : FrontValue) : Type 0 where

@@ -1,1 +1,2 @@
 pub mod FrontValue
+pub mod Places

@@ -1,9 +1,9 @@
 //! `Front`: an ordered list of vectors of one width.
 
-ghost use Rattle.std.specs.Prelude.{◌≡◌, ◌↔◌, ◌≤◌, ◌<◌, ◌+◌, ◌++◌, ◌∷◌, [], IsTrue, IsOk, IsSome, IfOk, IfSome, OnOk, OnErr, length, slice_get, take, All};
-ghost use Rattle.std.specs.List.{HoldsAt};
+ghost use Rattle.std.specs.Prelude.{◌≡◌, ◌↔◌, ◌≤◌, ◌<◌, ◌+◌, ◌++◌, ◌∷◌, [], IsTrue, IsOk, IsSome, IfOk, IfSome, OnOk, OnErr, length, slice_get, Any, AllPairs, IsNone, filter, not};
 ghost use Rattle.pareto_fronts.specs.FrontValue.{IsFront, HasSpareRoom, HaveSameVectors};
-ghost use Rattle.win_vectors.specs.Fronts.{Covers, CoversAll, HaveWidth, IsFirstAbove, IsReduced, Precedes};
+ghost use Rattle.pareto_fronts.specs.Places.{IsPlaceFor};
+ghost use Rattle.win_vectors.specs.Fronts.{Covers, CoversAll, Dominates, HaveWidth, IsFirstAbove, IsReduced, Precedes};
 ghost use Rattle.win_vectors.specs.Vectors.{dominates as is_above};
 
 use smallvec::SmallVec;
@@ -147,11 +147,11 @@ impl Front {
         ensures err { OnErr result (self.new ≡ self.old) }
         ensures room { self.old.room ≤ self.new.room }
     {
-        if is_covered(self.vectors.as_slice(), vector) {
+        let Some(place) = place_for(self.vectors.as_slice(), vector) else {
             return Ok(());
-        }
+        };
         self.vectors.reserve(1)?;
-        self.add(vector);
+        self.put(place, vector);
         Ok(())
     }
 
@@ -168,8 +168,8 @@ impl Front {
     {
         self.vectors.reserve(other.vectors.len())?;
         for vector in other.vectors.iter() {
-            if !is_covered(self.vectors.as_slice(), *vector) {
-                self.add(*vector);
+            if let Some(place) = place_for(self.vectors.as_slice(), *vector) {
+                self.put(place, *vector);
             }
         }
         Ok(())
@@ -196,19 +196,19 @@ impl Front {
         self.vectors.clear();
     }
 
-    // Puts in a vector that no vector dominates, and takes out those that it dominates.
-    fn add(&mut self, vector: WinVector)
+    // Puts in a vector at its place, and takes out those that it dominates: they stand behind it.
+    fn put(&mut self, place: usize, vector: WinVector)
         requires same_width { length vector ≡ self.old.width }
         requires spare { HasSpareRoom self.old 1 }
-        requires new { ¬ Covers self.old.vectors vector }
+        requires place { IsPlaceFor self.old.vectors vector place }
         ensures front { IsFront self.new }
         ensures width { self.new.width ≡ self.old.width }
         ensures reduced { IsReduced (vector ∷ self.old.vectors) self.new.vectors }
         ensures longer { length self.new.vectors ≤ length self.old.vectors + 1 }
         ensures room { self.new.room ≡ self.old.room }
     {
-        self.vectors.retain(|mine| !dominates_alike(vector, *mine));
-        let place = place_of(self.vectors.as_slice(), vector);
+        remove_dominated(&mut self.vectors, place, vector);
+        // There is room, so this can't fail.
         let _ = self.vectors.insert(place, vector);
     }
 }
@@ -221,6 +221,31 @@ fn is_covered(vectors: &[WinVector], vector: WinVector) -> bool
     vectors.iter().any(|mine| mine.dominates(vector))
 }
 
+// Takes out the vectors that this one dominates, which stand behind its place.
+fn remove_dominated(
+    vectors: &mut SmallVec<WinVector, INLINE_VECTORS>,
+    place: usize,
+    vector: WinVector,
+)
+    requires widths { HaveWidth (length vector) vectors.old.items }
+    requires place { IsPlaceFor vectors.old.items vector place }
+    ensures kept { vectors.new.items ≡ filter (λ mine. not (is_above vector mine)) vectors.old.items }
+    ensures bound { length vectors.new.items ≤ length vectors.old.items }
+    ensures capacity { vectors.new.capacity ≡ vectors.old.capacity }
+{
+    if dominates_one(vector, &vectors.as_slice()[place..]) {
+        vectors.retain(|mine| !dominates_alike(vector, *mine));
+    }
+}
+
+// Whether this vector dominates one of the list.
+fn dominates_one(vector: WinVector, vectors: &[WinVector]) -> bool
+    requires { HaveWidth (length vector) vectors.now }
+    ensures { IsTrue result ↔ Any (λ mine. Dominates vector mine) vectors.now }
+{
+    vectors.iter().any(|mine| vector.dominates(*mine))
+}
+
 // Whether the two are of one width, and the first dominates the second.
 fn dominates_alike(vector: WinVector, mine: WinVector) -> bool
     ensures { result ≡ is_above vector mine }
@@ -228,18 +253,23 @@ fn dominates_alike(vector: WinVector, mine: WinVector) -> bool
     vector.width() == mine.width() && vector.dominates(mine)
 }
 
-// How many vectors of an ordered list stand before this one.
-fn place_of(vectors: &[WinVector], vector: WinVector) -> usize
-    requires { HaveWidth (length vector) vectors.now }
-    ensures bound { result ≤ length vectors.now }
-    ensures before { All (λ mine. Precedes mine vector) (take result vectors.now) }
-    ensures not_at { result < length vectors.now
-        → HoldsAt (λ mine. ¬ Precedes mine vector) vectors.now result }
+// Where a vector stands in an ordered list, if no vector of the list dominates it. Those that could stand before it.
+fn place_for(vectors: &[WinVector], vector: WinVector) -> Option<usize>
+    requires widths { HaveWidth (length vector) vectors.now }
+    requires ordered { AllPairs Precedes vectors.now }
+    ensures covered { IsNone result → Covers vectors.now vector }
+    ensures place { IfSome result (IsPlaceFor vectors.now vector) }
 {
     for (place, mine) in vectors.iter().enumerate() {
+        if mine.dominates(vector) {
+            return None;
+        }
         if !mine.order(vector).is_lt() {
-            return place;
+            return Some(place);
         }
     }
-    vectors.len()
+    Some(vectors.len())
 }
+
+#[cfg(test)]
+mod tests;

@@ -1,5 +1,5 @@
 -- The laws of strategies and fronts at bridge, for the proofs of searches, finders and checkers to cite.
-use Rattle.std.proofs.Common.{ℕ, ◌==◌}
+use Rattle.std.proofs.Common.{◌==◌}
 use Rattle.std.proofs.lemmas.Bool.Decides.{Decides-eqb}
 use Rattle.trick_rules.specs.Nodes.{IsNode}
 use Rattle.strategy_games.specs.Laws.{EndsSomewhere, HasOneFront, HasRecursion, HasSteps, HasMoreMoves, HasChosenPlan, HasSizes, HasBestCount, HasNamedCard, HasCuts, HasFirstMisfit}

@@ -1,8 +1,7 @@
 -- Nodes of bridge in the forms that a search, a finder or a checker meets them.
-use Rattle.std.proofs.Common.{◌≡◌, ℕ, zero, suc, ◌+◌, ◌-◌, ◌<◌, ◌≤◌, Bool, true, false, ◌||◌, is_some, None, ◌↔◌, ◌==◌, List, [], ◌∷◌, map, filter, length, replicate, Contains, All, cond, refl, sym, ap, subst, ◌∙◌, arith}
+use Rattle.std.proofs.Common.{◌≡◌, ℕ, zero, suc, ◌+◌, ◌≤◌, Bool, true, false, is_some, None, ◌↔◌, ◌==◌, List, [], ◌∷◌, map, filter, length, replicate, Contains, cond, refl, ap, subst, ◌∙◌, arith}
 use Rattle.std.proofs.lemmas.Bool.{ne_eqb}
 use Rattle.std.proofs.lemmas.List.{length-map}
-use Rattle.std.specs.List.{list_any}
 use Rattle.card_sets.specs.SetWords.{has_card}
 use Rattle.std.proofs.Math.Path.{fun_ext}
 use Rattle.win_vectors.specs.Vectors.{ones_of}
@@ -17,7 +16,6 @@ use Rattle.strategy_games.specs.Games.{mask}
 use Rattle.strategy_games.specs.Plans.{stops, size_within, tree_size, IsFront}
 use Rattle.strategy_games.specs.Joins.{joins, AreFronts}
 use Rattle.strategy_tree.specs.Bridge.{bridge}
-use Rattle.strategy_tree.proofs.CardLists.{has_card-from_Contains, Contains-from_has_card}
 use Rattle.strategy_tree.proofs.BridgeLaws.{recursion}
 use Rattle.strategy_tree.proofs.Rules.{no_result}
 

@@ -6,3 +6,5 @@ pub mod CardLists
 pub mod Rules
 pub mod BridgeLaws
 pub mod BridgeNodes
+pub mod Printing
+pub mod Winning

@@ -1,6 +1,6 @@
 -- What is written of a plan is read back.
-use Rattle.std.proofs.Common.{◌≡◌, ℕ, zero, suc, ◌+◌, ◌-◌, ◌*◌, ◌/◌, ◌%◌, ◌<◌, ◌≤◌, ◌^◌, Bool, true, false, not, ◌&&◌, ◌==◌, cond, Option, Some, None, Result, Ok, Err, List, [], ◌∷◌, ◌++◌, length, take, drop, get_or, map, codes, max, bytes_eq, position, find, ◌⊎◌, inl, inr, refl, sym, ap, subst, ◌∙◌, arith, append_assoc, append-nil, length-append}
-use Rattle.std.specs.Option.{option_map, option_and_then, option_or}
+use Rattle.std.proofs.Common.{◌≡◌, ℕ, zero, suc, ◌+◌, ◌-◌, ◌/◌, ◌%◌, ◌<◌, ◌≤◌, Bool, true, false, not, ◌&&◌, ◌==◌, Option, Some, None, Result, Ok, List, [], ◌∷◌, ◌++◌, length, get_or, codes, bytes_eq, position, find, inl, inr, refl, sym, ap, subst, ◌∙◌, arith, append_assoc, append-nil, length-append}
+use Rattle.std.specs.Option.{option_map, option_or}
 use Rattle.std.specs.List.{list_all, range_with_len, position_or_len}
 use Rattle.std.specs.Fmt.{decimal}
 use Rattle.std.proofs.lemmas.Fmt.{decimal_injective}
@@ -14,11 +14,10 @@ use Rattle.card_letters.specs.Letters.{card_text}
 use Rattle.strategy_games.specs.Plans as games
 use Rattle.strategy_games.specs.Plans.{Plan, Replies, cards_of}
 use Rattle.strategy_tree.specs.declared.plan_reader.PlanFault.{PlanFault}
-use Rattle.strategy_tree.specs.declared.plan_reader.PlanLine.{PlanLine}
 use Rattle.strategy_tree.specs.declared.plan_reader.PlanLine.TheVariants.{Stop, Play, Hear}
 use Rattle.strategy_tree.specs.PlanText.{line_of, stop_line, play_line, hear_line, on_line, plan_text, replies_text, levels_of, levels_below, HasReplies, HaveReplies, HasCards, HaveCards}
-use Rattle.strategy_tree.specs.PlanRead.{text_after, card_named, number_named, play_said, hear_said, plan_line, reply_line, line_at, said_at, replies_read, node_read, plan_read}
-use Rattle.strategy_tree.proofs.Reading.{decimal_one, decimal_two, text_after-append}
+use Rattle.strategy_tree.specs.PlanRead.{card_named, number_named, play_said, hear_said, plan_line, reply_line, line_at, said_at, replies_read, node_read, plan_read}
+use Rattle.strategy_tree.proofs.Reading.{decimal_one, decimal_two}
 use Rattle.strategy_tree.proofs.ReadingNodes.{node_read-stop, node_read-play, node_read-hear}
 
 -- ---- lines

@@ -1,15 +1,14 @@
 -- Bridge keeps what the theory of strategies asks of a game, by the laws of play.
-use Rattle.std.proofs.Common.{◌≡◌, ℕ, suc, ◌+◌, ◌<◌, Bool, true, false, Option, Some, None, is_some, ◌==◌, List, [], map, filter, Contains, All, refl, sym, ap, ◌∙◌, ⊎_elim, ◌∷◌, subst, arith}
+use Rattle.std.proofs.Common.{◌≡◌, ℕ, Bool, true, false, Option, Some, None, is_some, List, [], map, Contains, refl, sym, ap, ◌∙◌, ⊎_elim, ◌∷◌, subst, arith}
 use Rattle.std.proofs.lemmas.Bool.{false≢true}
 use Rattle.std.proofs.lemmas.List.Elements.{All-contains}
-use Rattle.std.specs.List.{list_any, list_all}
 use Rattle.card_sets.specs.SetWords.{has_card}
-use Rattle.trick_rules.specs.Table.{Table, State, to_play, IsState}
-use Rattle.trick_rules.specs.Play.{legal_in, after, is_declarers, is_over, decided, after_card, cards_left, makes}
-use Rattle.trick_rules.specs.Nodes.{Layouts, IsNode, states, choices, child}
+use Rattle.trick_rules.specs.Table.{Table, State, IsState}
+use Rattle.trick_rules.specs.Play.{legal_in, after, is_over, decided, after_card, makes}
+use Rattle.trick_rules.specs.Nodes.{Layouts, IsNode, states, choices}
 use Rattle.trick_rules.proofs.PlayLaws as play
 use Rattle.strategy_games.proofs.Lists.{Contains-nil, Contains-cons}
-use Rattle.strategy_games.specs.Games.{Game, IsLawful, IsDoubleDummy, IsSettled}
+use Rattle.strategy_games.specs.Games.{IsLawful, IsDoubleDummy, IsSettled}
 use Rattle.strategy_tree.specs.Bridge.{bridge}
 use Rattle.strategy_tree.proofs.CardLists.{has_card-from_Contains, Contains-from_has_card, any_from, all_from}
 

@@ -1,5 +1,5 @@
 -- How a plan is read: its lines in order, each node before those below it. The first fault is the answer.
-use Rattle.std.specs.Prelude.{ℕ, zero, suc, ◌+◌, Bool, Option, None, Some, option_and_then, Result, Ok, Err, List, [], ◌∷◌, length, take, drop, find, position, if◌then◌else◌, ◌==◌, bytes_eq, codes}
+use Rattle.std.specs.Prelude.{ℕ, zero, suc, ◌+◌, Option, None, Some, option_and_then, Result, Ok, Err, List, [], ◌∷◌, length, take, drop, find, position, if◌then◌else◌, ◌==◌, bytes_eq, codes}
 use Rattle.std.specs.Option.{option_map, option_or}
 use Rattle.std.specs.List.{range_with_len}
 use Rattle.std.specs.Fmt.{decimal}

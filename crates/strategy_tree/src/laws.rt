@@ -10,6 +10,7 @@ ghost use Rattle.strategy_games.specs.Joins.{unions, spreads, joins, AreFronts, 
 ghost use Rattle.strategy_games.specs.Choosing.{IsChosenPlan, IsBestCount, IsNamedCard};
 ghost use Rattle.strategy_games.specs.Misfits.{node_count, first_misfit};
 ghost use Rattle.strategy_tree.specs.Bridge.{bridge};
+ghost use Rattle.strategy_tree.specs.PlanText.{levels_of, HasReplies, HasCards};
 
 /// A strategy ends somewhere in each layout, so that no layout is won because nothing was looked at.
 pub fn strategy_ends()
@@ -183,4 +184,11 @@ pub fn first_misfit()
         → Fits bridge plan n moves ↔ (first_misfit bridge ◌==◌ plan n moves ≡ None) }
     ensures within { (plan : Plan ℕ) (n : Layouts) (moves node : ℕ)
         → first_misfit bridge ◌==◌ plan n moves ≡ Some node → (1 ≤ node) × (node ≤ node_count plan) }
+{}
+
+/// A strategy has at most 64 levels, each of its defender's nodes has 1 to 52 replies, and its cards are of the pack: so what
+/// is written of it is read back.
+pub fn strategy_reads_back()
+    ensures { (plan : Plan ℕ) (n : Layouts) (moves : ℕ) → IsNode n → Fits bridge plan n moves
+        → (levels_of plan ≤ 64) × HasReplies plan × HasCards plan }
 {}

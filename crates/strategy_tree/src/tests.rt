@@ -91,6 +91,21 @@ fn a_plan_is_written_and_read_back(rt: HostRuntime) -> Result<(), Fail> {
     Ok(())
 }
 
+#[test]
+fn lines_are_appended_whole_or_not_at_all(rt: HostRuntime) -> Result<(), Fail> {
+    let alloc = rt.alloc();
+    let plan = worked_plan(alloc)?;
+    let mut out = Text::new(alloc);
+    out.push(b"before")?;
+    let appended = plan.lines(alloc, &mut out).is_ok();
+    assert_eq!(rt;
+        out.bytes().len(),
+        if appended { 6 + WORKED.len() } else { 6 }
+    );
+    assert_eq!(rt; &out.bytes()[..6], b"before".as_slice());
+    Ok(())
+}
+
 // Where the plan at the front of a text ends, or its fault.
 fn end_of(alloc: Global, text: &[u8]) -> Result<usize, PlanFault> {
     let (_, end) = read_plan(alloc, text, 0)?;

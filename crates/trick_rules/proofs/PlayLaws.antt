@@ -1,5 +1,5 @@
 -- The laws of play, each under the name of the function whose contract says it. Crates above cite them from here.
-use Rattle.std.proofs.Common.{◌≡◌, ◌≢◌, ◌↔◌, ℕ, ◌+◌, ◌<◌, Bool, true, false, cond, eqb, length, map, filter, None, Some, All, AllPairs, Contains, refl, sym, ◌∙◌, inl, inr, arith, add-one}
+use Rattle.std.proofs.Common.{◌≡◌, ◌≢◌, ◌↔◌, ℕ, ◌+◌, ◌<◌, ◌≤◌, Bool, true, false, cond, eqb, length, map, filter, None, Some, All, AllPairs, Contains, refl, sym, ◌∙◌, inl, inr, arith, add-one}
 use Rattle.std.specs.List.{list_any, list_all}
 use Rattle.std.proofs.lemmas.Bool.{false≢true, cases_Bool}
 use Rattle.card_sets.specs.declared.seat.Seat.{Seat}
@@ -11,7 +11,7 @@ use Rattle.trick_rules.specs.Play.{IsWonBy, is_declarers, winner_of, after_card,
 use Rattle.trick_rules.specs.Nodes.{Layouts, IsNode, states, choices, child}
 use Rattle.trick_rules.proofs.Soundness.{after_card_sound, Apart-sym, trick_held}
 use Rattle.trick_rules.proofs.States.{after-IsState, tricks_left-after, cards_left-after, legal_can_play, legal_cards-low, some_legal, hand_length, hand_held, right_of-not_left}
-use Rattle.trick_rules.proofs.Decisions.{decided-need, decided-over, decided-after, open-decided}
+use Rattle.trick_rules.proofs.Decisions.{need-after, decided-need, decided-over, decided-after, open-decided}
 use Rattle.trick_rules.proofs.DoubleDummy.{makes-over, makes-ours, makes-theirs, makes-decided, Makes-from_makes, makes-from_Makes}
 use Rattle.trick_rules.proofs.TrickLemmas.{one_winner}
 use Rattle.trick_rules.proofs.NodeLemmas.{states-IsState, child-IsNode, states-child, ours_everywhere, choice_from_legal, choice_everywhere, choice_somewhere, choice_can_play}
@@ -27,6 +27,12 @@ a_card_keeps_the_position_sound = after_card_sound
 
 pub the_fourth_card_ends_a_trick : (t : Table) (card : ℕ) → IsSound t → CanPlay t card → tricks_left (after_card t card) + cond (eqb (length t.trick.cards) 3) 1 0 ≡ tricks_left t
 the_fourth_card_ends_a_trick = tricks_left-after
+
+pub the_need_never_rises : (t : Table) (card : ℕ) → IsSound t → (after_card t card).need ≤ t.need
+the_need_never_rises t card sound = (need-after t card sound).0
+
+pub the_need_falls_by_one_at_most : (t : Table) (card : ℕ) → IsSound t → t.need ≤ (after_card t card).need + cond (eqb (length t.trick.cards) 3) 1 0
+the_need_falls_by_one_at_most t card sound = (need-after t card sound).1
 
 pub a_card_leaves_one_fewer : (t : Table) (card : ℕ) → IsSound t → CanPlay t card → cards_left (after_card t card) + 1 ≡ cards_left t
 a_card_leaves_one_fewer t card sound can = add-one (cards_left (after_card t card)) ∙ cards_left-after t card sound can

@@ -1,5 +1,5 @@
 //! What the definitions come to. Each function does nothing: its contract is the law, proved from the definitions alone.
-ghost use Rattle.std.specs.Prelude.{◌≡◌, ◌≢◌, ◌↔◌, ℕ, ◌+◌, ◌<◌, ◌==◌, Bool, true, false, Some, None, List, [], map, filter, length, All, AllPairs, Contains, if◌then◌else◌};
+ghost use Rattle.std.specs.Prelude.{◌≡◌, ◌≢◌, ◌↔◌, ℕ, ◌+◌, ◌<◌, ◌≤◌, ◌==◌, Bool, true, false, Some, None, List, [], map, filter, length, All, AllPairs, Contains, if◌then◌else◌};
 ghost use Rattle.std.specs.List.{list_any, list_all};
 ghost use Rattle.card_sets.specs.SetWords.{has_card, Apart};
 ghost use Rattle.card_sets.specs.declared.seat.Seat.{Seat};
@@ -31,6 +31,14 @@ pub fn a_card_keeps_the_position_sound()
 pub fn the_fourth_card_ends_a_trick()
     ensures { (t : Table) (card : ℕ) → IsSound t → CanPlay t card
         → tricks_left (after_card t card) + (if length t.trick.cards == 3 then 1 else 0) ≡ tricks_left t }
+{}
+
+/// The need never rises. It falls at the fourth card of a trick alone, and by no more than one.
+#[tactic(auto, using(crate::proofs::PlayLaws::the_need_never_rises, crate::proofs::PlayLaws::the_need_falls_by_one_at_most))]
+pub fn the_need_falls_by_one_at_most()
+    ensures never_rises { (t : Table) (card : ℕ) → IsSound t → (after_card t card).need ≤ t.need }
+    ensures by_one { (t : Table) (card : ℕ) → IsSound t
+        → t.need ≤ (after_card t card).need + (if length t.trick.cards == 3 then 1 else 0) }
 {}
 
 /// Each card leaves one card fewer to play.

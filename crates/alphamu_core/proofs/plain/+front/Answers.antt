@@ -94,7 +94,7 @@ defenders_front-finish-requires t c = theirs_covered c.args.node.now c.args.move
 
 pub defenders_front-returns-clause-front : goal.defenders_front-returns-clause-front
 defenders_front-returns-clause-front t c =
-    subst (λ front. IsFrontAt c.args.node.now c.args.moves front) (sym c.finish.ensures)
+    subst (λ front. IsFrontAt c.args.node.now c.args.moves front) (sym c.finish.ensures.value)
     (theirs_all c.args.node.now c.args.moves c.cards.invariant c.in_default.ensures.value.0 c.width.ensures.a_node c.requires.goes_on c.requires.theirs)
 
 pub defenders_front-returns-clause-costs : goal.defenders_front-returns-clause-costs

@@ -1,4 +1,3 @@
-use Rattle.std.proofs.Common.{rules}
 use Rattle.strategy_tree.specs.PlanRead.{plan_read}
 use Rattle.strategy_tree.proofs.plan_reader.read_plan.Goals as goal
 

@@ -1,0 +1,72 @@
+// The work of the crate bench_double_dummy in C++: double dummy on the same random endings.
+// usage: double_dummy_baseline plain|memo TRICKS ENDINGS
+#include <cstdint>
+#include <cstdio>
+#include <cstdlib>
+#include <cstring>
+#include <unordered_map>
+using u64 = uint64_t;
+static u64 state = 20191118;
+static u64 draw(u64 bound) {
+    state = state * 6364136223846793005ull + 1442695040888963407ull;
+    return (state >> 33) % bound;
+}
+struct Pos { u64 hand[4]; int leader, n, need, trump; int trick[4]; };
+static u64 suit_mask(int suit) { return 0x1fffull << (13 * suit); }
+static bool use_memo = false;
+struct Key { u64 a, b, c, d, e; bool operator==(const Key &o) const { return !memcmp(this, &o, sizeof *this); } };
+struct Hash { size_t operator()(const Key &k) const {
+    u64 h = k.a * 0x9E3779B97F4A7C15ull; h ^= (h >> 29) + k.b * 0xBF58476D1CE4E5B9ull; h ^= (h >> 31) + k.c * 0x94D049BB133111EBull;
+    h ^= (h >> 27) + k.d * 0xD6E8FEB86659FD93ull; return h ^ (h >> 32) ^ k.e; } };
+static std::unordered_map<Key, bool, Hash> memo;
+static int winner(const Pos &p) {
+    int best = p.trick[0], who = 0;
+    for (int i = 1; i < 4; i++) { int c = p.trick[i]; if (c / 13 == best / 13 ? c > best : c / 13 == p.trump) best = c, who = i; }
+    return (p.leader + who) & 3;
+}
+static bool makes(const Pos &p) {
+    int seat = (p.leader + p.n) & 3;
+    u64 hand = p.hand[seat];
+    if (p.n == 0 && !hand) return p.need == 0;
+    Key key{p.hand[0], p.hand[1], p.hand[2], p.hand[3], (u64)(p.leader * 16 + p.need)};
+    if (use_memo && p.n == 0) {
+        if (p.need == 0) return true;
+        if (p.need > __builtin_popcountll(hand)) return false;
+        auto found = memo.find(key);
+        if (found != memo.end()) return found->second;
+    }
+    u64 legal = hand;
+    if (p.n) { u64 follow = hand & suit_mask(p.trick[0] / 13); if (follow) legal = follow; }
+    bool ours = !(seat & 1), answer = !ours;
+    for (u64 m = legal; m; m &= m - 1) {
+        int card = __builtin_ctzll(m);
+        Pos q = p;
+        q.hand[seat] &= ~(1ull << card);
+        q.trick[q.n++] = card;
+        if (q.n == 4) { q.leader = winner(q); q.n = 0; if (!(q.leader & 1) && q.need) q.need--; }
+        bool got = makes(q);
+        if (got == ours) { answer = ours; break; }
+    }
+    if (use_memo && p.n == 0) memo.emplace(key, answer);
+    return answer;
+}
+int main(int argc, char **argv) {
+    if (argc != 4) return 2;
+    use_memo = !strcmp(argv[1], "memo");
+    int tricks = atoi(argv[2]);
+    long endings = atol(argv[3]), made = 0;
+    for (long i = 0; i < endings; i++) {
+        Pos p{};
+        u64 used = 0;
+        for (int s = 0; s < 4; s++)
+            while (__builtin_popcountll(p.hand[s]) < tricks) {
+                u64 bit = 1ull << draw(52);
+                if (!(used & bit)) used |= bit, p.hand[s] |= bit;
+            }
+        p.trump = draw(5);
+        p.need = 1 + draw(tricks);
+        memo.clear();
+        made += makes(p);
+    }
+    printf("%ld\n", made);
+}

@@ -1,0 +1,79 @@
+//! Random endings, the same as those of the program in C++.
+use card_sets::{Card, CardSet, Seat, Suit};
+use dd_solver::makes_plain;
+use trick_rules::{Position, Trump};
+
+/// Numbers that follow one another without an order that shows.
+#[derive(Drop)]
+struct Draws {
+    state: u64,
+}
+
+impl Draws {
+    // A number below `bound`, which isn't 0.
+    fn next(&mut self, bound: u64) -> u64 {
+        self.state = self
+            .state
+            .wrapping_mul(6_364_136_223_846_793_005)
+            .wrapping_add(1_442_695_040_888_963_407);
+        (self.state >> 33) % bound.max(1)
+    }
+
+    fn card(&mut self) -> Card {
+        Card::from_number((self.next(52) % 52) as u8)
+    }
+
+    fn trump(&mut self) -> Trump {
+        match self.next(5) {
+            0 => Trump::Suit(Suit::Spades),
+            1 => Trump::Suit(Suit::Hearts),
+            2 => Trump::Suit(Suit::Diamonds),
+            3 => Trump::Suit(Suit::Clubs),
+            _ => Trump::NoTrump,
+        }
+    }
+
+    // So many cards that are not used yet, the used cards put to `used`.
+    fn hand(&mut self, size: u8, used: &mut CardSet) -> CardSet {
+        let mut hand = CardSet::empty();
+        for _ in 0..10_000 {
+            if hand.count() >= size {
+                break;
+            }
+            let card = self.card();
+            if !used.has(card) {
+                *used = used.with(card);
+                hand = hand.with(card);
+            }
+        }
+        hand
+    }
+
+    // Whether declarer's side makes an ending of so many tricks.
+    fn makes_next(&mut self, tricks: u8) -> bool {
+        let mut used = CardSet::empty();
+        let declarer = self.hand(tricks, &mut used);
+        let left = self.hand(tricks, &mut used);
+        let dummy = self.hand(tricks, &mut used);
+        let right = self.hand(tricks, &mut used);
+        let trump = self.trump();
+        let need = 1 + (self.next(u64::from(tricks)) % 13) as u8;
+        let unseen = left.either(right);
+        match Position::between_tricks(declarer, dummy, unseen, Seat::Declarer, need, trump) {
+            Some(position) if position.fits(left) => makes_plain(&position, left),
+            _ => false,
+        }
+    }
+}
+
+/// How many of so many endings are made.
+pub fn made_of(tricks: u8, endings: u64) -> u64 {
+    let mut draws = Draws { state: 20_191_118 };
+    let mut made: u64 = 0;
+    for _ in 0..endings {
+        if draws.makes_next(tricks) {
+            made = made.saturating_add(1);
+        }
+    }
+    made
+}

@@ -1,0 +1,4 @@
+mod CommandLemmas
+mod NumberLemmas
+mod PlainLemmas
+mod TextLemmas

@@ -1,0 +1,68 @@
+-- What each option was given.
+use Rattle.std.specs.Prelude.{Bool, false, List, Option, Some, None, option_map, codes, if◌then◌else◌}
+use Rattle.std.specs.Option.{option_map_or}
+use Rattle.std.specs.Str.{bytes_eq}
+use Rattle.clap.specs.Walk.{Row, Text, first_of, is_empty, one_of}
+use Rattle.clap.specs.Simple.{matches_of}
+use Rattle.clap.specs.Faults.{fault_of}
+use Rattle.job_words.specs.declared.options.Options.{Options}
+use Rattle.job_words.specs.Command.{option_command}
+
+-- the value of each option that was given, and whether each flag was
+pub record OptionValues : Type 0 where
+  pub job : Option Text
+  pub deal : Option Text
+  pub layouts : Option Text
+  pub report : Option Text
+  pub moves : Option Text
+  pub number : Option Text
+  pub nodes : Option Text
+  pub workers : Option Text
+  pub shards : Option Text
+  pub room : Option Text
+  pub no_table : Bool
+  pub no_cuts : Bool
+
+-- a flag holds the text `true` where it was given
+abbrev pub has_flag : Text → List Row → Bool
+has_flag name rows = option_map_or (λ text. bytes_eq text (codes "true")) (one_of name rows) false
+
+-- the values in what clap found
+abbrev pub options_at : List Row → OptionValues
+options_at rows = record {
+  job = first_of (codes "job") rows;
+  deal = first_of (codes "deal") rows;
+  layouts = first_of (codes "layouts") rows;
+  report = first_of (codes "report") rows;
+  moves = first_of (codes "moves") rows;
+  number = first_of (codes "number") rows;
+  nodes = first_of (codes "nodes") rows;
+  workers = first_of (codes "workers") rows;
+  shards = first_of (codes "shards") rows;
+  room = first_of (codes "room") rows;
+  no_table = has_flag (codes "no-table") rows;
+  no_cuts = has_flag (codes "no-cuts") rows;
+}
+
+-- the values in the words, where clap finds no fault in them
+unfoldable pub options_read : List Text → Option OptionValues
+options_read words =
+    if is_empty (fault_of option_command words)
+    then Some (options_at (matches_of option_command words)) else None
+
+-- the same without where they lie in memory
+abbrev pub options_of : Options → OptionValues
+options_of o = record {
+  job = option_map (λ s. s.now) o.job;
+  deal = option_map (λ s. s.now) o.deal;
+  layouts = option_map (λ s. s.now) o.layouts;
+  report = option_map (λ s. s.now) o.report;
+  moves = option_map (λ s. s.now) o.moves;
+  number = option_map (λ s. s.now) o.number;
+  nodes = option_map (λ s. s.now) o.nodes;
+  workers = option_map (λ s. s.now) o.workers;
+  shards = option_map (λ s. s.now) o.shards;
+  room = option_map (λ s. s.now) o.room;
+  no_table = o.no_table;
+  no_cuts = o.no_cuts;
+}

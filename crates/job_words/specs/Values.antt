@@ -1,0 +1,42 @@
+-- The tests on values, numbers and names of jobs.
+use Rattle.std.specs.Prelude.{◌==◌, ◌&&◌, ℕ, Bool, false, not, List, [], ◌∷◌, Option, Some, None, codes, nat_le, option_and_then, if◌then◌else◌}
+use Rattle.std.specs.Str.{all_ascii_digits, bytes_eq}
+use Rattle.std.specs.Str.Parse.{digits_value}
+use Rattle.job_words.specs.declared.Job.{Job}
+use Rattle.job_words.specs.declared.Job.TheVariants.{Solve, Card}
+
+-- a value isn't empty and doesn't begin with a dash
+abbrev pub is_value : List ℕ → Bool
+is_value [] = false
+is_value (first ∷ rest) = not (first == 45)
+
+-- the value, where it may name a file
+unfoldable pub file_name : List ℕ → Option (List ℕ)
+file_name text = if is_value text then Some text else None
+
+-- the number that one or more decimal digits write
+unfoldable pub number_of : List ℕ → Option ℕ
+number_of [] = None
+number_of (digit ∷ digits) =
+    if all_ascii_digits (digit ∷ digits) then Some (digits_value 10 (digit ∷ digits)) else None
+
+-- the number, where it lies in its range
+abbrev pub in_range : ℕ → ℕ → ℕ → Option ℕ
+in_range least most number =
+    if nat_le least number && nat_le number most then Some number else None
+
+-- the number that the text writes, where it lies in its range
+unfoldable pub number_in : ℕ → ℕ → List ℕ → Option ℕ
+number_in least most text = option_and_then (in_range least most) (number_of text)
+
+-- the same of an option that may be left out
+unfoldable pub number_or : ℕ → ℕ → ℕ → Option (List ℕ) → Option ℕ
+number_or default least most None = Some default
+number_or default least most (Some text) = number_in least most text
+
+-- the job of this name
+unfoldable pub job_named : List ℕ → Option Job
+job_named name =
+    if bytes_eq name (codes "solve") then Some Solve
+    else if bytes_eq name (codes "card") then Some Card
+    else None

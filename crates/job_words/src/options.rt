@@ -1,0 +1,115 @@
+//! The options of the words, as clap reads them.
+ghost use Rattle.std.specs.Prelude.{◌≡◌, IfOk, false, option_map};
+ghost use Rattle.clap.specs.Words.{app_of, first_of, found_of, rows_of, rule_of};
+ghost use Rattle.job_words.specs.Command.{bare_command, flag_option, option_command, value_option};
+ghost use Rattle.job_words.specs.Options.{has_flag, options_at, options_of, options_read};
+ghost use Rattle.job_words.specs.Asks.{texts_of};
+
+use clap::error::ErrorKind;
+use clap::{Arg, ArgAction, ArgMatches, Command};
+use std::alloc::{AllocError, Global};
+
+/// The value of each option that was given, and whether each flag was.
+#[derive(Clone, Copy)]
+pub(crate) struct Options<'a> {
+    pub(crate) job: Option<&'a str>,
+    pub(crate) deal: Option<&'a str>,
+    pub(crate) layouts: Option<&'a str>,
+    pub(crate) report: Option<&'a str>,
+    pub(crate) moves: Option<&'a str>,
+    pub(crate) number: Option<&'a str>,
+    pub(crate) nodes: Option<&'a str>,
+    pub(crate) workers: Option<&'a str>,
+    pub(crate) shards: Option<&'a str>,
+    pub(crate) room: Option<&'a str>,
+    pub(crate) no_table: bool,
+    pub(crate) no_cuts: bool,
+}
+
+/// The options in the words, or None where clap finds a fault in them.
+pub(crate) fn read_options<'a>(
+    alloc: Global,
+    words: &'a [String],
+) -> Result<Option<Options<'a>>, AllocError>
+    ensures { IfOk result (λ r. option_map options_of r ≡ options_read (texts_of words.now)) }
+{
+    let command = option_command(alloc)?;
+    match command.try_get_matches_from(words) {
+        Ok(matches) => Ok(Some(options_in(&matches))),
+        Err(error) => match error.kind() {
+            ErrorKind::OutOfMemory => Err(AllocError),
+            _ => Ok(None),
+        },
+    }
+}
+
+const VALUE_NAMES: [&str; 10] = [
+    "job", "deal", "layouts", "report", "moves", "number", "nodes", "workers", "shards", "room",
+];
+
+fn option_command<'a>(alloc: Global) -> Result<Command<'a>, AllocError>
+    ensures { IfOk result (λ command. app_of command ≡ option_command) }
+{
+    let mut command = bare_command(alloc);
+    for name in VALUE_NAMES {
+        command = command.arg(value_option(alloc, name))?;
+    }
+    command
+        .arg(flag_option(alloc, "no-table"))?
+        .arg(flag_option(alloc, "no-cuts"))
+}
+
+fn value_option<'a>(alloc: Global, name: &'a str) -> Arg<'a>
+    ensures rule { rule_of result ≡ value_option name.entry.now }
+    ensures local { result.global ≡ false }
+{
+    Arg::new(alloc, name).long(name).action(ArgAction::Set)
+}
+
+fn flag_option<'a>(alloc: Global, name: &'a str) -> Arg<'a>
+    ensures rule { rule_of result ≡ flag_option name.entry.now }
+    ensures local { result.global ≡ false }
+{
+    Arg::new(alloc, name).long(name).action(ArgAction::SetTrue)
+}
+
+fn bare_command<'a>(alloc: Global) -> Command<'a>
+    ensures { app_of result ≡ bare_command }
+{
+    Command::new(alloc, "alphamu")
+        .no_binary_name(true)
+        .disable_help_flag(true)
+        .disable_help_subcommand(true)
+        .disable_version_flag(true)
+}
+
+fn options_in<'a>(matches: &ArgMatches<'a>) -> Options<'a>
+    ensures { options_of result ≡ options_at (rows_of (found_of matches.now)) }
+{
+    Options {
+        job: value_of(matches, "job"),
+        deal: value_of(matches, "deal"),
+        layouts: value_of(matches, "layouts"),
+        report: value_of(matches, "report"),
+        moves: value_of(matches, "moves"),
+        number: value_of(matches, "number"),
+        nodes: value_of(matches, "nodes"),
+        workers: value_of(matches, "workers"),
+        shards: value_of(matches, "shards"),
+        room: value_of(matches, "room"),
+        no_table: has_flag(matches, "no-table"),
+        no_cuts: has_flag(matches, "no-cuts"),
+    }
+}
+
+fn value_of<'a>(matches: &ArgMatches<'a>, name: &str) -> Option<&'a str>
+    ensures { option_map (λ s. s.now) result ≡ first_of name.now (rows_of (found_of matches.now)) }
+{
+    matches.get_str(name)
+}
+
+fn has_flag(matches: &ArgMatches<'_>, name: &str) -> bool
+    ensures { result ≡ has_flag name.now (rows_of (found_of matches.now)) }
+{
+    matches.get_one::<bool>(name).unwrap_or(false)
+}

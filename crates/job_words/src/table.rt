@@ -1,0 +1,84 @@
+//! Which options each job requires, allows and refuses.
+ghost use Rattle.std.specs.Prelude.{◌≡◌};
+ghost use Rattle.job_words.specs.Options.{options_of};
+ghost use Rattle.job_words.specs.Table.{has_search, is_used_so, keeps_to, uses_by};
+
+use crate::Job;
+use crate::options::Options;
+
+/// What a job makes of an option.
+#[derive(Clone, Copy)]
+pub(crate) enum Use {
+    Required,
+    Allowed,
+    Refused,
+}
+
+impl Use {
+    fn is_used_so(self, given: bool) -> bool
+        ensures { result ≡ is_used_so self given }
+    {
+        match self {
+            Use::Required => given,
+            Use::Allowed => true,
+            Use::Refused => !given,
+        }
+    }
+}
+
+/// What a job makes of each option. The options on how to search go together.
+#[derive(Clone, Copy)]
+pub(crate) struct Uses {
+    pub(crate) deal: Use,
+    pub(crate) layouts: Use,
+    pub(crate) report: Use,
+    pub(crate) moves: Use,
+    pub(crate) number: Use,
+    pub(crate) search: Use,
+}
+
+/// The row of the table for this job.
+pub(crate) fn uses_by(job: Job) -> Uses
+    ensures { result ≡ uses_by job }
+{
+    match job {
+        Job::Solve | Job::Card => Uses {
+            deal: Use::Required,
+            layouts: Use::Required,
+            report: Use::Refused,
+            moves: Use::Required,
+            number: Use::Refused,
+            search: Use::Allowed,
+        },
+    }
+}
+
+impl Uses {
+    /// Whether the options that are given are those that a job with these uses takes.
+    #[tactic(auto, unfolding(crate::specs::Table::keeps_to))]
+    pub(crate) fn keeps_to(&self, options: &Options<'_>) -> bool
+        ensures { result ≡ keeps_to self.now (options_of options.now) }
+    {
+        let uses = [
+            (self.deal, options.deal.is_some()),
+            (self.layouts, options.layouts.is_some()),
+            (self.report, options.report.is_some()),
+            (self.moves, options.moves.is_some()),
+            (self.number, options.number.is_some()),
+            (self.search, has_search(options)),
+        ];
+        uses.iter().all(|(wanted, given)| wanted.is_used_so(*given))
+    }
+}
+
+// Whether an option on how to search is given.
+fn has_search(options: &Options<'_>) -> bool
+    ensures { result ≡ has_search (options_of options.now) }
+{
+    options.nodes.is_some()
+        || options.workers.is_some()
+        || options.shards.is_some()
+        || options.room.is_some()
+        || options.no_table
+        || options.no_cuts
+}

@@ -1,0 +1,70 @@
+//! The tests on values, numbers and names of jobs.
+ghost use Rattle.std.specs.Prelude.{◌≡◌, ◌≤◌, ◌^◌, ◌<◌, ◌-◌, IfSome, option_map, true};
+ghost use Rattle.std.specs.Str.{all_ascii_digits};
+ghost use Rattle.job_words.specs.Values.{file_name, is_value, job_named, number_in, number_or};
+
+use crate::Job;
+
+/// The value, where it may name a file: it isn't empty and doesn't begin with a dash.
+#[tactic(auto, unfolding(crate::specs::Values::file_name))]
+pub(crate) fn file_name(value: &str) -> Option<&str>
+    ensures value { option_map (λ s. s.now) result ≡ file_name value.now }
+    ensures named { IfSome result (λ name. is_value name.now ≡ true) }
+{
+    if is_value(value) { Some(value) } else { None }
+}
+
+fn is_value(text: &str) -> bool
+    ensures { result ≡ is_value text.now }
+{
+    match text.as_bytes().first() {
+        Some(byte) => *byte != b'-',
+        None => false,
+    }
+}
+
+/// The number that the text writes in decimal digits, where it lies in its range. Leading zeros are allowed.
+pub(crate) fn number_in(least: u64, most: u64, text: &str) -> Option<u64>
+    ensures value { result ≡ number_in least most text.now }
+    ensures range { IfSome result (λ number. (least ≤ number) × (number ≤ most)) }
+{
+    if !has_digits_alone(text) {
+        return None;
+    }
+    let number = text.parse::<u64>().ok()?;
+    if least <= number && number <= most {
+        Some(number)
+    } else {
+        None
+    }
+}
+
+// Whether each byte is a decimal digit.
+fn has_digits_alone(text: &str) -> bool
+    ensures { result ≡ all_ascii_digits text.now }
+{
+    text.bytes().all(|byte| byte.is_ascii_digit())
+}
+
+/// The same of an option that may be left out, for its default.
+#[tactic(auto, unfolding(crate::specs::Values::number_or))]
+pub(crate) fn number_or(default: u64, least: u64, most: u64, value: Option<&str>) -> Option<u64>
+    ensures value { result ≡ number_or default least most (option_map (λ s. s.now) value.entry) }
+    ensures range { least ≤ default → default ≤ most → IfSome result (λ number. (least ≤ number) × (number ≤ most)) }
+{
+    match value {
+        Some(text) => number_in(least, most, text),
+        None => Some(default),
+    }
+}
+
+/// The job of this name.
+pub(crate) fn job_named(name: &str) -> Option<Job>
+    ensures { result ≡ job_named name.now }
+{
+    match name {
+        "solve" => Some(Job::Solve),
+        "card" => Some(Job::Card),
+        _ => None,
+    }
+}

@@ -1,0 +1,5 @@
+pub mod LineSteps
+pub mod Fits
+pub mod Follow
+pub mod Sort
+pub mod Keep

@@ -1,0 +1,108 @@
+-- The lines of a layout file, read one by one.
+use Rattle.std.specs.Prelude.{◌≡◌, ℕ, ◌+◌, Bool, true, false, not, ◌&&◌, ◌||◌, ◌==◌, Option, None, Some, Result, Ok, Err, List, [], ◌∷◌, length, filter, All, ok_or, bytes_eq, if◌then◌else◌}
+use Rattle.std.specs.List.{list_all, slice_split, enumerate_from}
+use Rattle.card_sets.specs.declared.seat.Seat.TheVariants.{Left, Dummy, Right}
+use Rattle.pbn_text.specs.Blanks.{is_blank}
+use Rattle.pbn_deal.specs.declared.deal.DealValue.{DealValue}
+use Rattle.pbn_deal.specs.declared.deal.DealFault.{DealFault}
+use Rattle.card_sets.specs.SetWords.{IsCardSet}
+use Rattle.pbn_deal.specs.Boards.{BoardValue, compass_of, tricks_of, FitsUnseen}
+use Rattle.pbn_deal.specs.BoardRead.{together}
+use Rattle.pbn_deal.specs.Deal.{deal_read, hand_at}
+use Rattle.pbn_deal.specs.Sections.{prepend}
+use Rattle.pbn_deal.specs.Tags.{then_read}
+use Rattle.layout_list.specs.declared.fault.LayoutFault.{LayoutFault}
+use Rattle.layout_list.specs.declared.fault.LayoutFault.TheVariants.{BadLine, OtherHands, TooMany}
+use Rattle.layout_list.specs.declared.line.Defenders.{Defenders}
+
+-- ---- lines
+
+abbrev pub is_line_end : ℕ → Bool
+is_line_end byte = byte == 10
+
+abbrev pub is_comment : List ℕ → Bool
+is_comment [] = false
+is_comment (byte ∷ rest) = byte == 37
+
+-- a line of blanks alone, or one that begins with a per cent sign
+abbrev pub is_skipped : List ℕ → Bool
+is_skipped line = list_all is_blank line || is_comment line
+
+-- the lines of a file with their numbers from 1
+abbrev pub numbered_lines : List ℕ → List (ℕ × List ℕ)
+numbered_lines bytes = enumerate_from 1 (slice_split is_line_end bytes)
+
+-- the lines of what is left of a file, if anything is
+abbrev pub lines_left : ℕ → Option (List ℕ) → List (ℕ × List ℕ)
+lines_left number None = []
+lines_left number (Some text) = enumerate_from number (slice_split is_line_end text)
+
+-- the lines that aren't skipped, each a layout
+abbrev pub layout_lines : List (ℕ × List ℕ) → List (ℕ × List ℕ)
+layout_lines lines = filter (λ line. not (is_skipped line.1)) lines
+
+-- ---- one layout
+
+abbrev pub same_cards : List ℕ → List ℕ → Bool
+same_cards a b = bytes_eq a b
+
+-- the cards of the two defenders, where they are told
+abbrev pub is_told : Option (List ℕ) → List ℕ → Bool
+is_told None cards = true
+is_told (Some unseen) cards = same_cards cards unseen
+
+-- the defenders' hands, where all four hands are shown, declarer's side has the board's hands and the defenders have the unseen cards
+abbrev pub defenders_of : BoardValue → Option (List ℕ) → Option (List ℕ) → Option (List ℕ) → Option (List ℕ) → Option (List ℕ) → Option Defenders
+defenders_of board unseen (Some own) (Some dummy) (Some left) (Some right) =
+    if same_cards own board.declarer_hand && same_cards dummy board.dummy_hand && is_told unseen (together left right) then Some (record { left = left; right = right })
+    else None
+defenders_of board unseen _ _ _ _ = None
+
+abbrev pub defenders_in : BoardValue → Option (List ℕ) → DealValue → Option Defenders
+defenders_in board unseen deal =
+    defenders_of board unseen (hand_at deal board.declarer) (hand_at deal (compass_of board.declarer Dummy)) (hand_at deal (compass_of board.declarer Left)) (hand_at deal (compass_of board.declarer Right))
+
+abbrev pub deal_of_line : BoardValue → Option (List ℕ) → ℕ → Result DealValue DealFault → Result Defenders LayoutFault
+deal_of_line board unseen number (Ok deal) = ok_or (defenders_in board unseen deal) (OtherHands number)
+deal_of_line board unseen number (Err fault) = Err (BadLine number fault)
+
+-- the defenders' hands in a line, or its refusal
+unfoldable pub line_read : BoardValue → Option (List ℕ) → ℕ → List ℕ → Result Defenders LayoutFault
+line_read board unseen number line = deal_of_line board unseen number (deal_read line)
+
+-- ---- all layouts
+
+-- the layouts of the lines, after some that were read: at most 64 in all, and each with the unseen cards of the first where the board doesn't tell them
+abbrev pub lines_read : BoardValue → Option (List ℕ) → ℕ → List (ℕ × List ℕ) → Result (List Defenders) LayoutFault
+lines_read board unseen count [] = Ok []
+lines_read board unseen count (line ∷ lines) =
+    if count == 64 then Err (TooMany line.0)
+    else then_read (line_read board unseen line.0 line.1) (λ layout. prepend (layout ∷ []) (lines_read board (Some (together layout.left layout.right)) (count + 1) lines))
+
+-- ---- what a layout that was read keeps
+
+-- a set for each defender, apart from each other and from declarer's side, each with a card for each trick
+pub record FitsBoard (board : BoardValue) (layout : Defenders) : Type 0 where
+  pub left_set : IsCardSet layout.left
+  pub left_size : length layout.left ≡ tricks_of board
+  pub unseen : FitsUnseen board (together layout.left layout.right)
+
+-- the defenders' cards together are the ones told
+abbrev pub IsTold : Option (List ℕ) → List ℕ → Type 0
+IsTold None cards = Unit {0}
+IsTold (Some unseen) cards = cards ≡ unseen
+
+-- a layout of a board whose defenders hold these cards together
+pub record FitsOver (board : BoardValue) (unseen : List ℕ) (layout : Defenders) : Type 0 where
+  pub fits : FitsBoard board layout
+  pub same : together layout.left layout.right ≡ unseen
+
+-- layouts of a board, each with the same cards together, which are told if there is a layout
+abbrev pub AreOver : BoardValue → Option (List ℕ) → List Defenders → Type 0
+AreOver board None layouts = layouts ≡ []
+AreOver board (Some unseen) layouts = All (FitsOver board unseen) layouts
+
+-- layouts of a board whose defenders hold the same cards together
+abbrev pub IsOneDeal : BoardValue → List Defenders → Type 0
+IsOneDeal board [] = Unit {0}
+IsOneDeal board (first ∷ rest) = All (FitsOver board (together first.left first.right)) (first ∷ rest)

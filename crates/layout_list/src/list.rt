@@ -1,0 +1,162 @@
+//! The layouts of a file that the play of a board allows.
+ghost use Rattle.std.specs.Prelude.{◌≡◌, ◌<◌, ◌≤◌, ◌-◌, ◌^◌, ◌++◌, ◌∷◌, Ok, Some, None, [], map, length, All, MatchResult, MatchOption, IfOk, IfErr, OnOk};
+ghost use Rattle.std.specs.List.{enumerate_from};
+ghost use Rattle.trick_rules.specs.Table.{IsState};
+ghost use Rattle.trick_rules.specs.Nodes.{IsNode};
+ghost use Rattle.pbn_deal.specs.Boards.{IsCourse};
+ghost use Rattle.layout_list.specs.Lines.{IsOneDeal};
+ghost use Rattle.layout_list.specs.Verdicts.{hand_after, course_of};
+ghost use Rattle.layout_list.specs.Layouts.{numbers_kept, lefts_kept, dropped, IsAfter, kept_of, layouts_read, IsFaultOf};
+
+use crate::fault::LayoutFault;
+use crate::kept::{Dropped, Kept};
+use crate::line::{Defenders, read_lines};
+use crate::verdict::{Followed, first_position, follow};
+use card_sets::CardSet;
+use pbn_deal::{Board, Played};
+use std::alloc::Global;
+use trick_rules::{Node, Position};
+
+// The layouts that the play allows, by number and by Left's cards after it, and those that it doesn't. The position
+// after the play is there where a layout is allowed.
+#[derive(Debug, Drop)]
+struct Sorting {
+    numbers: Vec<u16>,
+    lefts: Vec<CardSet>,
+    dropped: Vec<Dropped>,
+    position: Option<Position>,
+}
+
+impl Sorting {
+    fn new(alloc: Global) -> Sorting
+        ensures numbers { result.numbers.items ≡ [] }
+        ensures lefts { result.lefts.items ≡ [] }
+        ensures dropped { result.dropped.items ≡ [] }
+        ensures position { result.position ≡ None }
+    {
+        Sorting {
+            numbers: Vec::new(alloc),
+            lefts: Vec::new(alloc),
+            dropped: Vec::new(alloc),
+            position: None,
+        }
+    }
+
+    // Adds a layout that the play allows.
+    fn allow(&mut self, number: u16, followed: Followed) -> Result<(), LayoutFault>
+        ensures numbers { OnOk result (self.new.numbers.items ≡ self.old.numbers.items ++ number ∷ []) }
+        ensures lefts { OnOk result (self.new.lefts.items ≡ self.old.lefts.items ++ followed.left ∷ []) }
+        ensures dropped { OnOk result (self.new.dropped.items ≡ self.old.dropped.items) }
+        ensures position { OnOk result (self.new.position ≡ Some followed.position) }
+        ensures memory { IfErr result (λ fault. fault ≡ LayoutFault.Memory) }
+    {
+        self.numbers.push(number).map_err(|_| LayoutFault::Memory)?;
+        self.lefts
+            .push(followed.left)
+            .map_err(|_| LayoutFault::Memory)?;
+        self.position = Some(followed.position);
+        Ok(())
+    }
+
+    // Adds a layout that the play rules out.
+    fn rule_out(&mut self, layout: Dropped) -> Result<(), LayoutFault>
+        ensures numbers { self.new.numbers ≡ self.old.numbers }
+        ensures lefts { self.new.lefts ≡ self.old.lefts }
+        ensures dropped { OnOk result (self.new.dropped.items ≡ self.old.dropped.items ++ layout ∷ []) }
+        ensures position { self.new.position ≡ self.old.position }
+        ensures memory { IfErr result (λ fault. fault ≡ LayoutFault.Memory) }
+    {
+        self.dropped.push(layout).map_err(|_| LayoutFault::Memory)
+    }
+}
+
+// Sorts layouts by what the play says of them, all from one position before the first card.
+fn sort_out(
+    alloc: Global,
+    plays: &[Played],
+    start: &Position,
+    layouts: &[Defenders],
+) -> Result<Sorting, LayoutFault>
+    requires states { All (λ d. IsState (record { table = start.now; left = d.left })) layouts.now }
+    requires fair { IsCourse start.now.trump (course_of start.now) plays.now }
+    requires short { length plays.now < 65535 }
+    requires few { length layouts.now ≤ 64 }
+    ensures numbers { IfOk result (λ s. s.numbers.items ≡ numbers_kept plays.now start.now (enumerate_from 1 layouts.now)) }
+    ensures lefts { IfOk result (λ s. s.lefts.items ≡ lefts_kept plays.now start.now (enumerate_from 1 layouts.now)) }
+    ensures dropped { IfOk result (λ s. s.dropped.items ≡ dropped plays.now start.now (enumerate_from 1 layouts.now)) }
+    ensures position { IfOk result (λ s. MatchOption s.position (s.lefts.items ≡ []) (IsAfter plays.now start.now s.lefts.items)) }
+    ensures memory { IfErr result (λ fault. fault ≡ LayoutFault.Memory) }
+{
+    let mut sorting = Sorting::new(alloc);
+    for (index, layout) in layouts.iter().enumerate() {
+        let number = index as u16 + 1;
+        match follow(plays, start.copy(), layout.left) {
+            Ok(followed) => sorting.allow(number, followed)?,
+            Err(found) => sorting.rule_out(Dropped {
+                number,
+                cause: found.cause,
+                play: found.play,
+            })?,
+        }
+    }
+    Ok(sorting)
+}
+
+// The node of a position and these hands of Left's.
+fn root_node(alloc: Global, position: Position, lefts: &[CardSet]) -> Result<Node, LayoutFault>
+    requires { IsNode (record { table = position; lefts = lefts.now }) }
+    ensures node { IfOk result (λ node. node ≡ record { table = position; lefts = lefts.now }) }
+    ensures memory { IfErr result (λ fault. fault ≡ LayoutFault.Memory) }
+{
+    match Node::new(alloc, position, lefts) {
+        Ok(node) => Ok(node),
+        Err(_) => Err(LayoutFault::Memory),
+    }
+}
+
+// What is kept of the layouts of a board: those that the play allows, at the position after it.
+fn keep(alloc: Global, board: &Board, layouts: &[Defenders]) -> Result<Kept, LayoutFault>
+    requires one_deal { IsOneDeal board.now layouts.now }
+    requires few { length layouts.now ≤ 64 }
+    ensures kept { MatchResult result (λ kept. kept_of board.now layouts.now ≡ Ok kept) (IsFaultOf (kept_of board.now layouts.now)) }
+    ensures as_many { IfOk result (λ kept. length kept.numbers ≡ length kept.node.lefts) }
+{
+    let Some(first) = layouts.first() else {
+        return Err(LayoutFault::NoneLeft);
+    };
+    let start = first_position(board, first.left.either(first.right));
+    let Sorting {
+        numbers,
+        lefts,
+        dropped,
+        position,
+    } = sort_out(alloc, board.plays(), &start, layouts)?;
+    let Some(position) = position else {
+        return Err(LayoutFault::NoneLeft);
+    };
+    let node = root_node(alloc, position, &lefts)?;
+    Ok(Kept {
+        numbers,
+        dropped,
+        node,
+    })
+}
+
+/// The layouts of a file that the play of a board allows, and the first card that each other one contradicts.
+///
+/// A line is a layout in the Deal form, unless it is of blanks alone or begins with `%`. It shows all four hands, those
+/// of declarer's side as on the board and those of the defenders with the unseen cards, which are the first layout's
+/// where the board doesn't tell them. The file has at most 64 layouts. The first fault in the order of the lines is
+/// given, and `NoneLeft` where the play allows none.
+#[tactic(auto, unfolding(crate::specs::Layouts::layouts_read))]
+pub fn layouts(alloc: Global, bytes: &[u8], board: &Board) -> Result<Kept, LayoutFault>
+    requires { length bytes.now < 2 ^ 32 - 1 }
+    ensures kept { MatchResult result (λ kept. layouts_read bytes.now board.now ≡ Ok kept) (IsFaultOf (layouts_read bytes.now board.now)) }
+    ensures as_many { IfOk result (λ kept. length kept.numbers ≡ length kept.node.lefts) }
+{
+    let found = read_lines(alloc, bytes, board)?;
+    keep(alloc, board, &found)
+}
+
+#[cfg(test)]
+mod tests;

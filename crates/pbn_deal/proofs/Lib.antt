@@ -1,0 +1,12 @@
+pub mod SectionSteps
+pub mod Cards
+pub mod Suits
+pub mod Dealt
+pub mod Sizes
+pub mod Written
+pub mod Sound
+pub mod RowSteps
+pub mod CourseSteps
+pub mod PlaySound
+pub mod DealtBoards
+pub mod ReadBack

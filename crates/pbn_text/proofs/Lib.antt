@@ -1,0 +1,4 @@
+pub mod Words
+pub mod StringLemmas
+pub mod Ahead
+pub mod Collected

@@ -1,0 +1,6 @@
+pub mod Blanks
+pub mod Strings
+pub mod Games
+pub mod Pieces
+pub mod Grammar
+pub mod Reading

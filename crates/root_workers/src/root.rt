@@ -1,0 +1,124 @@
+//! The loop over root cards.
+ghost use Rattle.std.specs.Prelude.{◌≡◌, ◌<◌, ◌≤◌, ◌∷◌, ℕ, List, true, false, length, IfOk, IsErrOf};
+ghost use Rattle.win_vectors.specs.Vectors.{ones_of};
+ghost use Rattle.win_vectors.specs.Fronts.{Vector};
+ghost use Rattle.trick_rules.specs.Nodes.{Layouts};
+ghost use Rattle.strategy_games.specs.Plans.{IsFront, stops, tree_size};
+ghost use Rattle.strategy_games.specs.Choosing.{IsBestCount, IsNamedCard};
+ghost use Rattle.strategy_tree.specs.Bridge.{bridge};
+ghost use Rattle.front_table.specs.Proven.{IsFrontAt};
+ghost use Rattle.root_workers.specs.Roots.{IsSpentAt, AllFit};
+ghost use Rattle.root_workers.specs.Leaders.{leader};
+
+use alphamu_core::{Budget, Found, RootFault, SearchFault, search};
+use card_sets::Card;
+use cut_rules::CutRules;
+use dd_solver::Solver;
+use front_table::NoStore;
+use pareto_fronts::Front;
+use std::alloc::Global;
+use trick_rules::Node;
+
+/// The front of a root, the card to play, and how many layouts it wins.
+#[derive(Drop)]
+pub struct RootFront {
+    pub front: Front,
+    pub card: Card,
+    pub count: u8,
+}
+
+// The front after a root card, by a search with a budget of its own.
+fn card_front(
+    alloc: Global,
+    solver: &mut Solver,
+    child: &Node,
+    moves: u8,
+    nodes: u64,
+) -> Result<Front, SearchFault>
+    requires { moves ≤ 26 }
+    ensures front { IfOk result (IsFrontAt child.now moves) }
+    ensures fits { IfOk result (λ _. tree_size bridge child.now moves ≤ nodes) }
+    ensures spent { IsErrOf result SearchFault.Spent → nodes < tree_size bridge child.now moves }
+{
+    let alpha = Front::new(alloc, child.width());
+    let mut budget = Budget::new(nodes);
+    match search(
+        alloc,
+        &mut NoStore,
+        solver,
+        &mut budget,
+        child,
+        moves,
+        &alpha,
+        CutRules::none(),
+    )? {
+        Found::Exact(front) => Ok(front),
+        Found::Below => unreachable!(),
+    }
+}
+
+// How many layouts the first vector of a front wins.
+fn best_of(front: &Front) -> u8
+    requires { 1 ≤ length front.now.vectors }
+    ensures { (first : Vector) × (later : List Vector) × (front.now.vectors ≡ first ∷ later) × (result ≡ ones_of first) }
+{
+    front.get(0).count()
+}
+
+// The card that leads, with one card more.
+fn leader(best: Option<(Card, u8)>, card: Card, count: u8) -> Option<(Card, u8)>
+    ensures { result ≡ leader best card count }
+{
+    match best {
+        Some((_, most)) if count <= most => best,
+        _ => Some((card, count)),
+    }
+}
+
+// What was found at the root.
+fn found(front: Front, best: (Card, u8)) -> RootFront
+    ensures front { result.front ≡ front }
+    ensures card { result.card ≡ best.0 }
+    ensures count { result.count ≡ best.1 }
+{
+    RootFront {
+        front,
+        card: best.0,
+        count: best.1,
+    }
+}
+
+/// The front of a node where declarer's side is to play, with 1 to 26 moves; the first card after which the best count is kept;
+/// and that count. Each root card is searched to its end, within so many nodes.
+///
+/// It is spent at the first root card whose tree has more nodes.
+pub fn root_front(alloc: Global, node: &Node, moves: u8, nodes: u64) -> Result<RootFront, RootFault>
+    requires ours { bridge.is_ours node.now ≡ true }
+    requires goes_on { bridge.is_over node.now ≡ false }
+    requires some_moves { 1 ≤ moves }
+    requires few_moves { moves ≤ 26 }
+    ensures front { IfOk result (λ root. IsFrontAt node.now moves root.front) }
+    ensures card { IfOk result (λ root. IsNamedCard bridge node.now moves root.card) }
+    ensures count { IfOk result (λ root. IsBestCount bridge node.now moves root.count) }
+    ensures fits { IfOk result (λ _. AllFit node.now moves nodes) }
+    ensures spent { (card : ℕ) → IsErrOf result (RootFault.Spent card) → IsSpentAt node.now moves nodes card }
+{
+    let mut solver = Solver::new(alloc);
+    let mut front = Front::new(alloc, node.width());
+    let mut best = None;
+    let mut cards = node.choices();
+    'cards: while let Some(card) = cards.pop_first() {
+        let (child, _) = node.child(alloc, card)?;
+        let won = match card_front(alloc, &mut solver, &child, moves - 1, nodes) {
+            Ok(won) => won,
+            Err(SearchFault::Spent) => return Err(RootFault::Spent(card)),
+            Err(SearchFault::Memory) => return Err(RootFault::Memory),
+        };
+        front.union(&won)?;
+        best = leader(best, card, best_of(&won));
+    }
+    match best {
+        Some(best) => Ok(found(front, best)),
+        None => unreachable!(),
+    }
+}

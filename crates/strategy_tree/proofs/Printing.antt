@@ -1,0 +1,97 @@
+-- A strategy is a plan that is read back from its lines.
+use Rattle.std.proofs.Common.{◌≡◌, ℕ, zero, suc, ◌+◌, ◌<◌, ◌≤◌, max, Bool, true, false, is_some, ◌||◌, List, [], ◌∷◌, length, Contains, refl, sym, ap, subst, ◌∙◌, ◌⊎◌, inl, inr, arith}
+use Rattle.std.proofs.lemmas.Bool.{false≢true}
+use Rattle.card_sets.specs.SetWords.{has_card, cards_where, IsCardSet, Apart}
+use Rattle.card_sets.proofs.Sets.{IsCardSet-cards_where, has_card-cards_where, has_card-below}
+use Rattle.card_sets.proofs.SetCounts.{length-le_52, length-either, has_card-length}
+use Rattle.trick_rules.specs.Table.{Table, IsSound}
+use Rattle.trick_rules.specs.Play.{decided, cards_left}
+use Rattle.trick_rules.specs.Nodes.{Layouts, IsNode, choices, child}
+use Rattle.trick_rules.proofs.PlayLaws as play
+use Rattle.strategy_games.specs.Plans.{Plan, Replies, Stop, Play, Hear, NoReply, Reply, cards_of, stops, Fits, FitEach}
+use Rattle.strategy_games.proofs.Lists.{Contains-here, Contains-there}
+use Rattle.strategy_tree.specs.Bridge.{bridge}
+use Rattle.strategy_tree.specs.PlanText.{levels_of, levels_below, HasReplies, HaveReplies, HasCards, HaveCards}
+use Rattle.strategy_tree.proofs.CardLists.{has_card-from_Contains}
+use Rattle.strategy_tree.proofs.Rules.{going_on}
+use Rattle.strategy_tree.proofs.BridgeNodes.{cards_left-child}
+
+-- ---- how many cards are left
+
+-- three sets of which no two have a card in common
+three_sets : (xs ys zs : List ℕ) → IsCardSet xs → IsCardSet ys → IsCardSet zs → Apart xs ys → Apart xs zs → Apart ys zs → length xs + length ys + length zs ≤ 52
+three_sets xs ys zs x y z xy xz yz =
+    let both = cards_where (λ c. has_card xs c || has_card ys c) in
+    let all = cards_where (λ c. has_card both c || has_card zs c) in
+    omega (arith, length-either xs ys x y xy, length-either both zs (IsCardSet-cards_where _) z apart, length-le_52 all (IsCardSet-cards_where _))
+  where
+    either : (a b : Bool) → (a || b) ≡ true → (a ≡ true) ⊎ (b ≡ true)
+    either true b h = inl refl
+    either false b h = inr h
+
+    apart : Apart (cards_where (λ c. has_card xs c || has_card ys c)) zs
+    apart card h =
+        let low = has_card-below _ card (IsCardSet-cards_where (λ c. has_card xs c || has_card ys c)) h in
+        elim (either _ _ (sym (has_card-cards_where (λ c. has_card xs c || has_card ys c) card low) ∙ h)) [
+          | inl in_xs ↦ xz card in_xs
+          | inr in_ys ↦ yz card in_ys
+        ]
+
+cards_left-le_52 : (t : Table) → IsSound t → cards_left t ≤ 52
+cards_left-le_52 t sound = three_sets t.declarer t.dummy t.unseen sound.declarer_set sound.dummy_set sound.unseen_set sound.declarer_dummy sound.declarer_unseen sound.dummy_unseen
+
+-- ---- what is printed of a strategy
+
+-- each node below another is a card further, and the replies are to cards
+pub record IsPrinted (p : Plan ℕ) (left : ℕ) : Type 0 where
+  pub levels : levels_of p ≤ left + 1
+  pub replies : HasReplies p
+  pub cards : HasCards p
+
+pub record ArePrinted (rs : Replies ℕ) (left : ℕ) : Type 0 where
+  pub levels : levels_below rs ≤ left
+  pub replies : HaveReplies rs
+  pub cards : HaveCards rs
+
+choice_below : (n : Layouts) (card : ℕ) → Contains (choices n) card → card < 52
+choice_below n card among = has_card-below (choices n) card (IsCardSet-cards_where _) (has_card-from_Contains (choices n) card among)
+
+not_stopped : (n : Layouts) (m : ℕ) → stops bridge n m ≡ false → is_some (decided n.table) ≡ false
+not_stopped n zero off = absurd (false≢true (sym off))
+not_stopped n (suc m) off = off
+
+mutual
+  printed : (p : Plan ℕ) (n : Layouts) (m : ℕ) → IsNode n → Fits bridge p n m → IsPrinted p (cards_left n.table)
+  printed Stop n m sound fits = record { levels = omega arith; replies = tt; cards = tt }
+  printed (Play card q) n zero sound fits = absurd fits
+  printed (Play card q) n (suc m) sound fits =
+      let choice = has_card-from_Contains (choices n) card fits.2 in
+      let below = printed q (child n card) m (play.a_choice_leads_to_a_node n card sound choice) fits.3 in
+      record {
+        levels = omega (arith, below.levels, cards_left-child n card sound choice);
+        replies = below.replies;
+        cards = (choice_below n card fits.2, below.cards);
+      }
+  printed (Hear rs) n m sound fits =
+      let some = play.there_is_a_choice n sound (going_on n.table (not_stopped n m fits.0)) in
+      let filled : 1 ≤ length (cards_of rs) = subst (λ cards. 1 ≤ length cards) (sym fits.2) (has_card-length (choices n) some.0 some.1) in
+      let few : length (cards_of rs) ≤ 52 = subst (λ cards. length cards ≤ 52) (sym fits.2) (length-le_52 (choices n) (IsCardSet-cards_where _)) in
+      let each = each_printed rs n m sound (λ card among. subst (λ cards. Contains cards card) fits.2 among) fits.3 in
+      record { levels = omega (arith, each.levels); replies = (filled, few, each.replies); cards = each.cards }
+
+  each_printed : (rs : Replies ℕ) (n : Layouts) (m : ℕ) → IsNode n → ((card : ℕ) → Contains (cards_of rs) card → Contains (choices n) card) → FitEach bridge rs n m → ArePrinted rs (cards_left n.table)
+  each_printed NoReply n m sound among fits = record { levels = omega arith; replies = tt; cards = tt }
+  each_printed (Reply card q rs) n m sound among fits =
+      let here = among card (Contains-here card (cards_of rs)) in
+      let choice = has_card-from_Contains (choices n) card here in
+      let first = printed q (child n card) m (play.a_choice_leads_to_a_node n card sound choice) fits.0 in
+      let rest = each_printed rs n m sound (λ c h. among c (Contains-there card (cards_of rs) c h)) fits.1 in
+      record {
+        levels = omega (arith, first.levels, rest.levels, cards_left-child n card sound choice);
+        replies = (first.replies, rest.replies);
+        cards = (choice_below n card here, first.cards, rest.cards);
+      }
+
+-- a strategy has at most 64 levels, each defender's node has 1 to 52 replies, and each card is one of the 52
+pub strategy_printed : (p : Plan ℕ) (n : Layouts) (m : ℕ) → IsNode n → Fits bridge p n m → (levels_of p ≤ 64) × HasReplies p × HasCards p
+strategy_printed p n m sound fits = let all = printed p n m sound fits in (omega (arith, all.levels, cards_left-le_52 n.table sound.sound), all.replies, all.cards)
