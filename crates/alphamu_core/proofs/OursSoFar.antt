@@ -37,7 +37,7 @@ module _ (n : Layouts) (below : ℕ) where
         let one_more : suc below ≡ moves = ap (λ m. suc m) less ∙ sym (some_moves n moves goes_on) in
         subst (λ moves. IsFrontAt n moves best) one_more (record {
           front = steps.all_cards n below best.vectors sound (going_on n.table (is_open n moves goes_on)) ours
-            (subst (λ cards. IsFrontOf (WinsByCard bridge n below cards) best.vectors) (tried_all n below so.tried before mid all) so.won);
+              (subst (λ cards. IsFrontOf (WinsByCard bridge n below cards) best.vectors) (tried_all n below so.tried before mid all) so.won);
           width = so.width;
         })
 

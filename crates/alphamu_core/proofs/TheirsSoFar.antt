@@ -129,7 +129,7 @@ module _ (n : Layouts) (moves : ℕ) where
               tried = so.tried ++ card ∷ [];
               cost = tried_more n moves so.tried card rest before mid after here (subst (λ m. after + tree_size bridge m moves ≡ mid) is_child paid);
               won = steps.more_replies n moves so.tried card join.optimistic.vectors won.vectors more.optimistic.vectors sound theirs_next so.won (subst (λ m. IsFrontAt m moves won) is_child found).front
-                (subst (λ bits. IsReduced (meets join.optimistic.vectors (spreads bits won.vectors)) more.optimistic.vectors) (is_mask ∙ sym (mask-bridge n card)) front);
+                  (subst (λ bits. IsReduced (meets join.optimistic.vectors (spreads bits won.vectors)) more.optimistic.vectors) (is_mask ∙ sym (mask-bridge n card)) front);
               width = width ∙ so.width;
               covered = covered ∙ ap₂ either_of so.covered is_mask ∙ more_covered n so.tried card;
             }

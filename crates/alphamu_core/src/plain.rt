@@ -18,7 +18,13 @@ use win_vectors::WinVector;
 
 // The front of a node. It pays for each node of its tree.
 #[cycle(front)]
-pub fn node_front(alloc: Global, solver: &mut Solver, budget: &mut Budget, node: &Node, moves: u8) -> Result<Front, SearchFault>
+pub fn node_front(
+    alloc: Global,
+    solver: &mut Solver,
+    budget: &mut Budget,
+    node: &Node,
+    moves: u8,
+) -> Result<Front, SearchFault>
     ensures front { IfOk result (IsFrontAt node.now moves) }
     ensures costs { Costs (tree_size bridge node.now moves) budget.old budget.new result }
 {
@@ -34,7 +40,13 @@ pub fn node_front(alloc: Global, solver: &mut Solver, budget: &mut Budget, node:
 
 // The best of the fronts after each card of declarer's side, each with a move less. The node itself is paid for.
 #[cycle(front)]
-fn declarers_front(alloc: Global, solver: &mut Solver, budget: &mut Budget, node: &Node, moves: u8) -> Result<Front, SearchFault>
+fn declarers_front(
+    alloc: Global,
+    solver: &mut Solver,
+    budget: &mut Budget,
+    node: &Node,
+    moves: u8,
+) -> Result<Front, SearchFault>
     requires goes_on { stops bridge node.now moves ≡ false }
     requires ours { bridge.is_ours node.now ≡ true }
     ensures front { IfOk result (IsFrontAt node.now moves) }
@@ -52,7 +64,13 @@ fn declarers_front(alloc: Global, solver: &mut Solver, budget: &mut Budget, node
 
 // The best of all meets of what is won after each card of a defender. The node itself is paid for.
 #[cycle(front)]
-fn defenders_front(alloc: Global, solver: &mut Solver, budget: &mut Budget, node: &Node, moves: u8) -> Result<Front, SearchFault>
+fn defenders_front(
+    alloc: Global,
+    solver: &mut Solver,
+    budget: &mut Budget,
+    node: &Node,
+    moves: u8,
+) -> Result<Front, SearchFault>
     requires goes_on { stops bridge node.now moves ≡ false }
     requires theirs { bridge.is_ours node.now ≡ false }
     ensures front { IfOk result (IsFrontAt node.now moves) }
@@ -69,7 +87,12 @@ fn defenders_front(alloc: Global, solver: &mut Solver, budget: &mut Budget, node
 }
 
 // Where a strategy stops: double dummy's result in each layout.
-fn leaf_front(alloc: Global, solver: &mut Solver, node: &Node, moves: u8) -> Result<Front, AllocError>
+fn leaf_front(
+    alloc: Global,
+    solver: &mut Solver,
+    node: &Node,
+    moves: u8,
+) -> Result<Front, AllocError>
     requires { stops bridge node.now moves ≡ true }
     ensures { IfOk result (IsFrontAt node.now moves) }
 {

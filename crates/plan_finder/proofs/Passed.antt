@@ -52,11 +52,11 @@ module _ (n : Layouts) (moves : ℕ) (vector : Vector) where
           ⊎_elim
           (λ (before : Contains so.passed first). absurd (so.none first before h.4))
           (λ (here : Contains (card ∷ rest) first). ⊎_elim
-            (λ (same : card ≡ first). let at : card ≡ first = same in omega arith)
-            (λ (later : Contains rest first).
-              let after = tail-after card rest (subst (λ cards. IsCardSet cards) taken set) first (has_card-from_Contains rest first later) in
-              omega arith)
-            (Contains-cons card rest first here))
+          (λ (same : card ≡ first). let at : card ≡ first = same in omega arith)
+          (λ (later : Contains rest first).
+          let after = tail-after card rest (subst (λ cards. IsCardSet cards) taken set) first (has_card-from_Contains rest first later) in
+          omega arith)
+          (Contains-cons card rest first here))
           (Contains-append so.passed (card ∷ rest) first among)
 
       module _ {m : Layouts} (is_child : m ≡ child n card) where
@@ -88,10 +88,10 @@ module _ (n : Layouts) (moves : ℕ) (vector : Vector) where
             none = λ c among keeps. ⊎_elim
                 (λ (before : Contains so.passed c). so.none c before keeps)
                 (λ (last : Contains (card ∷ []) c). ⊎_elim
-                  (λ (same : card ≡ c).
-                    let at : Keeps bridge n (moves - 1) vector card = subst (λ c. Keeps bridge n (moves - 1) vector c) (sym same) keeps in
-                    not_here (subst (λ vectors. Covers vectors vector) (front_unique (CanWin bridge (child n card) (moves - 1)) at.0 found.vectors at.1 here.front) at.2))
-                  (λ (never : Contains [] c). Contains-nil c never)
-                  (Contains-cons card [] c last))
+                (λ (same : card ≡ c).
+                let at : Keeps bridge n (moves - 1) vector card = subst (λ c. Keeps bridge n (moves - 1) vector c) (sym same) keeps in
+                not_here (subst (λ vectors. Covers vectors vector) (front_unique (CanWin bridge (child n card) (moves - 1)) at.0 found.vectors at.1 here.front) at.2))
+                (λ (never : Contains [] c). Contains-nil c never)
+                (Contains-cons card [] c last))
                 (Contains-append so.passed (card ∷ []) c among);
           }

@@ -28,11 +28,15 @@ length-of_front n moves vector of = All-at (λ v. length v ≡ length (bridge.st
 
 -- it is the first above itself
 pub own_pick : (n : Layouts) (moves : ℕ) (vector : Vector) → IsOfFront n moves vector → IsPick bridge n moves vector vector
-own_pick n moves vector of = (of.0, of.1, record {
-  member = of.2;
-  above = Dominates-refl vector;
-  first = λ w among over. inl (sym (of.1.apart w vector among of.2 over));
-})
+own_pick n moves vector of = (
+  of.0,
+  of.1,
+  record {
+    member = of.2;
+    above = Dominates-refl vector;
+    first = λ w among over. inl (sym (of.1.apart w vector among of.2 over));
+  },
+)
 
 pick_unique : (n : Layouts) (moves : ℕ) (t u w : Vector) → IsPick bridge n moves t u → IsPick bridge n moves t w → u ≡ w
 pick_unique n moves t u w a b = first_above_unique a.0 t u w a.2 (subst (λ f. IsFirstAbove f t w) (front_unique (CanWin bridge n moves) b.0 a.0 b.1 a.1) b.2)

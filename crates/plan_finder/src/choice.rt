@@ -79,7 +79,16 @@ pub fn front_of<S: FrontStore>(
 {
     let mut budget = Budget::new(nodes);
     let alpha = Front::new(alloc, node.width());
-    match search(alloc, store, solver, &mut budget, node, moves, &alpha, CutRules::none())? {
+    match search(
+        alloc,
+        store,
+        solver,
+        &mut budget,
+        node,
+        moves,
+        &alpha,
+        CutRules::none(),
+    )? {
         Found::Exact(front) => Ok(front),
         Found::Below => unreachable!(),
     }

@@ -50,7 +50,15 @@ pub fn plan_for<S: FrontStore>(
     }
     prove!(target.width() == node.width());
     let first = first_choice(alloc, store, solver, node, moves, target, nodes)?;
-    match plan_below(alloc, store, solver, &first.child, moves - 1, &first.vector, nodes) {
+    match plan_below(
+        alloc,
+        store,
+        solver,
+        &first.child,
+        moves - 1,
+        &first.vector,
+        nodes,
+    ) {
         Ok(rest) => Ok(Plan::Play(first.card, Box::new(alloc, rest)?)),
         Err(fault) => Err(at_card(fault, first.card)),
     }

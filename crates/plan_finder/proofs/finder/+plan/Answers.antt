@@ -170,7 +170,7 @@ replies-cards-preserved g t c =
     let grown = g.met.S.FrontStore.grown_more in
     record {
       so = replied_more c.args.node.now c.args.moves c.args.vector.now c.cards.invariant.so c.in-Some.ensures.value c.in_ok-child.ensures.node _ c.in_ok-child.ensures.mask c.in_ok-front.front c.in_ok-front.ensures.front
-        c.restrict-part.ensures first _ _ refl c.in_ok-plan.ensures.plan c.in_ok-push.ensures.items;
+          c.restrict-part.ensures first _ _ refl c.in_ok-plan.ensures.plan c.in_ok-push.ensures.items;
       grown = grown c.args.store.now c.front_of.new.store c.plan_below.new.store (grown c.args.store.now c.cards.store c.front_of.new.store c.cards.invariant.grown c.in_ok-front.ensures.grown) c.in_ok-plan.ensures.grown;
     }
 
