@@ -1,5 +1,5 @@
 -- Each value that a contract speaks of as a tree of numbers, from which it can be told.
-use Rattle.std.specs.Prelude.{◌≡◌, ℕ, zero, suc, Bool, List, ⊤, refl}
+use Rattle.std.specs.Prelude.{◌≡◌, ℕ, Bool, List, refl}
 use Rattle.std.specs.Coded.{Coded, code_by, coded×, coded_ℕ, coded_bool, coded_list}
 use base.Stored.{Gv, gnil, gnum, gcons, num}
 use mathlib.Core.Path.{sym, ap, subst}

@@ -1,4 +1,3 @@
-use Rattle.std.proofs.Common.{◌++◌}
 use Rattle.am_report.proofs.Grown.{bit_more}
 use Rattle.am_report.proofs.solve.push_bits.Goals as goal
 

@@ -1,4 +1,4 @@
-use Rattle.std.proofs.Common.{◌++◌, rules}
+use Rattle.std.proofs.Common.{rules}
 use Rattle.am_report.proofs.Grown.{entry_more}
 use Rattle.am_report.proofs.solve.push_entries.Goals as goal
 
