@@ -8,7 +8,6 @@ use card_letters::card_text as letters_of;
 use card_sets::Card;
 use std::alloc::{AllocError, Global};
 
-#[tactic(auto, unfolding(crate::specs::Card::count_text))]
 // Appends `card`, the card, `count` and the number.
 pub(crate) fn push_count(
     text: &mut Text,
