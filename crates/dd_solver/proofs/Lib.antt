@@ -1,1 +1,2 @@
 pub mod Minimax
+pub mod Swap
