@@ -1,2 +1,4 @@
 pub mod Minimax
 pub mod Swap
+pub mod Mirror
+pub mod EqualCards
