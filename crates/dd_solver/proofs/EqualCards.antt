@@ -1,5 +1,5 @@
 -- Equal cards win the same.
-use Rattle.std.proofs.Common.{◌≡◌, ◌≢◌, ℕ, zero, suc, ◌+◌, ◌<◌, ◌≤◌, Bool, true, false, eqb, List, [], ◌∷◌, ◌++◌, length, map, refl, sym, ap, subst, ◌∙◌, inl, inr, arith}
+use Rattle.std.proofs.Common.{◌≡◌, ◌≢◌, ℕ, zero, suc, ◌+◌, ◌<◌, Bool, true, false, eqb, List, [], ◌∷◌, length, map, refl, sym, ap, ◌∙◌, inl, inr, arith}
 use Rattle.std.specs.List.{list_any, list_all}
 use Rattle.std.proofs.lemmas.Bool.{false≢true, eqb-false, cases_Bool, both_ways, or_parts, false_from_ne_true}
 use Rattle.std.proofs.lemmas.List.{length_push}
@@ -7,7 +7,7 @@ use Rattle.card_sets.specs.declared.seat.Seat.{Seat}
 use Rattle.card_sets.specs.declared.seat.Seat.TheVariants.{Declarer, Left, Dummy, Right}
 use Rattle.card_sets.specs.Cards.{suit_of}
 use Rattle.card_sets.specs.SetWords.{has_card}
-use Rattle.trick_rules.specs.Table.{Table, State, seat_after, to_play, IsState}
+use Rattle.trick_rules.specs.Table.{State, seat_after, to_play, IsState}
 use Rattle.trick_rules.specs.Play.{hand_of, legal_in, after, after_card, is_over, is_declarers, cards_left, makes}
 use Rattle.trick_rules.proofs.CardLists.{list_any-from_card, card_from_list_any, list_all-from_cards, cards_from_list_all}
 use Rattle.trick_rules.proofs.Soundness.{Apart-sym, held_low}
@@ -15,7 +15,7 @@ use Rattle.trick_rules.proofs.States.{after-IsState, legal_can_play, legal_cards
 use Rattle.trick_rules.proofs.PlayLaws.{makes_at_the_end, makes_by_some_card, makes_against_each_card, hands_are_apart, the_trick_is_not_held}
 use Rattle.dd_solver.specs.Equals.{AreEqual}
 use Rattle.dd_solver.proofs.Swap.{swap, swap-first, swap-second, swap-other, swap-swap, each_card}
-use Rattle.dd_solver.proofs.Mirror.{Renamed, Mirrored, Follows, NoneBetween, with_card, renamed_back, legal-mirrored, legal_back, turn-mirrored, mirrored-after, follows-after, follows-with_card, hand-gone, hand-after, absent-after, with_card-absent, trick-after-short, turn-put}
+use Rattle.dd_solver.proofs.Mirror.{Renamed, Mirrored, Follows, with_card, renamed_back, legal-mirrored, legal_back, turn-mirrored, mirrored-after, follows-after, follows-with_card, hand-gone, hand-after, absent-after, with_card-absent, trick-after-short, turn-put}
 
 -- ---- choices under new names
 
@@ -169,11 +169,11 @@ module _ (s : State) (ok : IsState s) (a b : ℕ) (eq : AreEqual s a b) where
     none = λ d low high. absent-after s.table a d (legal_can_play s ok a eq.low_legal) (eq.between d low high);
     one = trick-after-short s a (λ u. has_card u.trick.cards a ≡ true → has_card u.trick.cards b ≡ false) ok.sound (λ _ _. one_start) (λ _ h. absurd (false≢true h));
     later = trick-after-short s a
-      (λ u. has_card u.trick.cards a ≡ true → (k : ℕ) → length u.trick.cards + k < 4 → has_card (hand_of (after s a) (seat_after k (to_play u))) b ≡ false) ok.sound
-      (λ _ h k low. rw (turn-put s.table a k)
-      (hand-after s a (seat_after (suc k) (to_play s.table)) b
-      (hands_are_apart s (to_play s.table) (seat_after (suc k) (to_play s.table)) ok (turns_differ (to_play s.table) k (omega (arith, low, length_push s.table.trick.cards a))) b held_b)))
-      (λ _ h. absurd (false≢true h));
+        (λ u. has_card u.trick.cards a ≡ true → (k : ℕ) → length u.trick.cards + k < 4 → has_card (hand_of (after s a) (seat_after k (to_play u))) b ≡ false) ok.sound
+        (λ _ h k low. rw (turn-put s.table a k)
+        (hand-after s a (seat_after (suc k) (to_play s.table)) b
+        (hands_are_apart s (to_play s.table) (seat_after (suc k) (to_play s.table)) ok (turns_differ (to_play s.table) k (omega (arith, low, length_push s.table.trick.cards a))) b held_b)))
+        (λ _ h. absurd (false≢true h));
   }
 
   mirrored-start : b < 52 → Mirrored a b (after s a) (after s b)

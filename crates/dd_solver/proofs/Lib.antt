@@ -2,3 +2,4 @@ pub mod Minimax
 pub mod Swap
 pub mod Mirror
 pub mod EqualCards
+pub mod Kept

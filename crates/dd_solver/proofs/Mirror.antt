@@ -1,6 +1,6 @@
 -- Two states of which one becomes the other where two cards exchange their names.
-use Rattle.std.proofs.Common.{◌≡◌, ◌≢◌, ℕ, zero, suc, ◌+◌, ◌-◌, ◌<◌, ◌≤◌, Bool, true, false, not, ◌&&◌, ◌||◌, cond, eqb, List, [], ◌∷◌, ◌++◌, length, map, filter, get_or, All, AllPairs, refl, sym, ap, subst, ◌∙◌, inl, inr, arith}
-use Rattle.std.proofs.lemmas.Bool.{false≢true, eq-eqb, ne_eqb, cases_eq, cases_Bool, and_parts, or_cases, or_parts, or_from, or_left, or_right, cond_both, false_from_ne_true, eqb-true}
+use Rattle.std.proofs.Common.{◌≡◌, ◌≢◌, ℕ, zero, suc, ◌+◌, ◌<◌, Bool, true, false, not, ◌&&◌, ◌||◌, cond, eqb, List, [], ◌∷◌, ◌++◌, length, map, get_or, All, AllPairs, refl, sym, ap, subst, ◌∙◌, inl, inr, arith}
+use Rattle.std.proofs.lemmas.Bool.{false≢true, eq-eqb, ne_eqb, cases_eq, cases_Bool, or_cases, or_parts, or_from, or_left, or_right, cond_both}
 use Rattle.std.proofs.lemmas.List.{map-append, length-map, length_push}
 use Rattle.std.proofs.lemmas.List.Elements.{All-push}
 use Rattle.std.proofs.lemmas.List.Quantifiers.{all_pairs_push}
@@ -9,16 +9,15 @@ use Rattle.card_sets.specs.declared.seat.Seat.{Seat}
 use Rattle.card_sets.specs.declared.seat.Seat.TheVariants.{Declarer, Left, Dummy, Right}
 use Rattle.card_sets.specs.Cards.{suit_of, same_suit}
 use Rattle.card_sets.specs.SetWords.{has_card}
-use Rattle.card_sets.proofs.Sets.{has_card-filter, filter-none, fails-filter_nil, has_card-push}
-use Rattle.trick_rules.specs.declared.trump.Trump.{Trump}
-use Rattle.trick_rules.specs.Table.{Played, Table, State, seat_after, to_play, tricks_left, IsSound, IsState}
-use Rattle.trick_rules.specs.Play.{of_suit, or_whole, legal_cards, legal_in, hand_of, held_by, right_of, take_out, put_card, end_trick, after_card, after, winner_of, is_declarers, CanPlay}
-use Rattle.trick_rules.proofs.CardLists.{has_card-take_out, has_card-append, take_out-low, take_out-gone}
+use Rattle.card_sets.proofs.Sets.{has_card-filter}
+use Rattle.trick_rules.specs.Table.{Table, State, seat_after, to_play, tricks_left, IsSound, IsState}
+use Rattle.trick_rules.specs.Play.{of_suit, or_whole, legal_cards, legal_in, hand_of, held_by, take_out, put_card, end_trick, after_card, after, winner_of, CanPlay}
+use Rattle.trick_rules.proofs.CardLists.{has_card-take_out, has_card-append, take_out-gone}
 use Rattle.trick_rules.proofs.Turns.{seat_after_more}
 use Rattle.trick_rules.proofs.Soundness.{after_short, after_third, held_low, trick_held}
-use Rattle.trick_rules.proofs.States.{after_card-declarer, after_card-dummy, after_card-unseen, tricks_left-after, legal_cards-low, hand_held, legal_can_play}
+use Rattle.trick_rules.proofs.States.{after_card-declarer, after_card-dummy, after_card-unseen, tricks_left-after, legal_cards-low, legal_can_play}
 use Rattle.dd_solver.specs.Equals.{in_play}
-use Rattle.dd_solver.proofs.Swap.{swap, swap-first, swap-second, swap-other, swap-swap, swap-eqb, swap-suit, each_card, NotBetween, TrickOf, winner-swap}
+use Rattle.dd_solver.proofs.Swap.{swap, swap-swap, swap-eqb, swap-suit, TrickOf, winner-swap}
 
 -- one hand has the cards of the other under their new names
 abbrev pub Renamed : ℕ → ℕ → List ℕ → List ℕ → Type 0
@@ -157,10 +156,10 @@ absent-after t c d can out =
     let ours = or_parts (has_card t.declarer d) (has_card t.dummy d) hands.0 in
     or_from (has_card (after_card t c).declarer d || has_card (after_card t c).dummy d || has_card (after_card t c).unseen d) (has_card (after_card t c).trick.cards d)
     (or_from (has_card (after_card t c).declarer d || has_card (after_card t c).dummy d) (has_card (after_card t c).unseen d)
-      (or_from (has_card (after_card t c).declarer d) (has_card (after_card t c).dummy d)
-        (rw (after_card-declarer t c) (take_out-absent_still c t.declarer d ours.0))
-        (rw (after_card-dummy t c) (take_out-absent_still c t.dummy d ours.1)))
-      (rw (after_card-unseen t c) (take_out-absent_still c t.unseen d hands.1)))
+    (or_from (has_card (after_card t c).declarer d) (has_card (after_card t c).dummy d)
+    (rw (after_card-declarer t c) (take_out-absent_still c t.declarer d ours.0))
+    (rw (after_card-dummy t c) (take_out-absent_still c t.dummy d ours.1)))
+    (rw (after_card-unseen t c) (take_out-absent_still c t.unseen d hands.1)))
     (trick-after t c (λ cards. has_card cards d ≡ false) (with_card-absent t c d parts.1 (absent_other t c d can out)) refl)
 
 -- ---- a trick with its last card
@@ -321,8 +320,8 @@ module _ (a b : ℕ) (s : State) (ok : IsState s) (f : Follows a b s) (c : ℕ) 
     none = λ d low high. absent-after s.table c d (legal_can_play s ok c legal) (f.none d low high);
     one = trick-after-short s c (λ u. has_card u.trick.cards a ≡ true → has_card u.trick.cards b ≡ false) ok.sound (λ _. follows-with_card) (λ _ h. absurd (false≢true h));
     later = trick-after-short s c
-      (λ u. has_card u.trick.cards a ≡ true → (k : ℕ) → length u.trick.cards + k < 4 → has_card (hand_of (after s c) (seat_after k (to_play u))) b ≡ false) ok.sound
-      (λ _ h k low. rw (turn-put s.table c k)
-      (hand-after s c (seat_after (suc k) (to_play s.table)) b (f.later (before h) (suc k) (omega (arith, low, length_push s.table.trick.cards c)))))
-      (λ _ h. absurd (false≢true h));
+        (λ u. has_card u.trick.cards a ≡ true → (k : ℕ) → length u.trick.cards + k < 4 → has_card (hand_of (after s c) (seat_after k (to_play u))) b ≡ false) ok.sound
+        (λ _ h k low. rw (turn-put s.table c k)
+        (hand-after s c (seat_after (suc k) (to_play s.table)) b (f.later (before h) (suc k) (omega (arith, low, length_push s.table.trick.cards c)))))
+        (λ _ h. absurd (false≢true h));
   }

@@ -1,7 +1,6 @@
 -- Two cards that exchange their names, and who takes a trick then.
-use Rattle.std.proofs.Common.{◌≡◌, ◌≢◌, ℕ, zero, suc, ◌+◌, ◌-◌, ◌<◌, ◌≤◌, Bool, true, false, not, ◌&&◌, ◌||◌, cond, eqb, ltb, List, [], ◌∷◌, ◌++◌, length, map, get_or, All, AllPairs, refl, sym, ap, subst, ◌∙◌, inl, inr, arith}
-use Rattle.std.specs.Prelude.{◌⊎◌}
-use Rattle.std.proofs.lemmas.Bool.{false≢true, eqb-true, eq-eqb, ne_eqb, cases_eq, cases_lt, cases_Bool, lt-ltb, le-ltb, and_parts, false_from_ne_true}
+use Rattle.std.proofs.Common.{◌≡◌, ◌≢◌, ℕ, zero, suc, ◌<◌, ◌≤◌, Bool, true, false, not, ◌&&◌, ◌||◌, cond, eqb, ltb, List, [], ◌∷◌, length, map, get_or, All, AllPairs, refl, sym, ap, subst, ◌∙◌, inl, inr, arith}
+use Rattle.std.proofs.lemmas.Bool.{false≢true, eq-eqb, ne_eqb, cases_eq, cases_lt, cases_Bool, lt-ltb, le-ltb, and_parts, false_from_ne_true}
 use Rattle.std.proofs.lemmas.List.{get_or-map, length-map}
 use Rattle.card_sets.specs.declared.card.Suit.{Suit}
 use Rattle.card_sets.specs.declared.seat.Seat.{Seat}
@@ -10,7 +9,7 @@ use Rattle.card_sets.specs.SetWords.{has_card}
 use Rattle.card_sets.proofs.Suits.{card_of-suit_of, same_suit-true}
 use Rattle.trick_rules.specs.declared.trump.Trump.{Trump}
 use Rattle.trick_rules.specs.declared.trump.Trump.TheVariants.{NoTrump, Suit as Suited}
-use Rattle.trick_rules.specs.Table.{Played, seat_after}
+use Rattle.trick_rules.specs.Table.{seat_after}
 use Rattle.trick_rules.specs.Play.{is_trump, beats, IsWonBy, winner_of}
 use Rattle.trick_rules.proofs.CardLists.{or_true, first_has}
 use Rattle.trick_rules.proofs.TrickLemmas.{one_winner}
@@ -106,17 +105,17 @@ order-swap : (a b : ℕ) → a < b → (c d : ℕ) → NotBetween a b c → NotB
 order-swap a b order =
     each_card a b (λ c. (d : ℕ) → NotBetween a b c → NotBetween a b d → (c ≡ a → d ≡ b → ⊥) → (c ≡ b → d ≡ a → ⊥) → ltb (swap a b c) (swap a b d) ≡ ltb c d)
     (each_card a b (λ d. NotBetween a b a → NotBetween a b d → (a ≡ a → d ≡ b → ⊥) → (a ≡ b → d ≡ a → ⊥) → ltb (swap a b a) (swap a b d) ≡ ltb a d)
-      (λ m n x y. rw (swap-first a b) (le-ltb b b (omega arith) ∙ sym (le-ltb a a (omega arith))))
-      (λ m n x y. absurd (x refl refl))
-      (λ d e f m n x y. rw (swap-first a b, swap-other a b d e f) (same_ltb b d a d (λ h. omega arith) (λ h. omega (arith, n, e, f)))))
+    (λ m n x y. rw (swap-first a b) (le-ltb b b (omega arith) ∙ sym (le-ltb a a (omega arith))))
+    (λ m n x y. absurd (x refl refl))
+    (λ d e f m n x y. rw (swap-first a b, swap-other a b d e f) (same_ltb b d a d (λ h. omega arith) (λ h. omega (arith, n, e, f)))))
     (each_card a b (λ d. NotBetween a b b → NotBetween a b d → (b ≡ a → d ≡ b → ⊥) → (b ≡ b → d ≡ a → ⊥) → ltb (swap a b b) (swap a b d) ≡ ltb b d)
-      (λ m n x y. absurd (y refl refl))
-      (λ m n x y. rw (swap-second a b) (le-ltb a a (omega arith) ∙ sym (le-ltb b b (omega arith))))
-      (λ d e f m n x y. rw (swap-second a b, swap-other a b d e f) (same_ltb a d b d (λ h. omega (arith, n, e, f)) (λ h. omega arith))))
+    (λ m n x y. absurd (y refl refl))
+    (λ m n x y. rw (swap-second a b) (le-ltb a a (omega arith) ∙ sym (le-ltb b b (omega arith))))
+    (λ d e f m n x y. rw (swap-second a b, swap-other a b d e f) (same_ltb a d b d (λ h. omega (arith, n, e, f)) (λ h. omega arith))))
     (λ c e f. each_card a b (λ d. NotBetween a b c → NotBetween a b d → (c ≡ a → d ≡ b → ⊥) → (c ≡ b → d ≡ a → ⊥) → ltb (swap a b c) (swap a b d) ≡ ltb c d)
-      (λ m n x y. rw (swap-first a b, swap-other a b c e f) (same_ltb c b c a (below_low a b c m e) (λ h. omega arith)))
-      (λ m n x y. rw (swap-second a b, swap-other a b c e f) (same_ltb c a c b (λ h. omega arith) (below_low a b c m e)))
-      (λ d g h m n x y. rw (swap-other a b c e f, swap-other a b d g h) refl))
+    (λ m n x y. rw (swap-first a b, swap-other a b c e f) (same_ltb c b c a (below_low a b c m e) (λ h. omega arith)))
+    (λ m n x y. rw (swap-second a b, swap-other a b c e f) (same_ltb c a c b (λ h. omega arith) (below_low a b c m e)))
+    (λ d g h m n x y. rw (swap-other a b c e f, swap-other a b d g h) refl))
 
 -- ---- who takes a trick
 
@@ -171,9 +170,9 @@ beats-swap a b suit order low trump led c d one other m n x y =
   where
     swap_low : (a b : ℕ) → (ℕ → a < b) → b < 52 → (c : ℕ) → c < 52 → swap a b c < 52
     swap_low a b order low = each_card a b (λ c. c < 52 → swap a b c < 52)
-      (λ h. rw (swap-first a b) low)
-      (λ h. rw (swap-second a b) (let o = order 0 in omega arith))
-      (λ c e f h. rw (swap-other a b c e f) h)
+        (λ h. rw (swap-first a b) low)
+        (λ h. rw (swap-second a b) (let o = order 0 in omega arith))
+        (λ c e f h. rw (swap-other a b c e f) h)
 
 -- the cards of a trick, of which no two are the same, none lies between the two cards, and not both are among them
 pub record TrickOf (a b : ℕ) (cards : List ℕ) : Type 0 where

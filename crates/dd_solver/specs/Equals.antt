@@ -1,5 +1,5 @@
 -- Equal cards.
-use Rattle.std.specs.Prelude.{◌≡◌, ℕ, ◌<◌, Bool, true, false, ◌||◌}
+use Rattle.std.specs.Prelude.{◌≡◌, ℕ, ◌<◌, Bool, true, false, ◌||◌, List}
 use Rattle.card_sets.specs.Cards.{suit_of}
 use Rattle.card_sets.specs.SetWords.{has_card}
 use Rattle.trick_rules.specs.Table.{Table, State}
@@ -16,3 +16,10 @@ pub record AreEqual (s : State) (low high : ℕ) : Type 0 where
   pub suit : suit_of low ≡ suit_of high
   pub order : low < high
   pub between : (card : ℕ) → low < card → card < high → in_play s.table card ≡ false
+
+-- among these legal cards and these cards in play, the next card in play after a card is legal and of its suit
+pub record IsNextEqual (legal playing : List ℕ) (card next : ℕ) : Type 0 where
+  pub legal_too : has_card legal next ≡ true
+  pub suit : suit_of card ≡ suit_of next
+  pub order : card < next
+  pub between : (other : ℕ) → card < other → other < next → has_card playing other ≡ false

@@ -3,6 +3,8 @@
 //! Each solver here is promised to answer `makes`, whatever its ways.
 #![tactic(auto)]
 
+mod equals;
+pub mod laws;
 mod memo;
 mod order;
 mod plain;

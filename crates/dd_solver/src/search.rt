@@ -5,6 +5,7 @@ ghost use Rattle.trick_rules.specs.Table.{FitsLeft, IsState, to_play};
 ghost use Rattle.trick_rules.specs.Play.{decided, is_declarers, legal_in, makes};
 ghost use Rattle.dd_solver.specs.Choices.{choice_makes};
 
+use crate::equals::one_of_equals;
 use crate::memo::Memo;
 use crate::order::likely;
 use card_sets::CardSet;
@@ -39,7 +40,7 @@ fn search_cards(memo: &mut Memo, position: &Position, left: CardSet) -> bool
     ensures { result ≡ makes (record { table = position.now; left = left }) }
 {
     let ours = position.is_ours();
-    let cards = position.legal_in(left);
+    let cards = one_of_equals(position, left);
     let early = likely(position, left, cards);
     if best_of(memo, position, left, early, ours) == ours {
         return ours;

@@ -1,8 +1,8 @@
-use Rattle.std.proofs.Common.{◌≡◌, not, refl, subst, ap, sym, ◌∙◌, arith}
+use Rattle.std.proofs.Common.{◌≡◌, Bool, ℕ, None, List, not, refl, subst, ap, sym, ◌∙◌, arith}
 use Rattle.card_sets.specs.SetWords.{has_card}
 use Rattle.card_sets.proofs.Sets.{IsSubset-filter}
-use Rattle.trick_rules.specs.Table.{State, IsSound, IsState}
-use Rattle.trick_rules.specs.Play.{after, legal_in, cards_left, makes}
+use Rattle.trick_rules.specs.Table.{State, to_play, IsSound, IsState}
+use Rattle.trick_rules.specs.Play.{after, decided, is_declarers, legal_in, cards_left, makes}
 use Rattle.trick_rules.proofs.PlayLaws.{makes_where_decided, a_legal_card_can_be_played, a_legal_card_leads_to_a_state, a_card_leaves_one_fewer}
 use Rattle.trick_rules.proofs.Decisions.{open-decided}
 use Rattle.dd_solver.specs.Choices.{choice_makes}
@@ -58,29 +58,36 @@ best_of-returns t c =
     let none = c.in_default.ensures in
     sym (c.loop-card.invariant.answer ∙ ap (choice_makes c.args.ours s) none.value.0 ∙ choice-none s c.args.ours)
 
+-- the answer, by the cards that are tried
+answer_by : (s : State) (ours : Bool) (cards : List ℕ) → IsState s → decided s.table ≡ None → is_declarers (to_play s.table) ≡ ours → choice_makes ours s cards ≡ choice_makes ours s (legal_in s) → makes s ≡ choice_makes ours s cards
+answer_by s ours cards ok open' turn same = choice-legal s ours ok (open-decided s.table open') turn ∙ sym same
+
 pub search_cards-returns-then-best_of-ours : goal.search_cards-returns-then-best_of-ours
 search_cards-returns-then-best_of-ours t c =
     let s : State = record { table = c.args.position.now; left = c.args.left } in
     let ours = c.is_ours-ours.result in
+    let cards = c.one_of_equals-cards.result in
     let early : choice_makes ours s c.likely-early.result ≡ ours = sym c.best_of.ensures ∙ same_answer c.best_of.result ours c.if-best_of-ours.true in
-    let all : choice_makes ours s c.legal_in-cards.result ≡ ours = choice-more s ours c.likely-early.result c.legal_in-cards.result c.likely-early.ensures early in
-    sym (choice-legal s ours c.requires.state (open-decided s.table c.requires.open) (sym c.is_ours-ours.ensures) ∙ (rw c.legal_in-cards.ensures at all))
+    sym (answer_by s ours cards c.requires.state c.requires.open (sym c.is_ours-ours.ensures) (c.one_of_equals-cards.ensures.answer ours)
+    ∙ choice-more s ours c.likely-early.result cards c.likely-early.ensures early)
+
+pub search_cards-best_of-requires : goal.search_cards-best_of-requires
+search_cards-best_of-requires t c = (omega (arith, c.decreases), (c.requires.state, λ card h. c.one_of_equals-cards.ensures.legal card (c.likely-early.ensures card h)))
 
 pub search_cards-best_of-requires-2 : goal.search_cards-best_of-requires-2
-search_cards-best_of-requires-2 t c =
-    let s : State = record { table = c.args.position.now; left = c.args.left } in (
-      omega (arith, c.decreases),
-      (
-        c.requires.state,
-        λ card h. rw c.legal_in-cards.ensures at (IsSubset-filter (λ d. not (has_card c.likely-early.result d)) c.legal_in-cards.result card (rw c.minus.ensures.value at h)),
-      ),
-    )
+search_cards-best_of-requires-2 t c = (
+  omega (arith, c.decreases),
+  (
+    c.requires.state,
+    λ card h. c.one_of_equals-cards.ensures.legal card (IsSubset-filter (λ d. not (has_card c.likely-early.result d)) c.one_of_equals-cards.result card (rw c.minus.ensures.value at h)),
+  ),
+)
 
 pub search_cards-returns : goal.search_cards-returns
 search_cards-returns t c =
     let s : State = record { table = c.args.position.now; left = c.args.left } in
     let ours = c.is_ours-ours.result in
+    let cards = c.one_of_equals-cards.result in
     let early : choice_makes ours s c.likely-early.result ≡ not ours = sym c.best_of.ensures ∙ other_answer c.best_of.result ours c.if-best_of-ours.false in
-    let others : choice_makes ours s c.legal_in-cards.result ≡ c.best_of-2.result =
-    choice-others s ours c.likely-early.result c.legal_in-cards.result early ∙ ap (choice_makes ours s) (sym c.minus.ensures.value) ∙ sym c.best_of-2.ensures in
-    sym (choice-legal s ours c.requires.state (open-decided s.table c.requires.open) (sym c.is_ours-ours.ensures) ∙ (rw c.legal_in-cards.ensures at others))
+    sym (answer_by s ours cards c.requires.state c.requires.open (sym c.is_ours-ours.ensures) (c.one_of_equals-cards.ensures.answer ours)
+    ∙ choice-others s ours c.likely-early.result cards early ∙ ap (choice_makes ours s) (sym c.minus.ensures.value) ∙ sym c.best_of-2.ensures)
