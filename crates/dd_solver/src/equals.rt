@@ -50,6 +50,9 @@ pub(crate) fn one_of_equals(position: &Position, left: CardSet) -> CardSet
         ≡ choice_makes ours (record { table = position.now; left = left }) (legal_in (record { table = position.now; left = left })) }
 {
     let legal = position.legal_in(left);
+    if legal.count() < 2 {
+        return legal;
+    }
     let playing = cards_in_play(position);
     let mut kept = legal;
     let mut rest = legal;

@@ -12,7 +12,7 @@ use trick_rules::{Position, Trump};
 const MOST_ENTRIES: usize = 262_144;
 
 /// The entries of the first table. Each later table has four times as many.
-const FIRST_ENTRIES: usize = 4_096;
+const FIRST_ENTRIES: usize = 256;
 
 /// A position between two tricks, and Left's hand.
 #[derive(Clone, Copy, Debug)]

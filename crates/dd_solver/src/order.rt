@@ -132,10 +132,14 @@ fn winning_plays(strain: Strain, ahead: &Ahead, best: Card, cards: CardSet) -> C
     if winning.is_empty() { beating } else { winning }
 }
 
-/// The cards to try first: those that most often win the trick. Where the partner wins it, there are none.
+/// The cards to try first: those that most often win the trick. Where the partner wins it there are none, unless there is
+/// no choice.
 pub(crate) fn likely(position: &Position, left: CardSet, cards: CardSet) -> CardSet
     ensures { IsSubset result cards }
 {
+    if cards.count() < 2 {
+        return cards;
+    }
     let ahead = Ahead::of(position, left);
     let Some(led) = position.trick.suit_led() else {
         return cards.both(winning_leads(position.trump, &ahead, cards));
