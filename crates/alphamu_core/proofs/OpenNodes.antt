@@ -1,5 +1,5 @@
 -- Nodes where play goes on.
-use Rattle.std.proofs.Common.{◌≡◌, ◌∙◌, ◌+◌, length, ◌-◌, ◌<◌, ◌*◌, ℕ, zero, suc, true, false, List, Contains, sum_by, ap, subst, true≢false, arith}
+use Rattle.std.proofs.Common.{◌≡◌, ◌∙◌, ◌+◌, length, ◌-◌, ◌<◌, ◌*◌, ℕ, zero, suc, true, false, Contains, sum_by, ap, true≢false, arith}
 use Rattle.card_sets.specs.SetWords.{has_card}
 use Rattle.win_vectors.specs.Vectors.{ones_of}
 use Rattle.trick_rules.specs.Play.{cards_left}

@@ -1,6 +1,6 @@
 -- The first of declarer's cards, and what they win.
-use Rattle.std.proofs.Common.{◌≡◌, ◌∙◌, ◌+◌, ◌-◌, ◌<◌, ◌*◌, ℕ, suc, true, false, List, [], ◌∷◌, ◌++◌, length, Contains, refl, sym, ap, subst}
-use Rattle.win_vectors.specs.Fronts.{Vector, IsFrontOf, IsReduced}
+use Rattle.std.proofs.Common.{◌≡◌, ◌∙◌, ◌+◌, ◌-◌, ◌<◌, ◌*◌, ℕ, suc, true, false, List, [], ◌∷◌, ◌++◌, length, Contains, sym, ap, subst}
+use Rattle.win_vectors.specs.Fronts.{IsFrontOf, IsReduced}
 use Rattle.pareto_fronts.specs.FrontValue.{FrontValue}
 use Rattle.trick_rules.specs.Play.{cards_left}
 use Rattle.trick_rules.specs.Nodes.{Layouts, IsNode, choices, child}
@@ -11,7 +11,7 @@ use Rattle.strategy_tree.proofs.CardLists.{has_card-from_Contains}
 use Rattle.strategy_tree.proofs.Rules.{going_on}
 use Rattle.strategy_tree.proofs.BridgeLaws.{steps}
 use Rattle.front_table.specs.Proven.{IsFrontAt}
-use Rattle.alphamu_core.proofs.Tried.{HasTried, tried_none, tried_choice, tried_more, tried_all, size_after}
+use Rattle.alphamu_core.proofs.Tried.{HasTried, tried_none, tried_choice, tried_more, tried_all}
 use Rattle.alphamu_core.proofs.OpenNodes.{some_moves, is_open, fewer_cards, length-our_child}
 
 -- the cards that were tried, each with so many moves after it, and the front of what they win

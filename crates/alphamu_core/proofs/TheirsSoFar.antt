@@ -8,10 +8,9 @@ use Rattle.win_vectors.specs.Fronts.{Vector, IsFrontOf, IsReduced, meets}
 use Rattle.pareto_fronts.specs.FrontValue.{FrontValue}
 use Rattle.front_join.specs.JoinValue.{JoinValue}
 use Rattle.trick_rules.specs.Table.{State}
-use Rattle.trick_rules.specs.Play.{legal_in, cards_left}
+use Rattle.trick_rules.specs.Play.{cards_left}
 use Rattle.trick_rules.specs.Nodes.{Layouts, IsNode, states, choices, child, child_mask, is_legal}
 use Rattle.trick_rules.proofs.PlayLaws as play
-use Rattle.strategy_games.specs.Games.{mask}
 use Rattle.strategy_games.specs.Plans.{stops, IsFront, tree_size}
 use Rattle.strategy_games.specs.Joins.{spreads, WinsByReply}
 use Rattle.strategy_games.proofs.Lists.{Contains-here, Contains-there}

@@ -1,6 +1,7 @@
 //! Random endings, the same as those of the program in C++.
 use card_sets::{Card, CardSet, Seat, Suit};
-use dd_solver::makes_plain;
+use dd_solver::{Solver, makes_plain};
+use std::alloc::Global;
 use trick_rules::{Position, Trump};
 
 /// Numbers that follow one another without an order that shows.
@@ -50,7 +51,7 @@ impl Draws {
     }
 
     // Whether declarer's side makes an ending of so many tricks.
-    fn makes_next(&mut self, tricks: u8) -> bool {
+    fn makes_next(&mut self, alloc: Global, tricks: u8, plain: bool) -> bool {
         let mut used = CardSet::empty();
         let declarer = self.hand(tricks, &mut used);
         let left = self.hand(tricks, &mut used);
@@ -60,18 +61,18 @@ impl Draws {
         let need = 1 + (self.next(u64::from(tricks)) % 13) as u8;
         let unseen = left.either(right);
         match Position::between_tricks(declarer, dummy, unseen, Seat::Declarer, need, trump) {
-            Some(position) if position.fits(left) => makes_plain(&position, left),
+            Some(position) if position.fits(left) => if plain { makes_plain(&position, left) } else { Solver::new(alloc).makes(&position, left) },
             _ => false,
         }
     }
 }
 
 /// How many of so many endings are made.
-pub fn made_of(tricks: u8, endings: u64) -> u64 {
+pub fn made_of(alloc: Global, tricks: u8, endings: u64, plain: bool) -> u64 {
     let mut draws = Draws { state: 20_191_118 };
     let mut made: u64 = 0;
     for _ in 0..endings {
-        if draws.makes_next(tricks) {
+        if draws.makes_next(alloc, tricks, plain) {
             made = made.saturating_add(1);
         }
     }

@@ -10,14 +10,14 @@ use std::env;
 
 /// The arguments: how many tricks an ending has, and how many endings.
 fn main(rt: HostRuntime) -> anyhow::Result<()> {
-    let mut numbers = [0u64; 2];
+    let mut numbers = [0u64; 3];
     for (place, word) in env::args(&rt)?.skip(1).enumerate() {
-        if place < 2 {
+        if place < 3 {
             numbers[place] = word.as_str().parse()?;
         }
     }
     let tricks = numbers[0].min(13) as u8;
-    let made = made_of(tricks, numbers[1]);
+    let made = made_of(rt.alloc(), tricks, numbers[1], numbers[2] == 1);
     println!(rt; "{made}")?;
     Ok(())
 }

@@ -67,3 +67,6 @@ pub fn cut(upper: &Front, alpha: &Front) -> bool
 {
     upper.covered_by(alpha)
 }
+
+#[cfg(test)]
+mod tests;

@@ -1,1 +1,5 @@
 pub mod Minimax
+pub mod Swap
+pub mod Mirror
+pub mod EqualCards
+pub mod Kept

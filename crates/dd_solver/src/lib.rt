@@ -3,7 +3,12 @@
 //! Each solver here is promised to answer `makes`, whatever its ways.
 #![tactic(auto)]
 
+mod equals;
+pub mod laws;
+mod memo;
+mod order;
 mod plain;
+mod search;
 mod solver;
 #[cfg(test)]
 mod tests;

@@ -3,19 +3,24 @@ ghost use Rattle.std.specs.Prelude.{◌≡◌};
 ghost use Rattle.trick_rules.specs.Table.{FitsLeft};
 ghost use Rattle.trick_rules.specs.Play.{makes as makes_of};
 
-use crate::plain::makes_plain;
+use crate::memo::Memo;
+use crate::search::search;
 use card_sets::CardSet;
 use std::alloc::Global;
 use trick_rules::Position;
 
 /// Answers double dummy. What it remembers of earlier questions changes no answer.
 #[derive(Debug, Drop)]
-pub struct Solver {}
+pub struct Solver {
+    memo: Memo,
+}
 
 impl Solver {
     /// A solver that remembers nothing yet. It takes no memory.
-    pub fn new(_alloc: Global) -> Solver {
-        Solver {}
+    pub fn new(alloc: Global) -> Solver {
+        Solver {
+            memo: Memo::new(alloc),
+        }
     }
 
     /// Whether declarer's side takes the need where Left holds these cards, with all cards seen by all.
@@ -25,6 +30,6 @@ impl Solver {
         requires { FitsLeft position.now left }
         ensures { result ≡ makes_of (record { table = position.now; left = left }) }
     {
-        makes_plain(position, left)
+        search(&mut self.memo, position, left)
     }
 }

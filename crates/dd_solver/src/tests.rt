@@ -1,4 +1,4 @@
-//! Endings whose answers were worked out apart from the program.
+//! Endings whose answers were worked out apart from the program, and random endings on which the two solvers agree.
 use crate::{Solver, makes_plain};
 use card_sets::{Card, CardSet, Rank, Seat, Suit};
 use std::process::Abort;
@@ -205,4 +205,97 @@ fn one_trick_in_both_layouts(rt: HostRuntime) {
         };
         assert!(rt; takes(&rt, &mut solver, &ending, 1));
     }
+}
+
+/// Numbers that follow one another without an order that shows.
+#[derive(Drop)]
+struct Draws {
+    state: u64,
+}
+
+impl Draws {
+    // A number below `bound`, which isn't 0.
+    fn below(&mut self, bound: u8) -> u8 {
+        self.state = self
+            .state
+            .wrapping_mul(6_364_136_223_846_793_005)
+            .wrapping_add(1_442_695_040_888_963_407);
+        ((self.state >> 33) % 251) as u8 % bound.max(1)
+    }
+
+    fn trump(&mut self) -> Trump {
+        match self.below(5) {
+            0 => Trump::Suit(Suit::Spades),
+            1 => Trump::Suit(Suit::Hearts),
+            2 => Trump::Suit(Suit::Diamonds),
+            3 => Trump::Suit(Suit::Clubs),
+            _ => Trump::NoTrump,
+        }
+    }
+
+    fn leader(&mut self) -> Seat {
+        match self.below(4) {
+            0 => Seat::Declarer,
+            1 => Seat::Left,
+            2 => Seat::Dummy,
+            _ => Seat::Right,
+        }
+    }
+
+    // So many cards of the rest of the pack, which are taken out of it.
+    fn hand(&mut self, size: u8, rest: &mut CardSet) -> CardSet {
+        let mut hand = CardSet::empty();
+        for _ in 0..size {
+            let place = self.below(rest.count());
+            let mut cards = *rest;
+            for _ in 0..place {
+                let _ = cards.pop_first();
+            }
+            if let Some(card) = cards.first() {
+                *rest = rest.without(card);
+                hand = hand.with(card);
+            }
+        }
+        hand
+    }
+}
+
+/// Whether the solver answers what plain minimax does on an ending of 2 to 4 tricks, and what that is.
+fn agreed(rt: &impl Abort, solver: &mut Solver, draws: &mut Draws) -> bool {
+    let tricks = draws.below(3).saturating_add(2);
+    let mut rest = CardSet::pack();
+    let declarer = draws.hand(tricks, &mut rest);
+    let left = draws.hand(tricks, &mut rest);
+    let dummy = draws.hand(tricks, &mut rest);
+    let right = draws.hand(tricks, &mut rest);
+    let need = draws.below(tricks).saturating_add(1);
+    let leader = draws.leader();
+    let start = Position::between_tricks(
+        declarer,
+        dummy,
+        left.either(right),
+        leader,
+        need,
+        draws.trump(),
+    );
+    let position = start.expect(rt, "the ending is sound");
+    assert!(rt; position.fits(left));
+    let made = solver.makes(&position, left);
+    assert_eq!(rt; makes_plain(&position, left), made);
+    made
+}
+
+/// One solver is asked about 2,100 endings, so that it meets what it remembers of earlier ones.
+#[test]
+fn as_plain_minimax_on_random_endings(rt: HostRuntime) {
+    let mut solver = Solver::new(rt.alloc());
+    let mut draws = Draws { state: 20_191_118 };
+    let mut made: u32 = 0;
+    for _ in 0..2_100 {
+        if agreed(&rt, &mut solver, &mut draws) {
+            made = made.saturating_add(1);
+        }
+    }
+    assert!(rt; made > 500);
+    assert!(rt; made < 1_600);
 }

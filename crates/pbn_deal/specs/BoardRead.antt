@@ -28,6 +28,7 @@ line_named name game = unwrap_or (option_map (λ tag. tag.line) (tag_named name 
 abbrev pub together : List ℕ → List ℕ → List ℕ
 together left right = cards_where (λ card. has_card left card || has_card right card)
 
+-- the cards of two hands together, where both are shown
 abbrev pub both_hands : Option (List ℕ) → Option (List ℕ) → Option (List ℕ)
 both_hands None right = None
 both_hands (Some left) None = None
@@ -47,11 +48,13 @@ dealt_of game deal contract declarer (Some own) (Some dummy) =
 dealt_of game deal contract declarer (Some own) None = Err (Fault (line_named (codes "Deal") game) HandHidden)
 dealt_of game deal contract declarer None dummy = Err (Fault (line_named (codes "Deal") game) HandHidden)
 
+-- the board before the first card, where declarer is known
 unfoldable pub dealt_in : GameValue → DealValue → Contract → Compass → Result BoardValue BoardRefusal
 dealt_in game deal contract declarer = dealt_of game deal contract declarer (hand_at deal declarer) (hand_at deal (compass_of declarer Dummy))
 
 -- ---- the play
 
+-- a value names this place
 abbrev pub is_place : Compass → Option Compass → Bool
 is_place place None = false
 is_place place (Some other) = same_place other place
@@ -64,9 +67,11 @@ is_led_wrongly board tag entries = list_any (λ e. is_some e.card) entries && no
 abbrev pub section_played : BoardValue → List Entry → Result (List Played) BoardRefusal
 section_played board entries = rows_played board.trump board.leader (tricks_of board) (first_course board) (rows_of entries)
 
+-- the play of a board by these entries, where the tag names the seat that leads first
 abbrev pub entries_played : BoardValue → TagValue → List Entry → Result (List Played) BoardRefusal
 entries_played board tag entries = if is_led_wrongly board tag entries then Err (Fault tag.line PlayLeader) else section_played board entries
 
+-- the play that the Play tag tells; none where there is no such tag
 abbrev pub play_of : BoardValue → Option TagValue → Result (List Played) BoardRefusal
 play_of board None = Ok []
 play_of board (Some tag) = then_read (section_read tag.tokens) (entries_played board tag)
@@ -77,6 +82,7 @@ plays_in game board = play_of board (tag_named (codes "Play") game)
 
 -- ---- the whole
 
+-- the fault of an inherited value where there is one, and else what was read
 abbrev pub unless_inherited : Option ℕ → Result BoardValue BoardRefusal → Result BoardValue BoardRefusal
 unless_inherited None board = board
 unless_inherited (Some line) board = Err (Fault line Inherited)

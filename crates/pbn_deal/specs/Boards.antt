@@ -78,6 +78,7 @@ declarer_without Left card hand = hand
 declarer_without Dummy card hand = hand
 declarer_without Right card hand = hand
 
+-- the same for dummy's hand
 abbrev pub dummy_without : Seat → ℕ → List ℕ → List ℕ
 dummy_without Declarer card hand = hand
 dummy_without Left card hand = hand
@@ -121,6 +122,7 @@ trick_after trump trick (play ∷ plays) = trick_after trump (next_trick trump t
 abbrev pub first_trick : BoardValue → Trick
 first_trick b = record { leader = b.leader; cards = [] }
 
+-- the hands of declarer's side and the trick before the first card
 abbrev pub first_course : BoardValue → Course
 first_course b = record { declarer = b.declarer_hand; dummy = b.dummy_hand; trick = first_trick b }
 

@@ -13,6 +13,7 @@ is_hidden [] = false
 is_hidden (byte ∷ []) = byte == 45
 is_hidden (first ∷ second ∷ rest) = false
 
+-- a full stop
 abbrev pub is_full_stop : ℕ → Bool
 is_full_stop byte = byte == 46
 

@@ -30,6 +30,7 @@ card_of_token [] = None
 card_of_token (suit ∷ []) = None
 card_of_token (suit ∷ rank ∷ suffix) = if list_all is_suffix suffix then card_read suit rank else None
 
+-- a card, or none of what a token may say
 abbrev pub card_mark : Option ℕ → Mark
 card_mark None = Other
 card_mark (Some card) = Card card

@@ -68,10 +68,12 @@ card_fault tricks course Left card = defender_fault tricks
 card_fault tricks course Dummy card = hand_fault course.trick.cards course.dummy card
 card_fault tricks course Right card = defender_fault tricks
 
+-- no more plays where there is no card yet, and else what is read with it
 abbrev pub if_card : Option ℕ → (ℕ → Result (List Played) BoardRefusal) → Result (List Played) BoardRefusal
 if_card None read = Ok []
 if_card (Some card) read = read card
 
+-- a fault at this line where there is one, and else the plays
 abbrev pub unless_fault : Option BoardFault → ℕ → Result (List Played) BoardRefusal → Result (List Played) BoardRefusal
 unless_fault None line plays = plays
 unless_fault (Some fault) line plays = Err (Fault line fault)
@@ -84,6 +86,7 @@ row_played trump tricks course (entry ∷ rest) =
     (λ card. unless_fault (card_fault tricks course (turn_in course.trick) card) entry.line
     (prepend (record { seat = turn_in course.trick; card = card } ∷ []) (row_played trump tricks (next_course trump course card) rest)))
 
+-- a gap at this line where there is one, and else the plays
 abbrev pub unless_gap : Option ℕ → Result (List Played) BoardRefusal → Result (List Played) BoardRefusal
 unless_gap None plays = plays
 unless_gap (Some line) plays = Err (Fault line PlayGap)

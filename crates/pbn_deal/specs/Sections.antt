@@ -10,6 +10,7 @@ use Rattle.pbn_deal.specs.declared.mark.Mark.TheVariants.{End, Plus, Gap, Note, 
 use Rattle.pbn_deal.specs.declared.section.Entry.{Entry}
 use Rattle.pbn_deal.specs.Marks.{mark_of}
 
+-- a star, which ends the section
 abbrev pub is_end : Mark → Bool
 is_end End = true
 is_end Plus = false
@@ -18,6 +19,7 @@ is_end Note = false
 is_end (Card card) = false
 is_end Other = false
 
+-- a plus sign
 abbrev pub is_plus : Mark → Bool
 is_plus End = false
 is_plus Plus = true
@@ -26,6 +28,7 @@ is_plus Note = false
 is_plus (Card card) = false
 is_plus Other = false
 
+-- a note, which is skipped
 abbrev pub is_skipped : Mark → Bool
 is_skipped End = false
 is_skipped Plus = false
@@ -34,6 +37,7 @@ is_skipped Note = true
 is_skipped (Card card) = false
 is_skipped Other = false
 
+-- neither a card nor anything else that may stand in the section
 abbrev pub is_other : Mark → Bool
 is_other End = false
 is_other Plus = false
@@ -42,6 +46,7 @@ is_other Note = false
 is_other (Card card) = false
 is_other Other = true
 
+-- the card that a token says
 abbrev pub card_in : Mark → Option ℕ
 card_in End = None
 card_in Plus = None
@@ -72,6 +77,7 @@ section_of tokens = before_last_plus (filter (λ token. not (is_skipped (mark_of
 abbrev pub entry_of : TokenValue → Entry
 entry_of token = record { card = card_in (mark_of token.text); line = token.line }
 
+-- a token that is no card where there is one, and else the entries
 abbrev pub unless_other : Option TokenValue → List Entry → Result (List Entry) BoardRefusal
 unless_other None entries = Ok entries
 unless_other (Some token) entries = Err (Fault token.line PlayCard)

@@ -48,6 +48,7 @@ abbrev pub is_inherited : List ℕ → Bool
 is_inherited [] = false
 is_inherited (byte ∷ rest) = byte == 35
 
+-- the line of a tag whose value is inherited
 abbrev pub line_if_inherited : Option TagValue → Option ℕ
 line_if_inherited None = None
 line_if_inherited (Some tag) = if is_inherited tag.value then Some tag.line else None
@@ -59,6 +60,7 @@ inherited_line game =
 
 -- ---- the deal
 
+-- the hands that were read, or the fault of the deal at this line
 abbrev pub deal_at : ℕ → Result DealValue DealFault → Result DealValue BoardRefusal
 deal_at line (Ok deal) = Ok deal
 deal_at line (Err fault) = Err (Fault line (Deal fault))
@@ -83,6 +85,7 @@ past_letter letter (byte ∷ rest) = if is_letter letter byte then rest else byt
 abbrev pub is_risk : List ℕ → Bool
 is_risk text = length (after_blanks (past_letter 88 (past_letter 88 text))) == 0
 
+-- these trumps, where nothing follows but X, XX and blanks
 abbrev pub if_risk : Trump → List ℕ → Option Trump
 if_risk trump text = if is_risk text then Some trump else None
 

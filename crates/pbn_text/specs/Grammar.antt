@@ -24,6 +24,7 @@ tags_of (tag name value line ∷ rest) = record { name = name; value = value; li
 tags_of (token t ∷ rest) = tags_of rest
 tags_of (fault line kind ∷ rest) = tags_of rest
 
+-- a line of blanks that ends a game
 abbrev pub is_game_end : Piece → Bool
 is_game_end passed = false
 is_game_end game_end = true
@@ -35,6 +36,7 @@ is_game_end (fault line kind) = false
 abbrev pub game_of : List Piece → GameValue
 game_of group = record { tags = tags_of group }
 
+-- a game has a tag pair at least
 abbrev pub has_tag : GameValue → Bool
 has_tag game = nat_lt 0 (length game.tags)
 
@@ -51,6 +53,7 @@ first_fault has_tag_before (fault line kind ∷ rest) = Some (line, kind)
 unfoldable pub games_in : List Piece → List GameValue
 games_in text = filter has_tag (map game_of (slice_split is_game_end text))
 
+-- the first fault where there is one, and else what was read
 abbrev pub or_fault : {A : Type 0} → Option (ℕ × Syntax) → A → Result A (ℕ × Syntax)
 or_fault None value = Ok value
 or_fault (Some found) value = Err found
@@ -72,9 +75,11 @@ without_mark (a ∷ []) = a ∷ []
 without_mark (a ∷ b ∷ []) = a ∷ b ∷ []
 without_mark (a ∷ b ∷ c ∷ rest) = if a == 239 && b == 187 && c == 191 then rest else a ∷ b ∷ c ∷ rest
 
+-- the games of a text, or its first fault with its line
 unfoldable pub text_read : List ℕ → Result (List GameValue) (ℕ × Syntax)
 text_read text = let all = pieces true 1 0 text in or_fault (first_fault false all) (games_in all)
 
+-- a fault that was found before, and else what was read
 abbrev pub unless_fault : Option (ℕ × Syntax) → Result (List GameValue) (ℕ × Syntax) → Result (List GameValue) (ℕ × Syntax)
 unless_fault None read = read
 unless_fault (Some found) read = Err found

@@ -7,6 +7,7 @@ use Rattle.pbn_text.specs.Games.{TokenValue}
 use Rattle.pbn_text.specs.Blanks.{is_blank, after_blanks}
 use Rattle.pbn_text.specs.Strings.{string_len, unescaped}
 
+-- a line feed
 abbrev pub is_line_end : ℕ → Bool
 is_line_end byte = byte == 10
 
@@ -39,6 +40,7 @@ pub record Ahead : Type 0 where
   pub piece : Piece
   pub rest : List ℕ
 
+-- a piece, and what follows it
 abbrev pub ahead_of : Piece → List ℕ → Ahead
 ahead_of piece rest = record { piece = piece; rest = rest }
 
@@ -67,6 +69,7 @@ named_tag line [] text = ahead_of (fault line BadTag) []
 named_tag line (byte ∷ bytes) [] = ahead_of (fault line BadTag) []
 named_tag line (byte ∷ bytes) (quote ∷ text) = if quote == 34 then quoted_tag line (byte ∷ bytes) text (string_len text) else ahead_of (fault line BadTag) []
 
+-- a byte that stands in no name
 abbrev pub ends_name : ℕ → Bool
 ends_name byte = not (is_name_byte byte)
 

@@ -69,6 +69,7 @@ games_with games tags None (token found ∷ rest) = Err (found.line, StrayToken)
 games_with games tags (Some pair) (token found ∷ rest) = games_with games tags (Some (with_token pair found)) rest
 games_with games tags last (fault line kind ∷ rest) = Err (line, kind)
 
+-- the games that a collector comes to, where these pieces are left
 abbrev pub games_after : Collector → List Piece → Result (List GameValue) (ℕ × Syntax)
 games_after c left = games_with c.games.items c.tags.items c.last left
 

@@ -1,5 +1,5 @@
 -- The cards of declarer's side that don't keep a vector.
-use Rattle.std.proofs.Common.{◌≡◌, ◌∙◌, ◌-◌, ◌<◌, ◌≤◌, ◌*◌, ◌+◌, ◌++◌, ℕ, suc, true, false, List, [], ◌∷◌, Contains, length, refl, sym, ap, subst, append_assoc, arith, ⊎_elim}
+use Rattle.std.proofs.Common.{◌≡◌, ◌∙◌, ◌-◌, ◌<◌, ◌≤◌, ◌++◌, ℕ, suc, true, false, List, [], ◌∷◌, Contains, length, sym, ap, subst, append_assoc, arith, ⊎_elim}
 use Rattle.std.proofs.lemmas.List.{append-nil}
 use Rattle.card_sets.specs.SetWords.{IsCardSet}
 use Rattle.card_sets.proofs.Sets.{tail-after}

@@ -1,14 +1,14 @@
 -- The vector that a plan goes on with.
-use Rattle.std.proofs.Common.{◌≡◌, ◌∙◌, ◌-◌, ◌+◌, ◌*◌, ◌<◌, ◌≤◌, ℕ, zero, suc, Bool, true, false, Result, Ok, Err, IsErrAnd, IsErrOf, List, Contains, length, refl, sym, ap, subst, inl, true≢false, arith}
-use Rattle.win_vectors.specs.Fronts.{Vector, IsFirstAbove, Covers}
+use Rattle.std.proofs.Common.{◌≡◌, ◌∙◌, ◌-◌, ◌+◌, ◌*◌, ◌<◌, ◌≤◌, ℕ, zero, suc, Bool, true, false, Result, Ok, Err, IsErrAnd, IsErrOf, Contains, length, sym, subst, inl, true≢false, arith}
+use Rattle.win_vectors.specs.Fronts.{Vector, IsFirstAbove}
 use Rattle.win_vectors.proofs.Orders.{Dominates-refl}
 use Rattle.pareto_fronts.specs.FrontValue.{FrontValue}
 use Rattle.trick_rules.specs.Play.{cards_left}
 use Rattle.trick_rules.specs.Nodes as nodes
 use Rattle.trick_rules.specs.Nodes.{Layouts, IsNode, choices, child}
 use Rattle.trick_rules.proofs.PlayLaws as play
-use Rattle.strategy_games.specs.Plans.{Plan, Replies, Stop, Play, Hear, cards_of, stops, tree_size, CanWin, IsFront}
-use Rattle.strategy_games.specs.Choosing.{Keeps, IsFirstOf, IsPick, IsChosenPlan, AreChosenReplies}
+use Rattle.strategy_games.specs.Plans.{Plan, Stop, Play, Hear, stops, tree_size, CanWin}
+use Rattle.strategy_games.specs.Choosing.{Keeps, IsFirstOf, IsPick, IsChosenPlan}
 use Rattle.strategy_games.proofs.Fronts.{front_unique, first_above_unique}
 use Rattle.strategy_games.proofs.Lists.{All-at, first_unique, first_is_member}
 use Rattle.strategy_tree.specs.Bridge.{bridge}

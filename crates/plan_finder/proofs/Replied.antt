@@ -1,5 +1,5 @@
 -- The cards of a defender that are replied to.
-use Rattle.std.proofs.Common.{◌≡◌, ◌∙◌, ◌+◌, ◌*◌, ◌<◌, ◌≤◌, ◌++◌, ℕ, zero, suc, true, false, List, [], ◌∷◌, Contains, length, refl, sym, ap, subst, append_assoc, true≢false, arith}
+use Rattle.std.proofs.Common.{◌≡◌, ◌∙◌, ◌+◌, ◌*◌, ◌<◌, ◌≤◌, ◌++◌, ℕ, zero, suc, false, List, [], ◌∷◌, Contains, length, refl, sym, ap, subst, append_assoc, true≢false, arith}
 use Rattle.std.proofs.lemmas.List.{append-nil}
 use Rattle.win_vectors.specs.Vectors.{ones_of, restrict_of}
 use Rattle.win_vectors.specs.Fronts.{Vector, Covers, IsFirstAbove}
@@ -9,11 +9,11 @@ use Rattle.trick_rules.specs.Play.{cards_left}
 use Rattle.trick_rules.specs.Nodes.{Layouts, IsNode, choices, child, child_mask}
 use Rattle.trick_rules.proofs.PlayLaws as play
 use Rattle.strategy_games.specs.Games.{mask}
-use Rattle.strategy_games.specs.Plans.{Plan, Replies, NoReply, Reply, cards_of, stops, tree_size, IsFront}
+use Rattle.strategy_games.specs.Plans.{cards_of, stops, tree_size}
 use Rattle.strategy_games.specs.Choosing.{IsPick, IsChosenPlan, AreChosenReplies}
 use Rattle.strategy_games.proofs.Lists.{Contains-here, Contains-append_second}
 use Rattle.strategy_tree.specs.Bridge.{bridge}
-use Rattle.strategy_tree.specs.PlanMeaning.{plan_of, answer_of, replies_of}
+use Rattle.strategy_tree.specs.PlanMeaning.{plan_of, replies_of}
 use Rattle.strategy_tree.specs.declared.plan.Reply.{Reply as Answered}
 use Rattle.strategy_tree.proofs.CardLists.{has_card-from_Contains}
 use Rattle.strategy_tree.proofs.BridgeLaws.{chosen_plan, sizes}

@@ -5,5 +5,7 @@
 
 mod choice;
 mod finder;
+#[cfg(test)]
+mod tests;
 
 pub use finder::plan_for;

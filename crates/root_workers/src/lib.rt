@@ -4,5 +4,7 @@
 #![tactic(auto)]
 
 mod root;
+#[cfg(test)]
+mod tests;
 
 pub use root::{RootFront, root_front};

@@ -1,7 +1,6 @@
-use Rattle.std.proofs.Common.{◌≡◌, ◌∙◌, ◌-◌, refl, sym, subst, arith}
+use Rattle.std.proofs.Common.{◌∙◌, ◌-◌, refl, sym, subst, arith}
 use Rattle.strategy_tree.proofs.BridgeLaws.{sizes}
 use Rattle.strategy_tree.proofs.BridgeNodes.{stopped}
-use Rattle.alphamu_core.specs.declared.answers.SearchFault.TheVariants.{Memory}
 use Rattle.front_table.specs.Proven.{IsFrontAt}
 use Rattle.alphamu_core.proofs.Tried.{costs_before, costs_below, costs_after, costs_all}
 use Rattle.alphamu_core.proofs.OpenNodes.{size_ours, size_theirs}

@@ -1,4 +1,4 @@
-use Rattle.std.proofs.Common.{◌≡◌, ◌∙◌}
+use Rattle.std.proofs.Common.{◌∙◌}
 use Rattle.alphamu_core.proofs.Leaves.{leaf}
 use Rattle.alphamu_core.proofs.plain.leaf_front.Goals as goal
 

@@ -2,7 +2,7 @@ use Rattle.std.proofs.Common.{◌≡◌, true, eqb, ap, sym, ◌∙◌, arith}
 use Rattle.trick_rules.specs.Table.{Table, State, IsState}
 use Rattle.trick_rules.specs.Play.{is_over, legal_in, cards_left}
 use Rattle.trick_rules.proofs.PlayLaws.{makes_at_the_end, a_legal_card_can_be_played, a_legal_card_leads_to_a_state, a_card_leaves_one_fewer}
-use Rattle.dd_solver.proofs.Minimax.{answer-legal, first_legal}
+use Rattle.dd_solver.proofs.Minimax.{choice-legal, first_legal}
 use Rattle.dd_solver.proofs.plain.+makes_plain.Goals as goal
 
 pub returns-then-over : goal.returns-then-over
@@ -16,7 +16,7 @@ loop-card-init t c =
     let s : State = record { table = c.args.position.now; left = c.args.left } in
     let ok : IsState s = record { sound = c.over.ensures.sound; fits = c.requires } in
     record {
-      answer = rw c.legal_in-cards.ensures (answer-legal s c.is_ours-ours.result ok (sym c.over.ensures.value ∙ c.if-over.false) (sym c.is_ours-ours.ensures));
+      answer = rw c.legal_in-cards.ensures (choice-legal s c.is_ours-ours.result ok (sym c.over.ensures.value ∙ c.if-over.false) (sym c.is_ours-ours.ensures));
       legal = λ card h. rw c.legal_in-cards.ensures at h;
     }
 

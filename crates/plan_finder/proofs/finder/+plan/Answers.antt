@@ -1,6 +1,5 @@
-use Rattle.std.proofs.Common.{◌≡◌, ◌∙◌, ◌-◌, Option, IfSome, length, refl, sym, ap, subst, Err, arith}
+use Rattle.std.proofs.Common.{◌≡◌, ◌∙◌, Option, IfSome, length, refl, sym, ap, subst, Err, arith}
 use Rattle.win_vectors.specs.Fronts.{Vector, Covers, IsFirstAbove}
-use Rattle.trick_rules.specs.Nodes.{Layouts}
 use Rattle.strategy_games.specs.Plans.{Play}
 use Rattle.strategy_games.specs.Choosing.{IsChosenPlan}
 use Rattle.strategy_tree.specs.Bridge.{bridge}

@@ -1,0 +1,6 @@
+pub mod Answers
+pub mod Codes
+pub mod Lines
+pub mod Head
+pub mod Card
+pub mod Solve

@@ -1,0 +1,7 @@
+-- What is written of a list.
+use Rattle.std.specs.Prelude.{ℕ, List, codes}
+use Rattle.std.specs.List.{join_by}
+
+-- what is written of each, with single spaces between them
+abbrev pub spaced : {A : Type 0} → (A → List ℕ) → List A → List ℕ
+spaced written items = join_by written (codes " ") items

@@ -1,0 +1,156 @@
+//! The head of a report: the table at the moment, and the layouts that the answer is about.
+ghost use Rattle.std.specs.Prelude.{◌≡◌, ◌++◌, IfOk, OnOk, flat_map, codes};
+ghost use Rattle.std.specs.Fmt.{decimal};
+ghost use Rattle.strategy_tree.specs.PlanText.{line_of};
+ghost use Rattle.am_report.specs.Lines.{spaced};
+ghost use Rattle.am_report.specs.Head.{trump_text, hand_line, cards_text, trick_line, cause_text, dropped_line, kept_line, table_text, head_text};
+
+use crate::lines::{push_line, push_number, push_number_line};
+use am_outside::Text;
+use card_letters::{card_text, compass_letter, suit_letter};
+use card_sets::{Card, CardSet, Seat};
+use layout_list::{Cause, Dropped, Kept};
+use pbn_deal::{Board, hand_text};
+use std::alloc::{AllocError, Global};
+use trick_rules::{Position, Trick, Trump};
+
+fn push_trump_line(text: &mut Text, trump: Trump) -> Result<(), AllocError>
+    ensures { OnOk result (text.new ≡ text.old ++ line_of (codes "trump " ++ trump_text trump)) }
+{
+    match trump {
+        Trump::Suit(suit) => push_line(text, b"trump ", &[suit_letter(suit)]),
+        Trump::NoTrump => push_line(text, b"trump ", b"NT"),
+    }
+}
+
+#[tactic(auto, unfolding(crate::specs::Head::hand_line))]
+fn push_hand_line(
+    text: &mut Text,
+    alloc: Global,
+    board: &Board,
+    seat: Seat,
+    hand: CardSet,
+) -> Result<(), AllocError>
+    ensures { OnOk result (text.new ≡ text.old ++ hand_line board.now seat hand) }
+{
+    text.push(b"hand ")?;
+    text.push(&[compass_letter(board.compass(seat))])?;
+    push_line(text, b" ", hand_text(alloc, hand)?.bytes())
+}
+
+// Appends the cards of a trick with single spaces between them, or a dash where there is none.
+fn push_cards(text: &mut Text, cards: &[Card]) -> Result<(), AllocError>
+    ensures { OnOk result (text.new ≡ text.old ++ cards_text cards.now) }
+{
+    let [first, rest @ ..] = cards else {
+        return text.push(b"-");
+    };
+    text.push(&card_text(*first))?;
+    for card in rest {
+        text.push(b" ")?;
+        text.push(&card_text(*card))?;
+    }
+    Ok(())
+}
+
+#[tactic(auto, unfolding(crate::specs::Head::trick_line))]
+fn push_trick_line(text: &mut Text, board: &Board, trick: &Trick) -> Result<(), AllocError>
+    ensures { OnOk result (text.new ≡ text.old ++ trick_line board.now trick.now) }
+{
+    text.push(b"trick ")?;
+    text.push(&[compass_letter(board.compass(trick.leader))])?;
+    text.push(b" ")?;
+    push_cards(text, trick.cards.as_slice())?;
+    text.push(b"\n")
+}
+
+// Appends the contract, both hands, the trick and the seat to play.
+fn push_table(
+    text: &mut Text,
+    alloc: Global,
+    board: &Board,
+    table: &Position,
+) -> Result<(), AllocError>
+    ensures { OnOk result (text.new ≡ text.old ++ table_text board.now table.now) }
+{
+    push_line(text, b"declarer ", &[compass_letter(board.declarer())])?;
+    push_trump_line(text, table.trump)?;
+    push_number_line(text, alloc, b"need ", usize::from(table.need))?;
+    push_hand_line(text, alloc, board, Seat::Declarer, table.declarer)?;
+    push_hand_line(text, alloc, board, Seat::Dummy, table.dummy)?;
+    push_trick_line(text, board, &table.trick)?;
+    push_line(
+        text,
+        b"turn ",
+        &[compass_letter(board.compass(table.to_play()))],
+    )
+}
+
+// Appends numbers with single spaces between them.
+fn push_numbers(text: &mut Text, alloc: Global, numbers: &[u16]) -> Result<(), AllocError>
+    ensures { OnOk result (text.new ≡ text.old ++ spaced decimal numbers.now) }
+{
+    let [first, rest @ ..] = numbers else {
+        return Ok(());
+    };
+    push_number(text, alloc, usize::from(*first))?;
+    for number in rest {
+        text.push(b" ")?;
+        push_number(text, alloc, usize::from(*number))?;
+    }
+    Ok(())
+}
+
+#[tactic(auto, unfolding(crate::specs::Head::kept_line))]
+fn push_kept_line(text: &mut Text, alloc: Global, numbers: &[u16]) -> Result<(), AllocError>
+    ensures { OnOk result (text.new ≡ text.old ++ kept_line numbers.now) }
+{
+    text.push(b"kept ")?;
+    push_numbers(text, alloc, numbers)?;
+    text.push(b"\n")
+}
+
+fn cause_text(cause: Cause) -> &'static [u8]
+    ensures { result.now ≡ cause_text cause }
+{
+    match cause {
+        Cause::NotHeld => b"notheld",
+        Cause::Revoke => b"revoke",
+    }
+}
+
+#[tactic(auto, unfolding(crate::specs::Head::dropped_line))]
+fn push_dropped_line(text: &mut Text, alloc: Global, layout: Dropped) -> Result<(), AllocError>
+    ensures { OnOk result (text.new ≡ text.old ++ dropped_line layout) }
+{
+    text.push(b"dropped ")?;
+    push_number(text, alloc, usize::from(layout.number))?;
+    text.push(b" ")?;
+    text.push(cause_text(layout.cause))?;
+    push_number_line(text, alloc, b" ", usize::from(layout.play))
+}
+
+// Appends a line for each dropped layout.
+fn push_dropped(text: &mut Text, alloc: Global, dropped: &[Dropped]) -> Result<(), AllocError>
+    ensures { OnOk result (text.new ≡ text.old ++ flat_map dropped_line dropped.now) }
+{
+    for layout in dropped {
+        push_dropped_line(text, alloc, *layout)?;
+    }
+    Ok(())
+}
+
+/// The head of a report: the table after the play, with declarer's hand and then dummy's; the moves that declarer's side
+/// has, and the numbers of the kept layouts; and for each dropped layout the cause and the card that it contradicts.
+#[tactic(auto, unfolding(crate::specs::Head::head_text))]
+pub fn head_text(alloc: Global, board: &Board, kept: &Kept, moves: u8) -> Result<Text, AllocError>
+    ensures { IfOk result (λ text. text ≡ head_text board.now kept.now moves) }
+{
+    let mut text = Text::new(alloc);
+    text.push(b"alphamu report 1\n")?;
+    push_table(&mut text, alloc, board, kept.node.position())?;
+    push_number_line(&mut text, alloc, b"moves ", usize::from(moves))?;
+    push_kept_line(&mut text, alloc, &kept.numbers)?;
+    push_dropped(&mut text, alloc, &kept.dropped)?;
+    Ok(text)
+}

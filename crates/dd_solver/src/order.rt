@@ -1,0 +1,157 @@
+//! Which cards are tried first. The order changes no answer.
+ghost use Rattle.card_sets.specs.SetWords.{IsSubset};
+
+use card_sets::{Card, CardSet, Seat, Suit};
+use trick_rules::{Position, Trump};
+
+/// The suit led to a trick, and trumps.
+#[derive(Clone, Copy)]
+struct Strain {
+    led: Suit,
+    trump: Trump,
+}
+
+impl Strain {
+    // Whether a card beats the best card of the trick so far.
+    fn beats(self, card: Card, best: Card) -> bool {
+        if card.suit() == best.suit() {
+            best.number() < card.number()
+        } else {
+            self.trump == Trump::Suit(card.suit())
+        }
+    }
+
+    // Whether a hand that follows suit where it can has a card that beats the best card of the trick so far.
+    fn can_beat(self, hand: CardSet, best: Card) -> bool {
+        let following = hand.of_suit(self.led);
+        if !following.is_empty() {
+            return best.suit() == self.led && has_higher(following, best);
+        }
+        let Trump::Suit(trump) = self.trump else {
+            return false;
+        };
+        let trumps = hand.of_suit(trump);
+        if best.suit() == trump {
+            has_higher(trumps, best)
+        } else {
+            !trumps.is_empty()
+        }
+    }
+}
+
+// Whether a set has a card that comes after this one.
+fn has_higher(cards: CardSet, card: Card) -> bool {
+    cards.after(card).is_some()
+}
+
+// The last card of a set in card order.
+fn highest(cards: CardSet) -> Option<Card> {
+    let mut best = None;
+    for card in cards {
+        best = Some(card);
+    }
+    best
+}
+
+/// The hands of the opponents that play to the trick after the seat to play, and of its partner if it does.
+#[derive(Drop)]
+struct Ahead {
+    next: CardSet,
+    partner: CardSet,
+    last: CardSet,
+}
+
+impl Ahead {
+    fn of(position: &Position, left: CardSet) -> Ahead {
+        let played = position.trick.cards.len();
+        let next = position.to_play().next();
+        let partner = next.next();
+        let hand = |seat: Seat, most: usize| {
+            if played <= most {
+                position.hand(seat, left)
+            } else {
+                CardSet::empty()
+            }
+        };
+        Ahead {
+            next: hand(next, 2),
+            partner: hand(partner, 1),
+            last: hand(partner.next(), 0),
+        }
+    }
+
+    // Whether no opponent that is still to play can beat the card.
+    fn cannot_beat(&self, strain: Strain, card: Card) -> bool {
+        !strain.can_beat(self.next, card) && !strain.can_beat(self.last, card)
+    }
+}
+
+// The best card of the trick so far, and whether the seat to play is the partner of who played it.
+fn best_so_far(position: &Position, strain: Strain) -> Option<(Card, bool)> {
+    let played = position.trick.cards.len();
+    let mut best = *position.trick.cards.first()?;
+    let mut partners = played == 2;
+    for (place, card) in position.trick.cards.as_slice().iter().enumerate() {
+        if strain.beats(*card, best) {
+            best = *card;
+            partners = place.saturating_add(2) == played;
+        }
+    }
+    Some((best, partners))
+}
+
+// The leads that win, or that the partner can win, against whatever the opponents play.
+fn winning_leads(trump: Trump, ahead: &Ahead, cards: CardSet) -> CardSet {
+    let mut winning = CardSet::empty();
+    for card in cards {
+        let led = card.suit();
+        let strain = Strain { led, trump };
+        let best = match highest(ahead.partner.of_suit(led)) {
+            Some(other) if strain.beats(other, card) => other,
+            _ => card,
+        };
+        if ahead.cannot_beat(strain, best) {
+            winning = winning.with(card);
+        }
+    }
+    winning
+}
+
+// Of the cards that beat the best card so far, those that the opponents cannot beat, if there are any.
+fn winning_plays(strain: Strain, ahead: &Ahead, best: Card, cards: CardSet) -> CardSet {
+    let mut beating = CardSet::empty();
+    let mut winning = CardSet::empty();
+    for card in cards {
+        if strain.beats(card, best) {
+            beating = beating.with(card);
+            if ahead.cannot_beat(strain, card) {
+                winning = winning.with(card);
+            }
+        }
+    }
+    if winning.is_empty() { beating } else { winning }
+}
+
+/// The cards to try first: those that most often win the trick. Where the partner wins it there are none, unless there is
+/// no choice.
+pub(crate) fn likely(position: &Position, left: CardSet, cards: CardSet) -> CardSet
+    ensures { IsSubset result cards }
+{
+    if cards.count() < 2 {
+        return cards;
+    }
+    let ahead = Ahead::of(position, left);
+    let Some(led) = position.trick.suit_led() else {
+        return cards.both(winning_leads(position.trump, &ahead, cards));
+    };
+    let strain = Strain {
+        led,
+        trump: position.trump,
+    };
+    match best_so_far(position, strain) {
+        Some((best, partners)) if !partners || !ahead.cannot_beat(strain, best) => {
+            cards.both(winning_plays(strain, &ahead, best, cards))
+        }
+        _ => CardSet::empty(),
+    }
+}
