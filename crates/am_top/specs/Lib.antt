@@ -1,0 +1,9 @@
+pub mod Codes
+pub mod Names
+pub mod Lines
+pub mod Refusals
+pub mod Answers
+pub mod Inputs
+pub mod Reports
+pub mod Endings
+pub mod Stages

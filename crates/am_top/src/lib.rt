@@ -1,0 +1,15 @@
+//! The whole program as one call: words and files in, a report or a refusal out.
+//! It stands on the readers, the search, the plans and the texts.
+//! Its contract promises that the bytes written are the report that the definitions give for the files read, and names the cause of every refusal.
+#![tactic(auto)]
+
+pub mod inputs;
+mod line;
+mod names;
+pub mod program;
+pub mod status;
+pub mod task;
+mod work;
+
+pub use program::run;
+pub use status::{FileWord, PbnKind, Status};

@@ -1,0 +1,114 @@
+//! The call that the program makes.
+ghost use Rattle.std.specs.Prelude.{◌≡◌, ◌≢◌, ◌≤◌, ◌⊎◌, Ok, None, length, IfOk, IfErr, IfSome, IsErrOf};
+ghost use Rattle.std.specs.Io.KnownBytes.{append_known};
+ghost use Rattle.am_outside.specs.Faults.{Rose};
+ghost use Rattle.am_outside.specs.Sink.{AppendsPart};
+ghost use Rattle.job_words.specs.Asks.{ask_of, texts_of};
+ghost use Rattle.job_words.specs.Words.{words_read, IsWithinLimits};
+ghost use Rattle.am_top.specs.Answers.{TaskValue, answer, file_limit, task_in};
+ghost use Rattle.am_top.specs.Inputs.{inputs_of};
+ghost use Rattle.am_top.specs.Stages.{IsAfterReading, IsRefusal, IsTextFor};
+ghost use Rattle.am_top.specs.Lines.{line_of, IsSaid};
+ghost use Rattle.am_top.specs.Refusals.{IsUnread};
+ghost use Rattle.am_top.specs.Endings.{IsStatusFor, IsReported, IsReportedInPart, IsWithinNodes, IsDoneOrMemory, HasNoFault};
+
+use crate::inputs::{Inputs, read_inputs};
+use crate::line::refuse;
+use crate::status::{FileWord, Status};
+use crate::task::read_task;
+use crate::work::work;
+use am_outside::{Gate, Shelf, Sink, Text, write_whole};
+use std::alloc::Global;
+use std::thread::Threads;
+
+// The text of the job that the files lead to, or why there is none.
+fn text_in(alloc: Global, inputs: &Inputs<'_>) -> Result<Text, Status>
+    requires limits { IsWithinLimits (ask_of inputs.now.ask) }
+    requires deal_within { length inputs.now.deal ≤ file_limit }
+    requires layouts_within { length inputs.now.layouts ≤ file_limit }
+    ensures text { IfOk result (IsTextFor (task_in (inputs_of inputs.now))) }
+    ensures refused { IfErr result (IsRefusal (task_in (inputs_of inputs.now))) }
+    ensures after_reading { IfErr result IsAfterReading }
+{
+    match read_task(alloc, inputs) {
+        Ok(task) => work(alloc, &task),
+        Err(status) => Err(status),
+    }
+}
+
+// The whole text of the job, or why there is none.
+fn text_for<S: Shelf>(alloc: Global, words: &[String], shelf: &mut S) -> Result<Text, Status>
+    ensures text { IfSome (S.told shelf.old) (λ files. IfOk result (IsTextFor (answer (texts_of words.now) files))) }
+    ensures refused { IfSome (S.told shelf.old) (λ files. IfErr result (IsRefusal (answer (texts_of words.now) files))) }
+    ensures bad_words { IsErrOf result Status.BadWords → words_read (texts_of words.now) ≡ None }
+    ensures only_bad_words { words_read (texts_of words.now) ≡ None → IfErr result (λ status. (status ≡ Status.BadWords) ⊎ (status ≡ Status.Memory)) }
+    ensures asked { IfOk result (λ _. words_read (texts_of words.now) ≢ None) }
+    ensures unread { (file : FileWord) → IsErrOf result (Status.Unread file)
+        → IsUnread (texts_of words.now) (S.faults shelf.old) (S.faults shelf.new) file }
+    ensures nothing_written { IfErr result (λ status. (status ≢ Status.Done) × (status ≢ Status.Unwritten)) }
+    ensures same_files { S.told shelf.new ≡ S.told shelf.old }
+{
+    match read_inputs(alloc, words, shelf) {
+        Ok(inputs) => text_in(alloc, &inputs),
+        Err(status) => Err(status),
+    }
+}
+
+// Writes a text whole, or says that it can't be written.
+fn deliver<O: Sink, E: Sink>(text: &Text, out: &mut O, err: &mut E) -> Status
+    ensures ends { (result ≡ Status.Done) ⊎ (result ≡ Status.Unwritten) }
+    ensures whole { result ≡ Status.Done → O.told out.new ≡ append_known (O.told out.old) text.now }
+    ensures part { result ≡ Status.Unwritten → AppendsPart (O.told out.old) text.now (O.told out.new) }
+    ensures failed { result ≡ Status.Unwritten → Rose (O.faults out.old) (O.faults out.new) }
+    ensures quiet { result ≡ Status.Done → err.new ≡ err.old }
+    ensures said { result ≡ Status.Unwritten → IsSaid (line_of result) (E.told err.old) (E.told err.new) (E.faults err.old) (E.faults err.new) }
+{
+    match write_whole(out, text.bytes()) {
+        Ok(()) => Status::Done,
+        Err(_) => refuse(Status::Unwritten, err),
+    }
+}
+
+/// Does what the words ask for: reads the files that they name, and writes the text of the job to `out`, or a line that says
+/// why not to `err`. The words don't include the program's name.
+///
+/// The whole text is made before its first byte is written. The first refusal ends the run, in the order: words, the deal
+/// file, the layout file, the board, the layouts, whose turn it is, the work of the job, the output.
+pub fn run<R: Threads + Sync, S: Shelf, O: Sink, E: Sink, G: Gate>(
+    _rt: &R,
+    alloc: Global,
+    words: &[String],
+    shelf: &mut S,
+    out: &mut O,
+    err: &mut E,
+    _gate: &G,
+) -> Status
+    // The bytes written are the report that the definitions give for the files read, and so is the status.
+    ensures report { IfSome (S.told shelf.old) (λ files. result ≡ Status.Done
+        → IsReported (answer (texts_of words.now) files) (O.told out.old) (O.told out.new)) }
+    ensures status { IfSome (S.told shelf.old) (λ files. IsStatusFor (answer (texts_of words.now) files) result) }
+    ensures complete { IfSome (S.told shelf.old) (λ files. (task : TaskValue) → answer (texts_of words.now) files ≡ Ok task
+        → IsWithinNodes task → HasNoFault task.ask (S.faults shelf.old) (S.faults shelf.new)
+        → ¬ (Rose (O.faults out.old) (O.faults out.new)) → IsDoneOrMemory result) }
+
+    // What shows each cause.
+    ensures bad_words { result ≡ Status.BadWords → words_read (texts_of words.now) ≡ None }
+    ensures only_bad_words { words_read (texts_of words.now) ≡ None → (result ≡ Status.BadWords) ⊎ (result ≡ Status.Memory) }
+    ensures unread { (file : FileWord) → result ≡ Status.Unread file
+        → IsUnread (texts_of words.now) (S.faults shelf.old) (S.faults shelf.new) file }
+    ensures unwritten { result ≡ Status.Unwritten → Rose (O.faults out.old) (O.faults out.new) }
+
+    // What a refused run has written.
+    ensures untouched { (result ≢ Status.Done) → (result ≢ Status.Unwritten) → out.new ≡ out.old }
+    ensures part { IfSome (S.told shelf.old) (λ files. result ≡ Status.Unwritten
+        → IsReportedInPart (answer (texts_of words.now) files) (O.told out.old) (O.told out.new)) }
+    ensures quiet { result ≡ Status.Done → err.new ≡ err.old }
+    ensures said { (result ≢ Status.Done) → IsSaid (line_of result) (E.told err.old) (E.told err.new) (E.faults err.old) (E.faults err.new) }
+
+    ensures same_files { S.told shelf.new ≡ S.told shelf.old }
+{
+    match text_for(alloc, words, shelf) {
+        Ok(text) => deliver(&text, out, err),
+        Err(status) => refuse(status, err),
+    }
+}

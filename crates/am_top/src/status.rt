@@ -1,0 +1,131 @@
+//! How a run ends.
+ghost use Rattle.std.specs.Prelude.{◌≡◌, ◌≤◌};
+ghost use Rattle.am_top.specs.Codes.{code_of};
+ghost use Rattle.am_top.specs.Refusals.{syntax_status, board_status, layout_status, root_status};
+ghost use Rattle.am_top.specs.declared.status.Status.TheVariants as ends;
+
+use alphamu_core::RootFault;
+use card_sets::Card;
+use layout_list::LayoutFault;
+use pbn_deal::{BoardFault, BoardRefusal};
+use pbn_text::{Syntax, TextFault};
+use std::alloc::{AllocError, AllocFailed};
+
+/// A file that the words name.
+#[derive(Clone, Copy, Debug, PartialEq, Eq)]
+pub enum FileWord {
+    Deal,
+    Layouts,
+}
+
+/// What is wrong with a deal file.
+#[derive(Clone, Copy, Debug, PartialEq, Eq)]
+pub enum PbnKind {
+    /// It is no PBN text.
+    Syntax(Syntax),
+    /// It has no game.
+    NoGame,
+    /// Its first game is no board.
+    Board(BoardFault),
+}
+
+/// How a run ends. A line is counted in its file, from 1.
+#[derive(Clone, Copy, Debug, PartialEq, Eq)]
+pub enum Status {
+    /// The whole output was written.
+    Done,
+    /// The words ask for nothing that the program does.
+    BadWords,
+    /// The file isn't there, or reading it failed.
+    Unread(FileWord),
+    /// The deal file is refused at this line.
+    BadPbn(u32, PbnKind),
+    /// The layout file is refused; never for want of memory.
+    BadLayouts(LayoutFault),
+    /// The play is over, or a defender is to play.
+    NoTurn,
+    /// The tree after this card has more nodes than a search may enter.
+    Spent(Card),
+    /// Writing the output failed.
+    Unwritten,
+    /// Memory was refused.
+    Memory,
+    /// The file has more than 1,048,576 bytes.
+    TooLong(FileWord),
+}
+
+impl Status {
+    /// The number that the program ends with.
+    pub fn code(&self) -> u8
+        ensures { result ≡ code_of self.now }
+    {
+        match self {
+            Status::Done => 0,
+            Status::BadWords => 2,
+            Status::Unread(_) => 3,
+            Status::BadPbn(_, _) => 4,
+            Status::BadLayouts(_) => 5,
+            Status::NoTurn => 6,
+            Status::Spent(_) => 7,
+            Status::Unwritten => 8,
+            Status::Memory => 9,
+            Status::TooLong(_) => 10,
+        }
+    }
+}
+
+impl From<AllocError> for Status {
+    ghost from_gives = { λ _ status. status ≡ ends.Memory };
+
+    fn from(_: AllocError) -> Self {
+        Status::Memory
+    }
+}
+
+impl<T: Drop> From<AllocFailed<T>> for Status {
+    ghost from_gives = { λ _ status. status ≡ ends.Memory };
+
+    fn from(_: AllocFailed<T>) -> Self {
+        Status::Memory
+    }
+}
+
+/// The status of a text that gives no games.
+pub fn syntax_status(fault: TextFault) -> Status
+    ensures { result ≡ syntax_status fault }
+{
+    match fault {
+        TextFault::Syntax { line, kind } => Status::BadPbn(line, PbnKind::Syntax(kind)),
+        TextFault::Memory => Status::Memory,
+    }
+}
+
+/// The status of a game that is no board.
+pub fn board_status(refusal: BoardRefusal) -> Status
+    ensures { result ≡ board_status refusal }
+{
+    match refusal {
+        BoardRefusal::Fault { line, kind } => Status::BadPbn(line, PbnKind::Board(kind)),
+        BoardRefusal::Memory => Status::Memory,
+    }
+}
+
+/// The status of a layout file that isn't taken.
+pub fn layout_status(fault: LayoutFault) -> Status
+    ensures { result ≡ layout_status fault }
+{
+    match fault {
+        LayoutFault::Memory => Status::Memory,
+        other => Status::BadLayouts(other),
+    }
+}
+
+/// The status of a loop over root cards that ends with no answer.
+pub fn root_status(fault: RootFault) -> Status
+    ensures { result ≡ root_status fault }
+{
+    match fault {
+        RootFault::Spent(card) => Status::Spent(card),
+        RootFault::Memory => Status::Memory,
+    }
+}
