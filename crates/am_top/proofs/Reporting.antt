@@ -1,11 +1,11 @@
 -- What a report says, and that it is the only one.
-use Rattle.std.proofs.Common.{◌≡◌, ◌≤◌, ◌<◌, ℕ, zero, suc, List, [], ◌∷◌, length, map, All, Contains, refl, sym, ap, ap₂, subst, ◌∙◌, arith}
+use Rattle.std.proofs.Common.{◌≡◌, ◌≤◌, ℕ, zero, suc, List, [], ◌∷◌, length, map, All, Contains, refl, sym, ap, ap₂, subst, ◌∙◌}
 use Rattle.std.proofs.lemmas.List.Elements.{All-contains, All-tail}
 use Rattle.win_vectors.specs.Vectors.{ones_of}
 use Rattle.win_vectors.specs.Fronts.{Vector, Covers}
 use Rattle.win_vectors.proofs.Orders.{Dominates-refl}
 use Rattle.trick_rules.specs.Nodes.{Layouts, IsNode}
-use Rattle.strategy_games.specs.Plans.{Plan, Fits, wins_vector, IsFront}
+use Rattle.strategy_games.specs.Plans.{Plan, Fits, wins_vector}
 use Rattle.strategy_games.specs.Choosing.{IsChosenPlan, IsNamedCard, IsBestCount}
 use Rattle.strategy_games.proofs.Lists.{Contains-map, Contains-here}
 use Rattle.strategy_tree.specs.Bridge.{bridge}
@@ -18,7 +18,7 @@ use Rattle.am_report.specs.Answers.{AnswerValue, EntryValue}
 use Rattle.am_report.specs.Solve.{solve_text}
 use Rattle.am_report.specs.Card.{card_text}
 use Rattle.am_top.specs.Answers.{TaskValue}
-use Rattle.am_top.specs.Reports.{IsSolveAnswer, IsSolveText, IsCardText, IsTextFor, IsText}
+use Rattle.am_top.specs.Reports.{IsSolveAnswer, IsTextFor, IsText}
 
 -- ---- what is printed
 
@@ -41,7 +41,7 @@ count-most n moves found plan is fits = laws.best_count.most n moves found.count
 
 -- ---- that it is the only one
 
-entry_of : Vector → Plan ℕ → EntryValue
+abbrev entry_of : Vector → Plan ℕ → EntryValue
 entry_of vector plan = record { vector = vector; plan = plan }
 
 same_heads : {X : Type 0} (x y : X) (xs ys : List X) → x ∷ xs ≡ y ∷ ys → (x ≡ y) × (xs ≡ ys)
@@ -64,7 +64,7 @@ named-same : (n : Layouts) (moves card other : ℕ) → IsNamedCard bridge n mov
 named-same n zero card other is also = absurd is
 named-same n (suc moves) card other is also = laws.named_card.unique n moves card other is also
 
-answer_of : List EntryValue → ℕ → ℕ → AnswerValue
+abbrev answer_of : List EntryValue → ℕ → ℕ → AnswerValue
 answer_of entries card count = record { entries = entries; card = card; count = count }
 
 answer-same : (n : Layouts) (moves : ℕ) (found other : AnswerValue) → IsSolveAnswer n moves found → IsSolveAnswer n moves other → found ≡ other
@@ -76,7 +76,7 @@ answer-same n moves found other is also =
     ap (λ e. answer_of e found.card found.count) entries ∙ ap₂ (λ c k. answer_of other.entries c k) card count
 
 -- what a text is made from
-IsTextOf : Job → ℕ → BoardValue → KeptValue → List ℕ → Type 0
+abbrev IsTextOf : Job → ℕ → BoardValue → KeptValue → List ℕ → Type 0
 IsTextOf Solve moves board kept text = (found : AnswerValue) × IsSolveAnswer kept.node moves found × (text ≡ solve_text board kept moves found)
 IsTextOf Card moves board kept text = (card count : ℕ) × IsNamedCard bridge kept.node moves card × IsBestCount bridge kept.node moves count × (text ≡ card_text card count (length kept.node.lefts))
 
