@@ -1,5 +1,5 @@
 -- Files by their names.
-use Rattle.std.specs.Prelude.{◌≡◌, ◌≢◌, ℕ, ◌<◌, Bool, true, false, List, length, Result, Err, IsSomeAnd, IsSome}
+use Rattle.std.specs.Prelude.{◌≡◌, ◌≢◌, ℕ, ◌<◌, Bool, true, false, List, length, Result, Err, IfSome, IsSome}
 use Rattle.std.specs.Ordering.{nat_cmp}
 use Rattle.std.specs.Cmp.Lexicographic.{slice_cmp}
 use Rattle.std.specs.FinMap.{FinMap, get}
@@ -12,7 +12,7 @@ Files = FinMap (slice_cmp nat_cmp) (List ℕ)
 
 -- there is a file of that name, and it has more bytes than the limit
 abbrev pub IsLonger : Files → List ℕ → ℕ → Type 0
-IsLonger files name limit = IsSomeAnd (get files name) (λ bytes. limit < length bytes)
+IsLonger files name limit = IfSome (get files name) (λ bytes. limit < length bytes)
 
 -- each name that has a file, but for this one, has the count that it had
 abbrev pub KeepsOthers : Files → List ℕ → (List ℕ → ℕ) → (List ℕ → ℕ) → Type 0

@@ -1,0 +1,4 @@
+pub mod Counts
+pub mod Misfits
+pub mod Followed
+pub mod Compared
