@@ -1,6 +1,8 @@
 -- Two vectors compared layout by layout.
-use Rattle.std.proofs.Common.{◌≡◌, ◌≤◌, ◌<◌, ◌+◌, ◌-◌, ℕ, Bool, not, Option, Some, List, Contains, length, take, map, get_or, refl, sym, ap, ◌∙◌, subst, arith}
+use Rattle.std.proofs.Common.{◌≡◌, ◌≤◌, ◌<◌, ◌+◌, ◌-◌, ◌==◌, ℕ, Bool, true, false, not, Option, None, Some, Result, Ok, List, Contains, length, take, map, get_or, refl, sym, ap, ◌∙◌, subst, arith}
 use Rattle.std.specs.List.{slice_get}
+use Rattle.std.proofs.Math.Bool.{beq}
+use Rattle.std.proofs.lemmas.Bool.{false≢true}
 use Rattle.std.specs.Option.{option_map}
 use Rattle.std.proofs.lemmas.Option.{slice_get-map, slice_get_within, get_or_from_slice_get}
 use Rattle.std.proofs.lemmas.List.{take_more_same, take_all, length-map}
@@ -8,7 +10,11 @@ use Rattle.win_vectors.specs.Fronts.{Vector}
 use Rattle.trick_rules.specs.Table.{State}
 use Rattle.trick_rules.specs.Nodes.{Layouts, IsNode, states}
 use Rattle.strategy_games.specs.Plans.{Plan, Fits, wins, wins_vector}
+use Rattle.strategy_games.specs.Misfits.{node_count, first_misfit}
 use Rattle.strategy_tree.specs.Bridge.{bridge}
+use Rattle.strategy_tree.proofs.BridgeLaws as laws
+use Rattle.strategy_check.specs.Counting.{counted}
+use Rattle.strategy_check.proofs.Counts.{counted-none}
 use Rattle.strategy_check.specs.Following.{CanFollow}
 use Rattle.strategy_check.specs.Verdicts.{IsFirstDifference}
 
@@ -57,3 +63,22 @@ differ_here u v place bit at_u at_v so =
       own_bit = subst (λ k. slice_get u k ≡ Some bit) back at_u;
       given_bit = subst (λ k. slice_get v k ≡ Some (not bit)) back at_v;
     }
+
+-- ---- one bit beside another
+
+pub unlike : (own given : Bool) → not (beq own given) ≡ true → given ≡ not own
+unlike true true h = absurd (false≢true h)
+unlike true false h = refl
+unlike false true h = refl
+unlike false false h = absurd (false≢true h)
+
+pub alike : (own given : Bool) → not (beq own given) ≡ false → given ≡ own
+alike true true h = refl
+alike true false h = absurd (false≢true (sym h))
+alike false true h = absurd (false≢true (sym h))
+alike false false h = refl
+
+-- ---- a plan whose every node fits
+
+pub fits_from : (plan : Plan ℕ) (n m : Layouts) (moves last : ℕ) → m ≡ n → Ok last ≡ counted 0 (node_count plan) (first_misfit bridge ◌==◌ plan m moves) → Fits bridge plan n moves
+fits_from plan n m moves last is passed = (laws.first_misfit.none plan n moves).1 (subst (λ (x : Layouts). first_misfit bridge ◌==◌ plan x moves ≡ None) is (counted-none (node_count plan) last (first_misfit bridge ◌==◌ plan m moves) passed))

@@ -1,4 +1,5 @@
 pub mod Counts
 pub mod Misfits
 pub mod Followed
+pub mod Won
 pub mod Compared

@@ -53,9 +53,7 @@ fn belongs(plan: &Plan, node: &InlineNode, moves: u8) -> bool
 {
     match plan {
         Plan::Stop => node.stops(moves),
-        Plan::Play(card, _) => {
-            !node.stops(moves) && node.is_ours() && node.choices().has(*card)
-        }
+        Plan::Play(card, _) => { !node.stops(moves) && node.is_ours() && node.choices().has(*card) }
         Plan::Hear(replies) => {
             !node.stops(moves) && !node.is_ours() && answer_each(replies, node.choices())
         }

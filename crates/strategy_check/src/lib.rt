@@ -5,8 +5,6 @@
 
 mod fitting;
 mod inline_node;
-#[cfg(test)]
-mod tests;
 mod verdict;
 mod winning;
 
