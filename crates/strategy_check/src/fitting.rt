@@ -64,14 +64,14 @@ fn belongs(plan: &Plan, node: &InlineNode, moves: u8) -> bool
 fn answer_each(replies: &[Reply], cards: CardSet) -> bool
     ensures { result ≡ same_cards ◌==◌ (cards_of (replies_of replies.now)) cards }
 {
-    let mut left = cards;
+    let mut rest = cards;
     for reply in replies {
-        let Some(card) = left.pop_first() else {
+        let Some(card) = rest.pop_first() else {
             return false;
         };
         if reply.card != card {
             return false;
         }
     }
-    left.is_empty()
+    rest.is_empty()
 }

@@ -5,6 +5,9 @@
 
 mod fitting;
 mod inline_node;
+pub mod laws;
+#[cfg(test)]
+mod tests;
 mod verdict;
 mod winning;
 
