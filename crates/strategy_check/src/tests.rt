@@ -51,7 +51,6 @@ fn ending(rt: &impl Abort, alloc: Global) -> Result<Node, AllocError> {
     Node::new(alloc, position, lefts.as_slice())
 }
 
-#[tactic(auto, using(crate::proofs::ReadSizes::read_nodes))]
 /// The verdict on a plan of the ending, where declarer's side has so many moves.
 fn judge(
     rt: &impl Abort,
