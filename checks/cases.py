@@ -74,7 +74,7 @@ def main():
     parser = argparse.ArgumentParser(description="Runs alphamu on the repository's cases.", allow_abbrev=False)
     parser.add_argument("program", nargs="?", default=LAUNCHER)
     parser.add_argument("--jobs", type=int, default=os.cpu_count() or 1)
-    parser.add_argument("--seconds", type=float, default=60)
+    parser.add_argument("--seconds", type=float, default=300)
     parser.add_argument("--only", default="*", metavar="PATTERN")
     given = parser.parse_args()
     program = os.path.abspath(given.program)

@@ -96,7 +96,8 @@ pub fn front_of<S: FrontStore>(
 
 /// The fault of a search after a root card.
 pub fn at_card(fault: SearchFault, card: Card) -> RootFault
-    ensures { (other : ℕ) → result ≡ RootFault.Spent other → (other ≡ card) × (fault ≡ SearchFault.Spent) }
+    ensures spent { fault ≡ SearchFault.Spent → result ≡ RootFault.Spent card }
+    ensures only { (other : ℕ) → result ≡ RootFault.Spent other → (other ≡ card) × (fault ≡ SearchFault.Spent) }
 {
     match fault {
         SearchFault::Spent => RootFault::Spent(card),
@@ -106,7 +107,8 @@ pub fn at_card(fault: SearchFault, card: Card) -> RootFault
 
 /// The fault where no root card is to be named.
 pub fn without_card(fault: RootFault) -> SearchFault
-    ensures { result ≡ SearchFault.Spent → (card : ℕ) × (fault ≡ RootFault.Spent card) }
+    ensures spent { (card : ℕ) → fault ≡ RootFault.Spent card → result ≡ SearchFault.Spent }
+    ensures only { result ≡ SearchFault.Spent → (card : ℕ) × (fault ≡ RootFault.Spent card) }
 {
     match fault {
         RootFault::Spent(_) => SearchFault::Spent,

@@ -1,5 +1,5 @@
 -- The first of the root cards: what they win, and which of them leads.
-use Rattle.std.proofs.Common.{◌≡◌, ◌∙◌, ◌⊎◌, ◌+◌, ◌-◌, ◌<◌, ◌≤◌, ℕ, suc, true, false, Bool, Option, Some, None, List, [], ◌∷◌, ◌++◌, length, Contains, refl, sym, ap, subst, inl, inr, arith, append_assoc, nat_lt, if◌then◌else◌}
+use Rattle.std.proofs.Common.{◌≡◌, ◌∙◌, ◌<◌, ◌≤◌, ℕ, suc, true, false, Bool, Option, Some, None, Result, Err, List, [], ◌∷◌, ◌++◌, length, Contains, refl, sym, ap, subst, inl, inr, arith, append_assoc, nat_lt, if◌then◌else◌}
 use Rattle.std.proofs.lemmas.List.{append-nil}
 use Rattle.std.proofs.lemmas.List.Elements.{Contains-push_cases}
 use Rattle.std.proofs.lemmas.Bool.{ltb-true, ltb-false}
@@ -17,9 +17,13 @@ use Rattle.strategy_tree.proofs.CardLists.{has_card-from_Contains}
 use Rattle.strategy_tree.proofs.Rules.{lawful}
 use Rattle.strategy_tree.proofs.BridgeLaws.{one_front, steps, best_count, named_card}
 use Rattle.alphamu_core.proofs.OpenNodes.{length-our_child}
+use Rattle.alphamu_core.specs.declared.answers.RootFault as root
 use Rattle.front_table.specs.Proven.{IsFrontAt}
 use Rattle.root_workers.specs.Leaders.{leader}
-use Rattle.root_workers.specs.Roots.{IsSpentAt, AllFit}
+
+-- a fault names one card
+pub spent_same : {A : Type 0} (result : Result A root.RootFault) (card other : ℕ) → result ≡ Err (root.TheVariants.Spent card) → result ≡ Err (root.TheVariants.Spent other) → card ≡ other
+spent_same result card other one two = cc
 
 -- a list that isn't empty has an element
 some_from : (vectors : List Vector) → (vectors ≡ [] → ⊥) → 1 ≤ length vectors

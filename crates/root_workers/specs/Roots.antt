@@ -1,5 +1,5 @@
 -- What is to be found at a root.
-use Rattle.std.specs.Prelude.{◌≡◌, ◌<◌, ◌≤◌, ◌-◌, ℕ, Contains}
+use Rattle.std.specs.Prelude.{◌<◌, ◌≤◌, ◌-◌, ℕ, Contains}
 use Rattle.trick_rules.specs.Nodes.{Layouts, choices, child}
 use Rattle.strategy_games.specs.Plans.{tree_size}
 use Rattle.strategy_games.specs.Choosing.{IsFirstOf}

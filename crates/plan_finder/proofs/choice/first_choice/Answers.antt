@@ -7,7 +7,7 @@ use Rattle.plan_finder.proofs.choice.first_choice.Goals as goal
 pub returns-in-Err-clause-spent : goal.returns-in-Err-clause-spent
 returns-in-Err-clause-spent g c = λ card e.
     let named : c.at_card.result ≡ Spent card = cc in
-    let fault = c.at_card.ensures card named in
+    let fault = c.at_card.ensures.only card named in
     let larger = c.in-Err.ensures.spent (ap Err fault.1) in
     subst (λ card. IsSpentAt c.args.node.now c.args.moves c.args.vector.now c.args.nodes card) (sym fault.0)
     (spent_here c.args.node.now c.args.moves c.args.vector.now c.cards.invariant.so c.in-Some.ensures.value c.in_ok-child.ensures.node c.args.nodes c.in-Some.ensures.a_set larger)

@@ -49,7 +49,7 @@ plan_below-returns-in_err-replies-clause-spent g t c = λ e.
 pub plan_below-returns-in-Err-clause-spent : goal.plan_below-returns-in-Err-clause-spent
 plan_below-returns-in-Err-clause-spent g t c = λ e.
     let spent : c.without_card.result ≡ Spent = cc in
-    let fault = c.without_card.ensures spent in
+    let fault = c.without_card.ensures.only spent in
     larger_than c.args.node.now c.args.moves c.args.vector.now c.args.nodes fault.0 c.requires.a_node (sym c.is_ours.ensures ∙ c.if-is_ours.true) (c.in-Err.ensures.spent fault.0 (ap Err fault.1))
 
 -- ---- declarer's side
@@ -90,7 +90,7 @@ pub plan_for-returns-clause-spent : goal.plan_for-returns-clause-spent
 plan_for-returns-clause-spent g t c = λ card e.
     let goes_on = open_at c.args.node.now c.args.moves c.stops.result c.stops.ensures c.if-stops.false in
     let named : c.at_card.result ≡ RootSpent card = cc in
-    let fault = c.at_card.ensures card named in
+    let fault = c.at_card.ensures.only card named in
     subst (λ card. IsTooLarge c.args.node.now c.args.moves c.args.target.now c.args.nodes card) (sym fault.0)
     (too_large_below c.args.node.now c.args.moves c.args.target.now c.args.nodes c.in_ok-first.first goes_on c.requires.target c.in_ok-first.ensures.first (c.in-Err.ensures.spent (ap Err fault.1)))
 

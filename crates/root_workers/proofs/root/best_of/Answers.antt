@@ -1,5 +1,4 @@
-use Rattle.std.proofs.Common.{◌≡◌, List, [], ◌∷◌, slice_get, Some, refl, ◌∙◌, ap}
-use Rattle.win_vectors.specs.Vectors.{ones_of}
+use Rattle.std.proofs.Common.{◌≡◌, List, [], ◌∷◌, slice_get, Some}
 use Rattle.win_vectors.specs.Fronts.{Vector}
 use Rattle.root_workers.proofs.root.best_of.Goals as goal
 

@@ -1,9 +1,10 @@
-use Rattle.std.proofs.Common.{◌≡◌, ◌-◌, suc, ℕ, arith, sym, subst}
+use Rattle.std.proofs.Common.{◌≡◌, ◌-◌, ◌∙◌, ℕ, Err, arith, ap, refl, sym, subst}
 use Rattle.strategy_games.specs.Choosing.{IsBestCount, IsNamedCard}
 use Rattle.strategy_tree.specs.Bridge.{bridge}
 use Rattle.front_table.specs.Proven.{IsFrontAt}
 use Rattle.root_workers.specs.Leaders.{leader}
-use Rattle.root_workers.proofs.RootSoFar.{RootSoFar, root_more, root_width, root_filled, root_front, root_some, root_named, root_count}
+use Rattle.root_workers.specs.Roots.{IsSpentAt}
+use Rattle.root_workers.proofs.RootSoFar.{RootSoFar, root_more, root_width, root_filled, root_front, root_spent, spent_same, root_some, root_named, root_count}
 use Rattle.root_workers.proofs.root.root_front.Goals as goal
 
 pub union-requires : goal.union-requires
@@ -39,3 +40,10 @@ returns-clause-count c =
     subst (λ (count : ℕ). IsBestCount bridge c.args.node.now c.args.moves count) (sym c.found.ensures.count)
     (root_count c.args.node.now (c.args.moves - 1) c.cards.invariant c.width.ensures.a_node c.requires.goes_on c.requires.ours c.in_default.ensures.value.0
     c.in-Some-best.best.0 c.in-Some-best.best.1 c.in-Some-best.is c.args.moves (omega arith))
+
+pub returns-in-Err-Spent-clause-spent : goal.returns-in-Err-Spent-clause-spent
+returns-in-Err-Spent-clause-spent c = λ card same.
+    let here : c.in-Some.card ≡ card = spent_same _ c.in-Some.card card refl same in
+    subst (λ (named : ℕ). IsSpentAt c.args.node.now c.args.moves c.args.nodes named) here
+    (root_spent c.args.node.now (c.args.moves - 1) c.cards.invariant c.in-Some.ensures.value _ c.in_ok-child.ensures.node
+    (c.card_front.ensures.spent (c.in-Err-Spent.is ∙ ap Err c.in-Err-Spent.field-0-is)))

@@ -1,0 +1,7 @@
+-- The numbers of plan nodes.
+use Rattle.std.specs.Prelude.{ℕ, ◌+◌, Option, None, Some, Result, Ok, Err}
+
+-- where so many nodes came before: the number of the last of so many more, or of the one among them that doesn't fit
+abbrev pub counted : ℕ → ℕ → Option ℕ → Result ℕ ℕ
+counted before count None = Ok (before + count)
+counted before count (Some misfit) = Err (before + misfit)
