@@ -1,7 +1,7 @@
 -- Plan nodes that are counted one after another.
 use Rattle.std.proofs.Common.{◌≡◌, ◌≤◌, ◌+◌, ℕ, Option, Some, None, Result, Ok, Err, refl, sym, ap, arith}
-use Rattle.strategy_games.specs.Plans.{Plan, Replies, Stop, Play, Hear}
-use Rattle.strategy_games.specs.Misfits.{node_count, node_counts, further, or_else}
+use Rattle.strategy_games.specs.Plans.{Plan, Stop, Play, Hear}
+use Rattle.strategy_games.specs.Misfits.{node_count, further, or_else}
 use Rattle.strategy_check.specs.Counting.{counted}
 
 last_at : ℕ → Result ℕ ℕ

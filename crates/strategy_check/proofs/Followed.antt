@@ -6,7 +6,7 @@ use Rattle.trick_rules.specs.Play.{legal_in, after}
 use Rattle.trick_rules.specs.Nodes.{Layouts, IsNode, states, choices, child}
 use Rattle.trick_rules.proofs.PlayLaws as play
 use Rattle.strategy_games.proofs.Lists.{All-at, Contains-here, Contains-there, Contains-filter, Contains-map}
-use Rattle.strategy_games.specs.Plans.{Plan, Replies, Play, Hear, NoReply, Reply, Fits, cards_of}
+use Rattle.strategy_games.specs.Plans.{Plan, Replies, Play, Hear, Reply, Fits, cards_of}
 use Rattle.strategy_tree.specs.Bridge.{bridge}
 use Rattle.strategy_tree.proofs.Rules.{lawful}
 use Rattle.strategy_check.specs.Following.{CanFollow, CanFollowEach}

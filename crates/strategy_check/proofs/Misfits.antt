@@ -1,14 +1,13 @@
 -- The first node that doesn't fit, node by node.
-use Rattle.std.proofs.Common.{◌≡◌, ◌≤◌, ◌<◌, ◌+◌, ◌-◌, ◌^◌, ◌&&◌, ◌==◌, ◌∙◌, ℕ, zero, suc, Bool, true, false, not, cond, List, [], ◌∷◌, Contains, Option, Some, None, Result, Ok, Err, refl, sym, ap, ap₂, subst, true≢false, arith}
-use Rattle.std.specs.List.{list_any}
-use Rattle.std.proofs.lemmas.Bool.{and_parts, not-true}
+use Rattle.std.proofs.Common.{◌≡◌, ◌≤◌, ◌<◌, ◌+◌, ◌-◌, ◌^◌, ◌&&◌, ◌==◌, ◌∙◌, ℕ, zero, suc, Bool, true, false, not, cond, List, [], ◌∷◌, Contains, Option, Some, None, Result, Ok, refl, sym, ap, ap₂, subst, true≢false, arith}
+use Rattle.std.proofs.lemmas.Bool.{and_parts}
 use Rattle.std.proofs.lemmas.Bool.Decides.{Decides-eqb}
 use Rattle.card_sets.specs.SetWords.{has_card}
 use Rattle.trick_rules.specs.Nodes.{Layouts, choices, child}
 use Rattle.strategy_games.specs.Games.{Game}
-use Rattle.strategy_games.specs.Plans.{Plan, Replies, Stop, Play, Hear, NoReply, Reply, cards_of, stops}
+use Rattle.strategy_games.specs.Plans.{Plan, Replies, Stop, Play, Hear, Reply, cards_of, stops}
 use Rattle.strategy_games.proofs.Lists.{Contains-here, Contains-there}
-use Rattle.strategy_games.specs.Misfits.{node_count, node_counts, further, or_else, same_cards, belongs, first_misfit, first_misfit_each}
+use Rattle.strategy_games.specs.Misfits.{node_count, node_counts, further, same_cards, belongs, first_misfit, first_misfit_each}
 use Rattle.strategy_tree.specs.Bridge.{bridge}
 use Rattle.strategy_tree.proofs.CardLists.{has_card-from_Contains}
 use Rattle.strategy_check.specs.Counting.{counted}

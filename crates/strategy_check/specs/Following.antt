@@ -1,5 +1,5 @@
 -- A strategy that is followed in one layout.
-use Rattle.std.specs.Prelude.{◌≡◌, ℕ, Bool, false, Contains}
+use Rattle.std.specs.Prelude.{ℕ, Bool, Contains}
 use Rattle.std.specs.List.{list_all}
 use Rattle.trick_rules.specs.Table.{State}
 use Rattle.trick_rules.specs.Play.{makes}

@@ -1,4 +1,4 @@
-use Rattle.std.proofs.Common.{◌≡◌, ◌∙◌, sym, ap}
+use Rattle.std.proofs.Common.{◌∙◌, sym, ap}
 use Rattle.strategy_games.specs.Plans.{Play, Hear}
 use Rattle.strategy_tree.specs.PlanMeaning.{plan_of, replies_of}
 use Rattle.strategy_tree.proofs.Meanings.{plan_of-Play, plan_of-Hear, replies_of-drop}

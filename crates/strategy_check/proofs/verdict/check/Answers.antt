@@ -1,6 +1,6 @@
 use Rattle.std.proofs.Common.{◌≡◌, ◌∙◌, ◌≤◌, Some, length, sym, ap, arith}
 use Rattle.std.specs.List.{slice_get}
-use Rattle.trick_rules.specs.Table.{Table, State}
+use Rattle.trick_rules.specs.Table.{Table}
 use Rattle.strategy_games.specs.Plans.{wins, wins_vector}
 use Rattle.strategy_tree.specs.Bridge.{bridge}
 use Rattle.strategy_tree.specs.PlanMeaning.{plan_of}

@@ -1,14 +1,14 @@
-use Rattle.std.proofs.Common.{◌≡◌, ◌+◌, ◌∙◌, true, false, refl, sym, ap, subst, arith}
+use Rattle.std.proofs.Common.{◌≡◌, ◌∙◌, true, false, sym, ap, subst, arith}
 use Rattle.card_sets.specs.SetWords.{has_card}
 use Rattle.trick_rules.specs.Table.{State}
 use Rattle.trick_rules.specs.Play.{after}
 use Rattle.trick_rules.proofs.PlayLaws as play
 use Rattle.strategy_games.specs.Misfits.{node_count, node_counts}
-use Rattle.strategy_games.specs.Plans.{Plan, Replies, Play, Hear, wins}
+use Rattle.strategy_games.specs.Plans.{Play, Hear, wins}
 use Rattle.strategy_tree.specs.Bridge.{bridge}
 use Rattle.strategy_tree.specs.PlanMeaning.{plan_of, replies_of}
 use Rattle.strategy_tree.proofs.Meanings.{plan_of-Play, plan_of-Hear, replies_of-drop}
-use Rattle.strategy_check.specs.Following.{CanFollow, CanFollowEach, win_each}
+use Rattle.strategy_check.specs.Following.{CanFollow, CanFollowEach}
 use Rattle.strategy_check.proofs.Followed.{followed_state, followed_states, follow_Play, follow_Hear, follow_Reply, follow_later}
 use Rattle.strategy_check.proofs.Won.{lost_here, won_here, not_legal}
 use Rattle.strategy_check.proofs.winning.+winning.Goals as goal
