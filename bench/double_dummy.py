@@ -1,43 +1,65 @@
 #!/usr/bin/env python3
-"""Times plain double dummy beside the same work in C++, plain and with a memo, in one run, and prints the ratios.
+"""Times double dummy, the solver and plain minimax, beside the same work in C++, plain and with a memo, and beside Bo Haglund's DDS
+where its library is there (Debian's libdds-dev), all on the same random endings in one run.
 
-Usage: bench/double_dummy.py [SECONDS], the least time of one measurement (default 0.5). It builds both programs first."""
+Usage: bench/double_dummy.py [SECONDS], the least processor time of one measurement (default 0.5). It builds the programs first."""
 import pathlib
+import resource
 import subprocess
 import sys
-import time
 
 HERE = pathlib.Path(__file__).resolve().parent
 CRATE = HERE.parent / "crates" / "bench_double_dummy"
-OURS = [CRATE / "out" / "bench_double_dummy"]
+OURS = CRATE / "out" / "bench_double_dummy"
 THEIRS = HERE / "build" / "double_dummy_baseline"
+PLAIN_TRICKS = 6  # plain minimax takes too long beyond
 
 
-def seconds(words, tricks, endings):
-    start = time.perf_counter()
-    done = subprocess.run(words + [str(tricks), str(endings)], check=True, capture_output=True)
-    return time.perf_counter() - start, done.stdout
+def build():
+    """Builds the programs, and says whether DDS is there."""
+    THEIRS.parent.mkdir(exist_ok=True)
+    words = ["g++", "-O2", "-march=x86-64-v2", "-o", THEIRS, HERE / "double_dummy_baseline.cpp"]
+    dds = subprocess.run(words + ["-DWITH_DDS", "-ldds"], stderr=subprocess.DEVNULL).returncode == 0
+    if not dds:
+        subprocess.run(words, check=True)
+    subprocess.run(["rt", "run"], cwd=CRATE, check=True, stdout=subprocess.DEVNULL, stderr=subprocess.DEVNULL)
+    return dds
+
+
+def seconds(words):
+    """The processor time of a program, and what it prints."""
+    before = resource.getrusage(resource.RUSAGE_CHILDREN).ru_utime
+    done = subprocess.run([str(word) for word in words], check=True, capture_output=True)
+    return resource.getrusage(resource.RUSAGE_CHILDREN).ru_utime - before, done.stdout
+
+
+def each(program, tricks, strain, least, answers):
+    """Microseconds an ending, of a program that takes the number of endings; its answers go to `answers` by that number."""
+    endings = 50
+    while True:
+        taken, answer = seconds(program(endings))
+        if answers.setdefault((tricks, strain, endings), answer) != answer:
+            sys.exit("the answers differ for %d tricks, %s, %d endings" % (tricks, strain, endings))
+        if taken >= least:
+            return 1e6 * min([taken] + [seconds(program(endings))[0] for _ in range(2)]) / endings
+        endings *= 2
 
 
 def main():
     least = float(sys.argv[1]) if len(sys.argv) > 1 else 0.5
-    THEIRS.parent.mkdir(exist_ok=True)
-    subprocess.run(["g++", "-O2", "-march=x86-64-v2", "-o", THEIRS, HERE / "double_dummy_baseline.cpp"], check=True)
-    subprocess.run(["rt", "run"], cwd=CRATE, check=True, stdout=subprocess.DEVNULL, stderr=subprocess.DEVNULL)
-    print("tricks  microseconds an ending, ours   C++ plain   C++ memo   ours to plain   ours to memo")
-    for tricks in (4, 5, 6):
-        endings = 20
-        while seconds([THEIRS, "plain"], tricks, endings)[0] < least:
-            endings *= 2
-        times, answers = [], []
-        for words in (OURS, [THEIRS, "plain"], [THEIRS, "memo"]):
-            taken, answer = min(seconds(words, tricks, endings) for _ in range(3))
-            times.append(taken)
-            answers.append(answer)
-        if len(set(answers)) != 1:
-            sys.exit("the answers differ: %r" % answers)
-        each = [1e6 * taken / endings for taken in times]
-        print("%6d  %28.1f   %9.1f   %8.1f   %13.2f   %12.2f" % (tricks, *each, times[0] / times[1], times[0] / times[2]))
+    dds = build()
+    answers = {}
+    print("microseconds an ending")
+    print("tricks   strain      solver   C++ memo        DDS      plain  C++ plain   solver to memo   solver to DDS")
+    for tricks in (4, 5, 6, 7, 8):
+        for strain in ("notrump", "suit"):
+            programs = [lambda n: [OURS, tricks, n, strain], lambda n: [THEIRS, "memo", tricks, n, strain]]
+            programs.append((lambda n: [THEIRS, "dds", tricks, n, strain]) if dds else None)
+            short = tricks <= PLAIN_TRICKS
+            programs.append((lambda n: [OURS, tricks, n, "plain", strain]) if short else None)
+            programs.append((lambda n: [THEIRS, "plain", tricks, n, strain]) if short else None)
+            times = [each(program, tricks, strain, least, answers) if program else float("nan") for program in programs]
+            print("%6d  %7s" % (tricks, strain) + "%11.1f" * 5 % tuple(times) + "%17.2f%16.2f" % (times[0] / times[1], times[0] / times[2]), flush=True)
 
 
 if __name__ == "__main__":

@@ -1,10 +1,14 @@
 // The work of the crate bench_double_dummy in C++: double dummy on the same random endings.
-// usage: double_dummy_baseline plain|memo TRICKS ENDINGS
+// usage: double_dummy_baseline plain|memo|dds TRICKS ENDINGS [notrump|suit]
+// dds asks Bo Haglund's double dummy solver (Debian's libdds-dev): build with -DWITH_DDS and -ldds
 #include <cstdint>
 #include <cstdio>
 #include <cstdlib>
 #include <cstring>
 #include <unordered_map>
+#ifdef WITH_DDS
+#include <dds/dll.h>
+#endif
 using u64 = uint64_t;
 static u64 state = 20191118;
 static u64 draw(u64 bound) {
@@ -50,9 +54,29 @@ static bool makes(const Pos &p) {
     if (use_memo && p.n == 0) memo.emplace(key, answer);
     return answer;
 }
+static bool makes_dds(const Pos &p) {
+#ifdef WITH_DDS
+    deal d{};
+    d.trump = p.trump;
+    d.first = p.leader;
+    for (int seat = 0; seat < 4; seat++)
+        for (int suit = 0; suit < 4; suit++) d.remainCards[seat][suit] = (unsigned)((p.hand[seat] >> (13 * suit)) & 0x1fff) << 2;
+    futureTricks found;
+    if (SolveBoard(d, p.need, 1, 1, &found, 0) != 1) exit(3);
+    return found.cards > 0 && found.score[0] >= p.need;
+#else
+    (void)p;
+    exit(2);
+#endif
+}
 int main(int argc, char **argv) {
-    if (argc != 4) return 2;
+    if (argc != 4 && argc != 5) return 2;
     use_memo = !strcmp(argv[1], "memo");
+    bool use_dds = !strcmp(argv[1], "dds");
+    const char *strain = argc == 5 ? argv[4] : "";
+#ifdef WITH_DDS
+    SetMaxThreads(1);
+#endif
     int tricks = atoi(argv[2]);
     long endings = atol(argv[3]), made = 0;
     for (long i = 0; i < endings; i++) {
@@ -64,9 +88,11 @@ int main(int argc, char **argv) {
                 if (!(used & bit)) used |= bit, p.hand[s] |= bit;
             }
         p.trump = draw(5);
+        if (!strcmp(strain, "notrump")) p.trump = 4;
+        if (!strcmp(strain, "suit") && p.trump == 4) p.trump = 0;
         p.need = 1 + draw(tricks);
         memo.clear();
-        made += makes(p);
+        made += use_dds ? makes_dds(p) : makes(p);
     }
     printf("%ld\n", made);
 }

@@ -48,7 +48,7 @@ def run(program, case, seconds):
     to = bytes_of(case, "stdout_to").decode().strip()
     with tempfile.TemporaryDirectory() as room:
         lay_out(case, room)
-        with open(to, "wb") if to else tempfile.TemporaryFile() as out:
+        with open(os.open(to, os.O_WRONLY), "wb") if to else tempfile.TemporaryFile() as out:
             ran = subprocess.run([os.fsencode(program), *words], cwd=room, stdin=subprocess.DEVNULL, stdout=out,
                                  stderr=subprocess.PIPE, timeout=seconds)
             if to:
@@ -63,6 +63,8 @@ def differences(program, case, seconds):
         found = run(program, case, seconds)
     except subprocess.TimeoutExpired:
         return [f"no end after {seconds} seconds"]
+    except OSError as error:
+        return [f"not run: {error}"]
     wanted = bytes_of(case, "stdout"), bytes_of(case, "stderr"), int(bytes_of(case, "status") or 0)
     return [f"{what}: {found[at]!r}, and not {wanted[at]!r}"
             for at, what in enumerate(("standard output", "standard error", "exit status")) if found[at] != wanted[at]]

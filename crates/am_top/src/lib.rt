@@ -4,6 +4,7 @@
 #![tactic(auto)]
 
 pub mod inputs;
+pub mod laws;
 mod line;
 mod names;
 pub mod program;
@@ -13,3 +14,6 @@ mod work;
 
 pub use program::run;
 pub use status::{FileWord, PbnKind, Status};
+
+#[cfg(test)]
+mod tests;

@@ -4,6 +4,22 @@ use dd_solver::{Solver, makes_plain};
 use std::alloc::Global;
 use trick_rules::{Position, Trump};
 
+/// Which trumps the endings have.
+#[derive(Clone, Copy)]
+pub enum Strain {
+    Any,
+    NoTrump,
+    Suit,
+}
+
+/// How many tricks an ending has, who answers, and which trumps there are.
+#[derive(Clone, Copy)]
+pub struct Workload {
+    pub tricks: u8,
+    pub plain: bool,
+    pub strain: Strain,
+}
+
 /// Numbers that follow one another without an order that shows.
 #[derive(Drop)]
 struct Draws {
@@ -24,13 +40,18 @@ impl Draws {
         Card::from_number((self.next(52) % 52) as u8)
     }
 
-    fn trump(&mut self) -> Trump {
-        match self.next(5) {
-            0 => Trump::Suit(Suit::Spades),
-            1 => Trump::Suit(Suit::Hearts),
-            2 => Trump::Suit(Suit::Diamonds),
-            3 => Trump::Suit(Suit::Clubs),
-            _ => Trump::NoTrump,
+    fn trump(&mut self, strain: Strain) -> Trump {
+        let drawn = self.next(5);
+        let suit = match drawn {
+            0 | 4 => Suit::Spades,
+            1 => Suit::Hearts,
+            2 => Suit::Diamonds,
+            _ => Suit::Clubs,
+        };
+        match strain {
+            Strain::NoTrump => Trump::NoTrump,
+            Strain::Any if drawn == 4 => Trump::NoTrump,
+            _ => Trump::Suit(suit),
         }
     }
 
@@ -50,29 +71,35 @@ impl Draws {
         hand
     }
 
-    // Whether declarer's side makes an ending of so many tricks.
-    fn makes_next(&mut self, alloc: Global, tricks: u8, plain: bool) -> bool {
+    // Whether declarer's side makes an ending.
+    fn makes_next(&mut self, alloc: Global, work: Workload) -> bool {
         let mut used = CardSet::empty();
-        let declarer = self.hand(tricks, &mut used);
-        let left = self.hand(tricks, &mut used);
-        let dummy = self.hand(tricks, &mut used);
-        let right = self.hand(tricks, &mut used);
-        let trump = self.trump();
-        let need = 1 + (self.next(u64::from(tricks)) % 13) as u8;
+        let declarer = self.hand(work.tricks, &mut used);
+        let left = self.hand(work.tricks, &mut used);
+        let dummy = self.hand(work.tricks, &mut used);
+        let right = self.hand(work.tricks, &mut used);
+        let trump = self.trump(work.strain);
+        let need = 1 + (self.next(u64::from(work.tricks)) % 13) as u8;
         let unseen = left.either(right);
         match Position::between_tricks(declarer, dummy, unseen, Seat::Declarer, need, trump) {
-            Some(position) if position.fits(left) => if plain { makes_plain(&position, left) } else { Solver::new(alloc).makes(&position, left) },
+            Some(position) if position.fits(left) => {
+                if work.plain {
+                    makes_plain(&position, left)
+                } else {
+                    Solver::new(alloc).makes(&position, left)
+                }
+            }
             _ => false,
         }
     }
 }
 
-/// How many of so many endings are made.
-pub fn made_of(alloc: Global, tricks: u8, endings: u64, plain: bool) -> u64 {
+/// How many of so many endings are made. Each is answered by a solver of its own.
+pub fn made_of(alloc: Global, work: Workload, endings: u64) -> u64 {
     let mut draws = Draws { state: 20_191_118 };
     let mut made: u64 = 0;
     for _ in 0..endings {
-        if draws.makes_next(alloc, tricks, plain) {
+        if draws.makes_next(alloc, work) {
             made = made.saturating_add(1);
         }
     }

@@ -5,19 +5,32 @@
 
 mod endings;
 
-use endings::made_of;
+use endings::{Strain, Workload, made_of};
 use std::env;
 
-/// The arguments: how many tricks an ending has, and how many endings.
+/// The arguments: how many tricks an ending has, and how many endings. Then, in any order, `plain` for plain minimax in
+/// place of the solver, and `notrump` or `suit` for endings without or with trumps alone.
 fn main(rt: HostRuntime) -> anyhow::Result<()> {
-    let mut numbers = [0u64; 3];
+    let mut numbers = [0u64; 2];
+    let mut plain = false;
+    let mut strain = Strain::Any;
     for (place, word) in env::args(&rt)?.skip(1).enumerate() {
-        if place < 3 {
-            numbers[place] = word.as_str().parse()?;
+        let text = word.as_str();
+        if place < 2 {
+            numbers[place] = text.parse()?;
+        } else if text == "plain" {
+            plain = true;
+        } else if text == "notrump" {
+            strain = Strain::NoTrump;
+        } else {
+            strain = Strain::Suit;
         }
     }
-    let tricks = numbers[0].min(13) as u8;
-    let made = made_of(rt.alloc(), tricks, numbers[1], numbers[2] == 1);
-    println!(rt; "{made}")?;
+    let work = Workload {
+        tricks: numbers[0].min(13) as u8,
+        plain,
+        strain,
+    };
+    println!(rt; "{}", made_of(rt.alloc(), work, numbers[1]))?;
     Ok(())
 }

@@ -35,7 +35,7 @@ fn next_equal(legal: CardSet, playing: CardSet, card: Card) -> Option<Card>
     ensures { IfSome result (λ next. IsNextEqual legal playing card next) }
 {
     let next = playing.after(card)?;
-    if next.suit() == card.suit() && legal.has(next) {
+    if legal.has(next) && next.suit() == card.suit() {
         Some(next)
     } else {
         None

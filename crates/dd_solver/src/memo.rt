@@ -1,5 +1,5 @@
 //! What is known already of positions between two tricks.
-ghost use Rattle.std.specs.Prelude.{◌≡◌, ◌<◌, [], IfSome, IsTrue};
+ghost use Rattle.std.specs.Prelude.{◌≡◌, ◌<◌, ◌≤◌, [], IfSome, IsTrue, vec_len};
 ghost use Rattle.dd_solver.specs.Keys.{key_state};
 ghost use Rattle.trick_rules.specs.Play.{makes};
 
@@ -97,12 +97,31 @@ fn put(slots: &mut [Option<Entry>], entry: Entry) {
     }
 }
 
+// Puts all entries of another table in.
+fn put_all(slots: &mut [Option<Entry>], others: &[Option<Entry>]) {
+    for entry in others.iter().flatten() {
+        put(slots, *entry);
+    }
+}
+
+// How many slots a table has that takes the place of one with so many.
+fn wider_size(slots: usize) -> usize
+    ensures { result ≤ 262144 }
+{
+    if slots == 0 {
+        FIRST_ENTRIES
+    } else {
+        slots.saturating_mul(4).min(MOST_ENTRIES)
+    }
+}
+
 /// Answers between two tricks. What finds its slot taken by another position takes its place.
 #[derive(Debug, Drop)]
 pub(crate) struct Memo {
     alloc: Global,
     slots: Vec<Option<Entry>>,
     stored: usize,
+    ghost few: { vec_len slots ≤ 262144 },
 }
 
 impl Memo {
@@ -147,18 +166,10 @@ impl Memo {
 
     // Puts the entries into a wider table. Where there is no memory for it, the old one stays.
     fn grow(&mut self) {
-        let wanted = if self.slots.is_empty() {
-            FIRST_ENTRIES
-        } else {
-            self.slots.len().saturating_mul(4).min(MOST_ENTRIES)
-        };
         self.stored = 0;
-        let Ok(mut wider) = Vec::from_elem(self.alloc, None, wanted) else {
-            return;
-        };
-        for entry in self.slots.as_slice().iter().flatten() {
-            put(wider.as_mut_slice(), *entry);
+        if let Ok(mut wider) = Vec::from_elem(self.alloc, None, wider_size(self.slots.len())) {
+            put_all(wider.as_mut_slice(), self.slots.as_slice());
+            self.slots = wider;
         }
-        self.slots = wider;
     }
 }

@@ -21,7 +21,8 @@ pub(crate) fn search(memo: &mut Memo, position: &Position, left: CardSet) -> boo
     if let Some(made) = position.decided() {
         return made;
     }
-    if !between {
+    // With one trick left there is no choice, and looking takes longer than playing.
+    if !between || position.declarer.count() < 2 {
         return search_cards(memo, position, left);
     }
     if let Some(made) = memo.look(position, left) {

@@ -36,6 +36,7 @@ numbers_kept plays t layouts = map (λ l. l.0) (allowed plays t layouts)
 abbrev pub lefts_kept : List Played → Table → List (ℕ × Defenders) → List (List ℕ)
 lefts_kept plays t layouts = map (λ l. hand_after l.1.left plays) (allowed plays t layouts)
 
+-- the fault that no layout is left, or else what is kept
 abbrev pub unless_none : List ℕ → KeptValue → Result KeptValue LayoutFault
 unless_none [] kept = Err NoneLeft
 unless_none (number ∷ numbers) kept = Ok kept

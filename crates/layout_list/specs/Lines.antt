@@ -17,9 +17,11 @@ use Rattle.layout_list.specs.declared.line.Defenders.{Defenders}
 
 -- ---- lines
 
+-- a line feed
 abbrev pub is_line_end : ℕ → Bool
 is_line_end byte = byte == 10
 
+-- a line that begins with a per cent sign
 abbrev pub is_comment : List ℕ → Bool
 is_comment [] = false
 is_comment (byte ∷ rest) = byte == 37
@@ -43,6 +45,7 @@ layout_lines lines = filter (λ line. not (is_skipped line.1)) lines
 
 -- ---- one layout
 
+-- two sets have the same cards
 abbrev pub same_cards : List ℕ → List ℕ → Bool
 same_cards a b = bytes_eq a b
 
@@ -58,10 +61,12 @@ defenders_of board unseen (Some own) (Some dummy) (Some left) (Some right) =
     else None
 defenders_of board unseen _ _ _ _ = None
 
+-- the defenders' hands in a deal that shows all four hands, as the board has them
 abbrev pub defenders_in : BoardValue → Option (List ℕ) → DealValue → Option Defenders
 defenders_in board unseen deal =
     defenders_of board unseen (hand_at deal board.declarer) (hand_at deal (compass_of board.declarer Dummy)) (hand_at deal (compass_of board.declarer Left)) (hand_at deal (compass_of board.declarer Right))
 
+-- the defenders' hands in a deal that was read from this line, or the refusal of the line
 abbrev pub deal_of_line : BoardValue → Option (List ℕ) → ℕ → Result DealValue DealFault → Result Defenders LayoutFault
 deal_of_line board unseen number (Ok deal) = ok_or (defenders_in board unseen deal) (OtherHands number)
 deal_of_line board unseen number (Err fault) = Err (BadLine number fault)

@@ -29,6 +29,7 @@ cause_of s play =
     else if not (has_card (legal_cards s.table.trick.cards (hand_of s play.seat)) play.card) then Some Revoke
     else None
 
+-- a cause at this card, or else what is found later
 abbrev pub or_later : Option Cause → ℕ → Option Contradiction → Option Contradiction
 or_later None number later = later
 or_later (Some cause) number later = Some (record { cause = cause; play = number })

@@ -92,6 +92,22 @@ fn a_file_at_fault_is_refused_with_its_line(rt: HostRuntime) -> Result<(), Fail>
         ("]", "StrayToken 1"),
         ("[A \"b\"\n\n\u{1}[\u{c}", "NotText 3"),
         ("{\n\u{8}", "NotText 2"),
+        (
+            "[Deal \"N:32... - KJ... -\"]\n[Declarer \"S\u{7}\"]\n[Contract \"1NT\"]\n",
+            "NotText 2",
+        ),
+        (
+            "[Deal \"N:32... - KJ... -\"]\n[Declarer \"S\"]\n[Contract 1NT]\n[EndNeed \"1\"]\n",
+            "BadTag 3",
+        ),
+        (
+            "S2\n[Deal \"N:32... - KJ... -\"]\n[Declarer \"S\"]\n",
+            "StrayToken 1",
+        ),
+        (
+            "[Deal \"N:32... - KJ... -\"]\n[Declarer \"S\"]\n[Contract \"1NT\"]\n[EndNeed \"1\"]\n[EndLead \"N\"]\n{ open\n",
+            "OpenBrace 6",
+        ),
     ];
     for (file, text) in table {
         assert_eq!(rt;

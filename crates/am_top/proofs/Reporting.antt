@@ -1,0 +1,103 @@
+-- What a report says, and that it is the only one.
+use Rattle.std.proofs.Common.{◌≡◌, ◌≤◌, ℕ, zero, suc, List, [], ◌∷◌, length, map, All, Contains, refl, sym, ap, ap₂, subst, ◌∙◌}
+use Rattle.std.proofs.lemmas.List.Elements.{All-contains, All-tail}
+use Rattle.win_vectors.specs.Vectors.{ones_of}
+use Rattle.win_vectors.specs.Fronts.{Vector, Covers}
+use Rattle.win_vectors.proofs.Orders.{Dominates-refl}
+use Rattle.trick_rules.specs.Nodes.{Layouts, IsNode}
+use Rattle.strategy_games.specs.Plans.{Plan, Fits, wins_vector}
+use Rattle.strategy_games.specs.Choosing.{IsChosenPlan, IsNamedCard, IsBestCount}
+use Rattle.strategy_games.proofs.Lists.{Contains-map, Contains-here}
+use Rattle.strategy_tree.specs.Bridge.{bridge}
+use Rattle.strategy_tree.proofs.BridgeLaws as laws
+use Rattle.job_words.specs.declared.Job.{Job}
+use Rattle.job_words.specs.declared.Job.TheVariants.{Solve, Card}
+use Rattle.pbn_deal.specs.Boards.{BoardValue}
+use Rattle.layout_list.specs.Kept.{KeptValue}
+use Rattle.am_report.specs.Answers.{AnswerValue, EntryValue}
+use Rattle.am_report.specs.Solve.{solve_text}
+use Rattle.am_report.specs.Card.{card_text}
+use Rattle.am_top.specs.Answers.{TaskValue}
+use Rattle.am_top.specs.Reports.{IsSolveAnswer, IsTextFor, IsText}
+
+-- ---- what is printed
+
+pub plan-wins : (n : Layouts) (moves : ℕ) (found : AnswerValue) (entry : EntryValue) → IsNode n → IsSolveAnswer n moves found → Contains found.entries entry
+    → Fits bridge entry.plan n moves × (wins_vector bridge entry.plan n ≡ entry.vector)
+plan-wins n moves found entry node is member =
+    let vectors = map (λ e. e.vector) found.entries in
+    let inside : Contains vectors entry.vector = Contains-map (λ e. e.vector) found.entries entry member in
+    let chosen = All-contains (λ e. IsChosenPlan bridge e.plan n moves e.vector) found.entries entry is.plans member in
+    let wins = laws.chosen_plan.wins entry.plan n moves entry.vector vectors node is.vectors (entry.vector, inside, Dominates-refl entry.vector) chosen in
+    (wins.0, is.vectors.apart (wins_vector bridge entry.plan n) entry.vector wins.1.member inside wins.1.above)
+
+pub vectors-cover : (n : Layouts) (moves : ℕ) (found : AnswerValue) (plan : Plan ℕ) → IsSolveAnswer n moves found → Fits bridge plan n moves
+    → Covers (map (λ e. e.vector) found.entries) (wins_vector bridge plan n)
+vectors-cover n moves found plan is fits = is.vectors.covered (wins_vector bridge plan n) (plan, fits, refl)
+
+pub count-most : (n : Layouts) (moves : ℕ) (found : AnswerValue) (plan : Plan ℕ) → IsSolveAnswer n moves found → Fits bridge plan n moves
+    → ones_of (wins_vector bridge plan n) ≤ found.count
+count-most n moves found plan is fits = laws.best_count.most n moves found.count plan is.count fits
+
+-- ---- that it is the only one
+
+abbrev entry_of : Vector → Plan ℕ → EntryValue
+entry_of vector plan = record { vector = vector; plan = plan }
+
+same_heads : {X : Type 0} (x y : X) (xs ys : List X) → x ∷ xs ≡ y ∷ ys → (x ≡ y) × (xs ≡ ys)
+same_heads x y xs ys same = (cc, cc)
+
+entries-same : (n : Layouts) (moves : ℕ) (entries others : List EntryValue) → map (λ e. e.vector) entries ≡ map (λ e. e.vector) others
+    → All (λ e. IsChosenPlan bridge e.plan n moves e.vector) entries → All (λ e. IsChosenPlan bridge e.plan n moves e.vector) others → entries ≡ others
+entries-same n moves [] [] same plans more = refl
+entries-same n moves [] (f ∷ others) same plans more = cc
+entries-same n moves (e ∷ entries) [] same plans more = cc
+entries-same n moves (e ∷ entries) (f ∷ others) same plans more =
+    let (vector, rest) = same_heads e.vector f.vector (map (λ e. e.vector) entries) (map (λ e. e.vector) others) same in
+    let first = All-contains (λ e. IsChosenPlan bridge e.plan n moves e.vector) (e ∷ entries) e plans (Contains-here e entries) in
+    let second = All-contains (λ e. IsChosenPlan bridge e.plan n moves e.vector) (f ∷ others) f more (Contains-here f others) in
+    let plan = laws.chosen_plan.unique e.plan f.plan n moves f.vector (subst (λ v. IsChosenPlan bridge e.plan n moves v) vector first) second in
+    ap₂ (λ (x : EntryValue) xs. x ∷ xs) (ap₂ entry_of vector plan)
+    (entries-same n moves entries others rest (All-tail (λ e. IsChosenPlan bridge e.plan n moves e.vector) e entries plans) (All-tail (λ e. IsChosenPlan bridge e.plan n moves e.vector) f others more))
+
+named-same : (n : Layouts) (moves card other : ℕ) → IsNamedCard bridge n moves card → IsNamedCard bridge n moves other → card ≡ other
+named-same n zero card other is also = absurd is
+named-same n (suc moves) card other is also = laws.named_card.unique n moves card other is also
+
+abbrev answer_of : List EntryValue → ℕ → ℕ → AnswerValue
+answer_of entries card count = record { entries = entries; card = card; count = count }
+
+answer-same : (n : Layouts) (moves : ℕ) (found other : AnswerValue) → IsSolveAnswer n moves found → IsSolveAnswer n moves other → found ≡ other
+answer-same n moves found other is also =
+    let vectors = laws.one_front.unique n moves (map (λ e. e.vector) found.entries) (map (λ e. e.vector) other.entries) is.vectors also.vectors in
+    let entries = entries-same n moves found.entries other.entries vectors is.plans also.plans in
+    let card = named-same n moves found.card other.card is.card also.card in
+    let count = laws.best_count.unique n moves found.count other.count is.count also.count in
+    ap (λ e. answer_of e found.card found.count) entries ∙ ap₂ (λ c k. answer_of other.entries c k) card count
+
+-- what a text is made from
+abbrev IsTextOf : Job → ℕ → BoardValue → KeptValue → List ℕ → Type 0
+IsTextOf Solve moves board kept text = (found : AnswerValue) × IsSolveAnswer kept.node moves found × (text ≡ solve_text board kept moves found)
+IsTextOf Card moves board kept text = (card count : ℕ) × IsNamedCard bridge kept.node moves card × IsBestCount bridge kept.node moves count × (text ≡ card_text card count (length kept.node.lefts))
+
+text-made : (job : Job) (task : TaskValue) (text : List ℕ) → IsTextFor job task text → IsTextOf job task.ask.moves task.board task.kept text
+text-made Solve task text is = is
+text-made Card task text is = is
+
+text-same : (job : Job) (moves : ℕ) (board : BoardValue) (kept : KeptValue) (text more : List ℕ) → IsTextOf job moves board kept text → IsTextOf job moves board kept more → text ≡ more
+text-same Solve moves board kept text more (found, is, written) (other, also, again) =
+    written ∙ ap (solve_text board kept moves) (answer-same kept.node moves found other is also) ∙ sym again
+text-same Card moves board kept text more (card, count, is, best, written) (other, most, also, same, again) =
+    written ∙ ap₂ (λ c k. card_text c k (length kept.node.lefts)) (named-same kept.node moves card other is also) (laws.best_count.unique kept.node moves count most best same) ∙ sym again
+
+pub one-text : (task other : TaskValue) (text more : List ℕ) → other.board ≡ task.board → other.kept ≡ task.kept → other.ask.job ≡ task.ask.job → other.ask.moves ≡ task.ask.moves
+    → IsText task text → IsText other more → text ≡ more
+one-text task other text more board kept job moves is also =
+    let made = text-made task.ask.job task text is in
+    let made_too : IsTextOf task.ask.job task.ask.moves task.board task.kept more =
+    subst (λ j. IsTextOf j task.ask.moves task.board task.kept more) job
+    (subst (λ m. IsTextOf other.ask.job m task.board task.kept more) moves
+    (subst (λ b. IsTextOf other.ask.job other.ask.moves b task.kept more) board
+    (subst (λ k. IsTextOf other.ask.job other.ask.moves other.board k more) kept
+    (text-made other.ask.job other more also)))) in
+    text-same task.ask.job task.ask.moves task.board task.kept text more made made_too

@@ -1,0 +1,61 @@
+//! Runs over files and sinks in memory: reports of small endings byte for byte, and each kind of refusal.
+use crate::{Status, run};
+use am_outside::{MemoryShelf, MemorySink, OpenGate};
+use std::alloc::{AllocError, Global};
+use std::thread::Threads;
+
+mod refusals;
+mod reports;
+
+// Two spades opposite king and jack, with one of two tricks needed and North, dummy, to lead.
+const QUEEN: &str =
+    "[Deal \"N:32... - KJ... -\"]\n[Declarer \"S\"]\n[Contract \"1NT\"]\n[EndNeed \"1\"]\n[EndLead \"N\"]\n";
+
+// East has ace and seven, or queen and seven.
+const QUEEN_LAYOUTS: &str = "N:32... A7... KJ... Q5...\nN:32... Q7... KJ... A5...\n";
+
+// A run of these words, which are separated by single spaces, over two files.
+#[derive(Drop)]
+struct Run {
+    status: Status,
+    out: MemorySink,
+    err: MemorySink,
+}
+
+impl Run {
+    fn ends_with(&self, status: Status, out: &str, err: &str) -> bool {
+        self.status == status
+            && self.out.bytes() == out.as_bytes()
+            && self.err.bytes() == err.as_bytes()
+    }
+}
+
+fn shelf_of(alloc: Global, deal: &str, layouts: &str) -> Result<MemoryShelf, AllocError> {
+    let mut shelf = MemoryShelf::new(alloc);
+    shelf.add("deal", deal.as_bytes())?;
+    shelf.add("layouts", layouts.as_bytes())?;
+    Ok(shelf)
+}
+
+fn words_of(alloc: Global, text: &str) -> Result<Vec<String>, AllocError> {
+    let mut words = Vec::new(alloc);
+    for word in text.split(' ') {
+        words.push(String::from_str(alloc, word)?)?;
+    }
+    Ok(words)
+}
+
+fn ran<R: Threads + Sync>(
+    rt: &R,
+    alloc: Global,
+    text: &str,
+    deal: &str,
+    layouts: &str,
+) -> Result<Run, AllocError> {
+    let words = words_of(alloc, text)?;
+    let mut shelf = shelf_of(alloc, deal, layouts)?;
+    let mut out = MemorySink::new(alloc, 10_000, 0)?;
+    let mut err = MemorySink::new(alloc, 100, 0)?;
+    let status = run(rt, alloc, &words, &mut shelf, &mut out, &mut err, &OpenGate);
+    Ok(Run { status, out, err })
+}
