@@ -1,0 +1,40 @@
+//! A workload to be timed: a plan of as many lines as the arguments say, written or read as often as they say.
+//! It stands on `strategy_tree`.
+//! It promises nothing: what it prints doesn't depend on time.
+#![tactic(auto)]
+
+mod plans;
+mod workload;
+
+use am_outside::Text;
+use plans::plan_of_lines;
+use std::env;
+use workload::{is_read_back, line_count, read_often, write_often};
+
+/// The arguments: `write` or `read`, how many lines the plan has, and how many rounds of 100,000 lines.
+fn main(rt: HostRuntime) -> anyhow::Result<()> {
+    let mut reads = false;
+    let mut numbers = [0u64; 2];
+    for (place, word) in env::args(&rt)?.skip(1).enumerate() {
+        if place == 0 {
+            reads = word.as_str() == "read";
+        } else if place <= 2 {
+            numbers[place - 1] = word.as_str().parse()?;
+        }
+    }
+    let alloc = rt.alloc();
+    let plan = plan_of_lines(alloc, numbers[0])?;
+    let mut text = Text::new(alloc);
+    plan.lines(alloc, &mut text)?;
+    let done = if reads {
+        read_often(alloc, &text, numbers[1])?
+    } else {
+        write_often(alloc, &plan, &text, numbers[1])?
+    };
+    let lines = line_count(text.bytes());
+    let size = text.bytes().len();
+    let same = is_read_back(alloc, &text)?;
+    println!(rt; "{lines} lines, {size} bytes, read back the same: {same}")?;
+    println!(rt; "{done} times as well")?;
+    Ok(())
+}
