@@ -144,7 +144,7 @@ def main():
     subprocess.run(["g++", "-O2", "-march=x86-64-v2", "-o", THEIRS, HERE / "search_baseline.cpp"], check=True)
     example = HERE.parent / "crates" / "alphamu" / "data"
     output([OURS, "--job", "card", "--deal", example / "k.pbn", "--layouts", example / "k.lay", "--moves", 1])
-    endings = [decided(64), top_tricks(64)] + [random_ending(7, 4, 4, seed) for seed in (1, 2, 3)]
+    endings = [decided(64), top_tricks(64)] + [random_ending(7, 4, 4, seed) for seed in (1, 2, 3, 9)]
     print("                                   seconds of the processor       peak memory in MiB         time, ours to C++")
     print("ending              layouts moves     ours    every   equals     ours    every   equals      every   equals  found")
     with tempfile.TemporaryDirectory() as folder:
