@@ -4,3 +4,5 @@ pub mod Lines
 pub mod Head
 pub mod Card
 pub mod Solve
+pub mod ReportLines
+pub mod Reading

@@ -1,0 +1,27 @@
+use Rattle.std.proofs.Common.{◌∙◌, Ok, sym, ap, subst}
+use Rattle.std.proofs.lemmas.Result.{err_from_is_err_and}
+use Rattle.strategy_tree.specs.PlanMeaning.{plan_of}
+use Rattle.strategy_tree.specs.PlanRead.{said_at}
+use Rattle.am_report.specs.declared.fault.ReportFault.{ReportFault}
+use Rattle.am_report.specs.declared.fault.ReportKind.TheVariants as kinds
+use Rattle.am_report.specs.ReportLines.{vector_said}
+use Rattle.am_report.specs.Reading.{expected, entry_read, IsFaultOf}
+use Rattle.am_report.proofs.ReportSteps.{same_fault, entry_read-no_vector, entry_read-plan, entry_read-plan_fault}
+use Rattle.am_report.proofs.reading.read_entry.Goals as goal
+
+pub returns-in_err-vector-clause-read : goal.returns-in_err-vector-clause-read
+returns-in_err-vector-clause-read c =
+    let bytes = c.args.bytes.now in
+    let at = c.args.at in
+    let p = err_from_is_err_and c.from_residual.result c.from_residual.ensures.1 in
+    rw (p.1, p.2) (same_fault (expected kinds.Vector bytes at (said_at vector_said bytes at)) (entry_read bytes at) c.in_err-vector.field-0.0 c.in_err-vector.ensures.read (λ found e. entry_read-no_vector bytes at found e))
+
+pub returns-in-Ok-clause-read : goal.returns-in-Ok-clause-read
+returns-in-Ok-clause-read c =
+    entry_read-plan c.args.bytes.now c.args.at c.in_ok-vector.vector c.in_ok-vector.next (plan_of c.in-Ok.plan) c.in-Ok.end c.in_ok-vector.ensures.read c.in-Ok.ensures.read
+    ∙ ap (λ entry. Ok (entry, c.in-Ok.end)) (sym c.entry_of.ensures)
+
+pub returns-in-Err-clause-read : goal.returns-in-Err-clause-read
+returns-in-Err-clause-read c =
+    subst (λ (fault : ReportFault). IsFaultOf fault (entry_read c.args.bytes.now c.args.at)) (sym c.plan_fault.ensures)
+    (entry_read-plan_fault c.args.bytes.now c.args.at c.in_ok-vector.vector c.in_ok-vector.next c.in-Err.fault c.in_ok-vector.ensures.read c.in-Err.ensures.fault)

@@ -1,0 +1,151 @@
+-- How a report is read: the version, the head, the front with its plans, the card to play and the end. The first fault is the answer.
+use Rattle.std.specs.Prelude.{◌≡◌, ℕ, zero, suc, ◌+◌, ◌-◌, Bool, List, [], ◌∷◌, length, take, drop, find, count_by, Option, Some, None, option_and_then, Result, Ok, Err, if◌then◌else◌, codes}
+use Rattle.std.specs.Option.{option_map, is_some}
+use Rattle.std.specs.List.{slice_split, filter_map, range_with_len}
+use Rattle.strategy_games.specs.Plans.{Plan as PlanValue}
+use Rattle.strategy_tree.specs.declared.plan_reader.PlanFault.{PlanFault}
+use Rattle.strategy_tree.specs.declared.plan_reader.PlanFault.TheVariants as plan_faults
+use Rattle.strategy_tree.specs.PlanText.{line_of}
+use Rattle.strategy_tree.specs.PlanRead.{text_after, said_at, plan_read}
+use Rattle.am_report.specs.declared.fault.ReportKind.{ReportKind}
+use Rattle.am_report.specs.declared.fault.ReportKind.TheVariants as kinds
+use Rattle.am_report.specs.declared.fault.ReportFault.{ReportFault}
+use Rattle.am_report.specs.declared.fault.ReportFault.TheVariants as faults
+use Rattle.am_report.specs.declared.reading.Head.{Head}
+use Rattle.am_report.specs.declared.reading.ReadReport.{ReadReport}
+use Rattle.am_report.specs.Answers.{EntryValue}
+use Rattle.am_report.specs.ReportLines.{is_line_end, front_said, moves_said, vector_said, card_said}
+
+-- what a report says: the text of its head, the moves, the front with its plans, the card to play and its count of layouts
+pub record ReportValue : Type 0 where
+  pub head : List ℕ
+  pub moves : ℕ
+  pub entries : List EntryValue
+  pub card : ℕ
+  pub count : ℕ
+
+-- ---- lines by their numbers
+
+-- the number of the line in which a place lies
+abbrev pub line_number : List ℕ → ℕ → ℕ
+line_number bytes at = 1 + count_by is_line_end (take at bytes)
+
+-- the number of the line after that of the last byte
+abbrev pub line_after_last : List ℕ → ℕ
+line_after_last bytes = line_number bytes (length bytes - 1) + 1
+
+infixl 10 ◌>>=◌
+abbrev pub ◌>>=◌ : {A B : Type 0} → Result A (ℕ × ReportKind) → (A → Result B (ℕ × ReportKind)) → Result B (ℕ × ReportKind)
+Ok x >>= f = f x
+Err fault >>= f = Err fault
+
+-- what has to stand at a place
+abbrev pub expected : {A : Type 0} → ReportKind → List ℕ → ℕ → Option A → Result A (ℕ × ReportKind)
+expected kind bytes at None = Err (line_number bytes at, kind)
+expected kind bytes at (Some x) = Ok x
+
+-- ---- the head
+
+-- line 1
+abbrev pub has_version : List ℕ → Bool
+has_version bytes = is_some (text_after (line_of (codes "alphamu report 1")) bytes)
+
+-- whether a line that begins with `front ` follows the line end at a place
+abbrev pub is_front : List ℕ → ℕ → Bool
+is_front bytes at = is_some (text_after (10 ∷ codes "front ") (drop at bytes))
+
+-- where the first line that begins with `front ` begins
+unfoldable pub front_place : List ℕ → Option ℕ
+front_place bytes = option_map (λ end. end + 1) (find (is_front bytes) (range_with_len 0 (length bytes)))
+
+-- the number of a list that has no other
+abbrev pub only : List ℕ → Option ℕ
+only (number ∷ []) = Some number
+only _ = None
+
+-- the number of moves, where exactly one line gives it
+unfoldable pub moves_in : List ℕ → Option ℕ
+moves_in head = only (filter_map moves_said (slice_split is_line_end head))
+
+-- the head above the front, with the number of vectors
+unfoldable pub head_said : List ℕ → ℕ → Option Head
+head_said bytes at =
+    option_and_then (λ moves. option_map (λ front. record { place = at; moves = moves; vectors = front.0; next = front.1 }) (said_at front_said bytes at))
+    (moves_in (take at bytes))
+
+abbrev pub head_above : List ℕ → Option ℕ → Result Head (ℕ × ReportKind)
+head_above bytes None = Err (line_after_last bytes, kinds.Head)
+head_above bytes (Some at) = expected kinds.Head bytes at (head_said bytes at)
+
+unfoldable pub head_read : List ℕ → Result Head (ℕ × ReportKind)
+head_read bytes = head_above bytes (front_place bytes)
+
+-- ---- the front
+
+-- a plan's fault, by its line
+abbrev pub plan_fault : List ℕ → PlanFault → ReportFault
+plan_fault bytes (plan_faults.Line at) = faults.Fault (line_number bytes at) kinds.Plan
+plan_fault bytes (plan_faults.Deep at) = faults.Fault (line_number bytes at) kinds.TooDeep
+plan_fault bytes plan_faults.Memory = faults.Memory
+
+-- a plan, or its fault by its line; no text asks for memory
+abbrev pub plan_or_fault : List ℕ → Result (PlanValue ℕ × ℕ) PlanFault → Result (PlanValue ℕ × ℕ) (ℕ × ReportKind)
+plan_or_fault bytes (Ok read) = Ok read
+plan_or_fault bytes (Err (plan_faults.Line at)) = Err (line_number bytes at, kinds.Plan)
+plan_or_fault bytes (Err (plan_faults.Deep at)) = Err (line_number bytes at, kinds.TooDeep)
+plan_or_fault bytes (Err plan_faults.Memory) = Err (0, kinds.Plan)
+
+-- a vector with its plan, and the place after them
+unfoldable pub entry_read : List ℕ → ℕ → Result (EntryValue × ℕ) (ℕ × ReportKind)
+entry_read bytes at = do
+  said ← expected kinds.Vector bytes at (said_at vector_said bytes at)
+  plan ← plan_or_fault bytes (plan_read bytes said.1)
+  Ok (record { vector = said.0; plan = plan.0 }, plan.1)
+
+-- so many of them, and the place after them
+abbrev pub entries_read : ℕ → List ℕ → ℕ → Result (List EntryValue × ℕ) (ℕ × ReportKind)
+entries_read zero bytes at = Ok ([], at)
+entries_read (suc count) bytes at = do
+  entry ← entry_read bytes at
+  later ← entries_read count bytes entry.1
+  Ok (entry.0 ∷ later.0, later.1)
+
+-- ---- the whole
+
+abbrev pub nothing_more : List ℕ → ℕ → Option (List ℕ) → Result (Unit {0}) (ℕ × ReportKind)
+nothing_more bytes at None = Err (line_number bytes at, kinds.End)
+nothing_more bytes at (Some []) = Ok tt
+nothing_more bytes at (Some (byte ∷ more)) = Err (line_number bytes (at + 4), kinds.End)
+
+-- the line `end`, and nothing after it
+unfoldable pub end_read : List ℕ → ℕ → Result (Unit {0}) (ℕ × ReportKind)
+end_read bytes at = nothing_more bytes at (text_after (line_of (codes "end")) (drop at bytes))
+
+-- what stands below the version
+unfoldable pub below_read : List ℕ → Result ReportValue (ℕ × ReportKind)
+below_read bytes = do
+  head ← head_read bytes
+  front ← entries_read head.vectors bytes head.next
+  said ← expected kinds.Card bytes front.1 (said_at card_said bytes front.1)
+  ended ← end_read bytes said.1
+  Ok (record { head = take head.place bytes; moves = head.moves; entries = front.0; card = said.0.0; count = said.0.1 })
+
+-- what a report says, or its first fault with its line
+unfoldable pub report_read : List ℕ → Result ReportValue (ℕ × ReportKind)
+report_read bytes = if has_version bytes then below_read bytes else Err (1, kinds.Version)
+
+-- ---- what the reader gives
+
+-- a report in memory
+abbrev pub report_of : ReadReport → ReportValue
+report_of report = record { head = report.head; moves = report.moves; entries = report.entries.items; card = report.card; count = report.count }
+
+-- the fault that was found, or memory ran out
+abbrev pub IsFaultOf : {A : Type 0} → ReportFault → Result A (ℕ × ReportKind) → Type 0
+IsFaultOf faults.Memory read = Unit {0}
+IsFaultOf (faults.Fault line kind) read = read ≡ Err (line, kind)
+
+-- what was read, or the fault
+abbrev pub Gives : {A : Type 0} → Result A ReportFault → Result A (ℕ × ReportKind) → Type 0
+Gives (Ok x) read = read ≡ Ok x
+Gives (Err fault) read = IsFaultOf fault read

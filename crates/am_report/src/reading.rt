@@ -1,0 +1,310 @@
+//! A report read from its text.
+ghost use Rattle.std.specs.Prelude.{◌≡◌, ◌==◌, ◌≤◌, ◌<◌, ◌+◌, ◌-◌, ◌^◌, ◌∷◌, [], ◌++◌, length, find, count_by, IfOk, IfErr, IfSome, MatchOption, option_to_list};
+ghost use Rattle.std.specs.List.{range_with_len};
+ghost use Rattle.strategy_tree.specs.PlanMeaning.{plan_of};
+ghost use Rattle.strategy_tree.specs.PlanRead.{said_at};
+ghost use Rattle.am_report.specs.ReportLines.{is_line_end, vector_said, card_said};
+ghost use Rattle.am_report.specs.Reading.{line_number, expected, line_after_last, has_version, is_front, front_place, moves_in, head_said, head_read, plan_fault, entry_read, entries_read, end_read, below_read, report_read, report_of, IsFaultOf, Gives};
+
+use crate::answer::Entry;
+use crate::fault::{ReportFault, ReportKind};
+use crate::report_lines::{card_at, front_at, read_moves, text_after, vector_at};
+use am_outside::Text;
+use card_sets::Card;
+use layout_list::line::split_line;
+use std::alloc::Global;
+use strategy_tree::{Plan, PlanFault, read_plan};
+use win_vectors::WinVector;
+
+/// What a report says.
+#[derive(Debug, Drop)]
+pub struct ReadReport {
+    /// The text of the lines above the front.
+    pub head: Text,
+    /// The number of moves that the head gives.
+    pub moves: u8,
+    /// The front: each vector with its plan.
+    pub entries: Vec<Entry>,
+    pub card: Card,
+    /// In how many of the kept layouts the contract is made.
+    pub count: u8,
+}
+
+/// What the lines down to the front's length say, with the places where that line and the next one begin.
+#[derive(Clone, Copy, Debug)]
+pub struct Head {
+    pub place: usize,
+    pub moves: u8,
+    pub vectors: u32,
+    pub next: usize,
+}
+
+/// What a report of fewer than 2^32 - 1 bytes says, or its first fault with the line.
+///
+/// The head is taken as it stands, but for its first line and its number of moves.
+#[tactic(auto, unfolding(crate::specs::Reading::report_read))]
+pub fn read_report(alloc: Global, bytes: &[u8]) -> Result<ReadReport, ReportFault>
+    requires { length bytes.now < 2 ^ 32 - 1 }
+    ensures read { IfOk result (λ report. report_read bytes.now ≡ Ok (report_of report)) }
+    ensures fault { IfErr result (λ fault. IsFaultOf fault (report_read bytes.now)) }
+{
+    if !has_version(bytes) {
+        return Err(ReportFault::Fault {
+            line: 1,
+            kind: ReportKind::Version,
+        });
+    }
+    read_below(alloc, bytes)
+}
+
+// Whether line 1 is the version.
+fn has_version(bytes: &[u8]) -> bool
+    ensures { result ≡ has_version bytes.now }
+{
+    text_after(bytes, b"alphamu report 1\n").is_some()
+}
+
+// What the lines below the version say.
+fn read_below(alloc: Global, bytes: &[u8]) -> Result<ReadReport, ReportFault>
+    requires { length bytes.now < 2 ^ 32 - 1 }
+    ensures read { IfOk result (λ report. below_read bytes.now ≡ Ok (report_of report)) }
+    ensures fault { IfErr result (λ fault. IsFaultOf fault (below_read bytes.now)) }
+{
+    let head = read_head(bytes)?;
+    let (entries, at) = read_entries(alloc, bytes, head.next, head.vectors)?;
+    let (named, next) = read_card(bytes, at)?;
+    read_end(bytes, next)?;
+    let mut text = Text::new(alloc);
+    text.push(&bytes[..head.place])?;
+    Ok(ReadReport {
+        head: text,
+        moves: head.moves,
+        entries,
+        card: named.0,
+        count: named.1,
+    })
+}
+
+// How many line ends a text has.
+fn count_line_ends(text: &[u8]) -> usize
+    ensures value { result ≡ count_by is_line_end text.now }
+    ensures inside { result ≤ length text.now }
+{
+    text.iter().filter(|byte| **byte == b'\n').count()
+}
+
+// The number of the line in which a place lies.
+fn line_number(bytes: &[u8], at: usize) -> u32
+    requires { length bytes.now < 2 ^ 32 - 1 }
+    ensures value { result ≡ line_number bytes.now at }
+    ensures bound { result ≤ at + 1 }
+{
+    let end = at.min(bytes.len());
+    1 + count_line_ends(&bytes[..end]) as u32
+}
+
+// The number of the line after the last.
+fn line_after_last(bytes: &[u8]) -> u32
+    requires { length bytes.now < 2 ^ 32 - 1 }
+    ensures { result ≡ line_after_last bytes.now }
+{
+    line_number(bytes, bytes.len().saturating_sub(1)) + 1
+}
+
+fn fault_at(bytes: &[u8], at: usize, kind: ReportKind) -> ReportFault
+    requires { length bytes.now < 2 ^ 32 - 1 }
+    ensures { result ≡ ReportFault.Fault (line_number bytes.now at) kind }
+{
+    ReportFault::Fault {
+        line: line_number(bytes, at),
+        kind,
+    }
+}
+
+// The fault of a report in whose plan there is this fault.
+fn plan_fault(bytes: &[u8], fault: PlanFault) -> ReportFault
+    requires { length bytes.now < 2 ^ 32 - 1 }
+    ensures { result ≡ plan_fault bytes.now fault }
+{
+    match fault {
+        PlanFault::Line(at) => fault_at(bytes, at, ReportKind::Plan),
+        PlanFault::Deep(at) => fault_at(bytes, at, ReportKind::TooDeep),
+        PlanFault::Memory => ReportFault::Memory,
+    }
+}
+
+// Either of two numbers; None where both are there.
+fn one_at_most(found: Option<u8>, more: Option<u8>) -> Option<Option<u8>>
+    ensures { MatchOption result (length (option_to_list found ++ option_to_list more) ≡ 2)
+        (λ one. option_to_list one ≡ option_to_list found ++ option_to_list more) }
+{
+    match (found, more) {
+        (Some(_), Some(_)) => None,
+        (None, more) => Some(more),
+        (found, None) => Some(found),
+    }
+}
+
+// The number of moves, where exactly one of the lines gives it.
+fn moves_in(head: &[u8]) -> Option<u8>
+    ensures { result ≡ moves_in head.now }
+{
+    let mut found = None;
+    let mut rest = Some(head);
+    'lines: while let Some(text) = rest {
+        let (line, after) = split_line(text);
+        rest = after;
+        found = one_at_most(found, read_moves(line))?;
+    }
+    found
+}
+
+// Whether a line that begins with `front ` follows the line end at a place.
+fn is_front(bytes: &[u8], at: usize) -> bool
+    ensures { result ≡ is_front bytes.now at }
+{
+    if at < bytes.len() {
+        text_after(&bytes[at..], b"\nfront ").is_some()
+    } else {
+        false
+    }
+}
+
+// The first line end that is followed by a line that begins with `front `.
+fn front_line_end(bytes: &[u8]) -> Option<usize>
+    ensures value { result ≡ find (is_front bytes.now) (range_with_len 0 (length bytes.now)) }
+    ensures within { IfSome result (λ end. end < length bytes.now) }
+{
+    (0..bytes.len()).find(|at| is_front(bytes, *at))
+}
+
+// The place of the first line that begins with `front `.
+#[tactic(auto, unfolding(crate::specs::Reading::front_place))]
+fn front_place(bytes: &[u8]) -> Option<usize>
+    ensures value { result ≡ front_place bytes.now }
+    ensures within { IfSome result (λ at. at ≤ length bytes.now) }
+{
+    let end = front_line_end(bytes)?;
+    Some(end + 1)
+}
+
+// The head above the front that begins at a place.
+#[tactic(auto, unfolding(crate::specs::Reading::head_said))]
+fn head_at(bytes: &[u8], at: usize) -> Option<Head>
+    requires { at ≤ length bytes.now }
+    ensures value { result ≡ head_said bytes.now at }
+    ensures within { IfSome result (λ head. (head.place ≤ length bytes.now) × (head.next ≤ length bytes.now)) }
+{
+    let moves = moves_in(&bytes[..at])?;
+    let (vectors, next) = front_at(bytes, at)?;
+    Some(Head {
+        place: at,
+        moves,
+        vectors,
+        next,
+    })
+}
+
+// The head, down to the front's length.
+#[tactic(auto, unfolding(crate::specs::Reading::head_read))]
+fn read_head(bytes: &[u8]) -> Result<Head, ReportFault>
+    requires { length bytes.now < 2 ^ 32 - 1 }
+    ensures read { Gives result (head_read bytes.now) }
+    ensures within { IfOk result (λ head. (head.place ≤ length bytes.now) × (head.next ≤ length bytes.now)) }
+{
+    let Some(at) = front_place(bytes) else {
+        return Err(ReportFault::Fault {
+            line: line_after_last(bytes),
+            kind: ReportKind::Head,
+        });
+    };
+    match head_at(bytes, at) {
+        Some(head) => Ok(head),
+        None => Err(fault_at(bytes, at, ReportKind::Head)),
+    }
+}
+
+// The vector's line, and the place after it.
+fn read_vector(bytes: &[u8], at: usize) -> Result<(WinVector, usize), ReportFault>
+    requires place { at ≤ length bytes.now }
+    requires short { length bytes.now < 2 ^ 32 - 1 }
+    ensures read { Gives result (expected ReportKind.Vector bytes.now at (said_at vector_said bytes.now at)) }
+    ensures within { IfOk result (λ read. read.1 ≤ length bytes.now) }
+{
+    match vector_at(bytes, at) {
+        Some(said) => Ok(said),
+        None => Err(fault_at(bytes, at, ReportKind::Vector)),
+    }
+}
+
+fn entry_of(vector: WinVector, plan: Plan) -> Entry
+    ensures { result ≡ record { vector = vector; plan = plan_of plan } }
+{
+    Entry { vector, plan }
+}
+
+// A vector with its plan, and the place after them.
+fn read_entry(alloc: Global, bytes: &[u8], at: usize) -> Result<(Entry, usize), ReportFault>
+    requires place { at ≤ length bytes.now }
+    requires short { length bytes.now < 2 ^ 32 - 1 }
+    ensures read { Gives result (entry_read bytes.now at) }
+    ensures within { IfOk result (λ read. read.1 ≤ length bytes.now) }
+{
+    let (vector, next) = read_vector(bytes, at)?;
+    match read_plan(alloc, bytes, next) {
+        Ok((plan, end)) => Ok((entry_of(vector, plan), end)),
+        Err(fault) => Err(plan_fault(bytes, fault)),
+    }
+}
+
+// So many vectors with their plans, and the place after them.
+fn read_entries(
+    alloc: Global,
+    bytes: &[u8],
+    start: usize,
+    count: u32,
+) -> Result<(Vec<Entry>, usize), ReportFault>
+    requires place { start ≤ length bytes.now }
+    requires short { length bytes.now < 2 ^ 32 - 1 }
+    ensures read { IfOk result (λ read. entries_read count bytes.now start ≡ Ok (read.0.items, read.1)) }
+    ensures within { IfOk result (λ read. read.1 ≤ length bytes.now) }
+    ensures fault { IfErr result (λ fault. IsFaultOf fault (entries_read count bytes.now start)) }
+{
+    let mut entries = Vec::new(alloc);
+    let mut at = start;
+    for _ in 0..count {
+        let (entry, end) = read_entry(alloc, bytes, at)?;
+        entries.push(entry)?;
+        at = end;
+    }
+    Ok((entries, at))
+}
+
+// The line of the card to play and the count of layouts, and the place after it.
+fn read_card(bytes: &[u8], at: usize) -> Result<((Card, u8), usize), ReportFault>
+    requires place { at ≤ length bytes.now }
+    requires short { length bytes.now < 2 ^ 32 - 1 }
+    ensures read { Gives result (expected ReportKind.Card bytes.now at (said_at card_said bytes.now at)) }
+    ensures within { IfOk result (λ read. read.1 ≤ length bytes.now) }
+{
+    match card_at(bytes, at) {
+        Some(said) => Ok(said),
+        None => Err(fault_at(bytes, at, ReportKind::Card)),
+    }
+}
+
+// The last line.
+fn read_end(bytes: &[u8], at: usize) -> Result<(), ReportFault>
+    requires place { at ≤ length bytes.now }
+    requires short { length bytes.now < 2 ^ 32 - 1 }
+    ensures { Gives result (end_read bytes.now at) }
+{
+    match text_after(&bytes[at..], b"end\n") {
+        None => Err(fault_at(bytes, at, ReportKind::End)),
+        Some([]) => Ok(()),
+        Some(_) => Err(fault_at(bytes, at + 4, ReportKind::End)),
+    }
+}
+
+#[cfg(test)]
+mod tests;

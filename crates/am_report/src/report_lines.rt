@@ -1,0 +1,207 @@
+//! What the lines of a report say.
+ghost use Rattle.std.specs.Prelude.{◌≡◌, ◌==◌, ◌≤◌, ◌<◌, ◌+◌, ◌^◌, ◌∷◌, [], length, map, position, true, IfSome, MatchOption};
+ghost use Rattle.std.specs.List.{slice_split, position_or_len};
+ghost use Rattle.std.specs.Option.{option_copied};
+ghost use Rattle.std.specs.Str.{all_ascii_digits};
+ghost use Rattle.std.specs.Str.Parse.{digits_value};
+ghost use Rattle.strategy_tree.specs.PlanRead.{text_after, line_at, said_at};
+ghost use Rattle.am_report.specs.ReportLines.{is_line_end, is_numeral, number_within, ends_bits, is_one, front_said, moves_said, count_said, bits_said, vector_said, card_counted, card_said};
+
+use card_letters::read_card;
+use card_sets::Card;
+use win_vectors::{MAX_WIDTH, WinVector};
+
+// What follows a word at the front of a text.
+pub(crate) fn text_after<'a>(text: &'a [u8], word: &[u8]) -> Option<&'a [u8]>
+    ensures { option_copied result ≡ text_after word.now text.now }
+{
+    text.strip_prefix(word)
+}
+
+// The place of the first line end.
+fn line_end(text: &[u8]) -> Option<usize>
+    ensures value { result ≡ position is_line_end text.now }
+    ensures within { IfSome result (λ end. end < length text.now) }
+{
+    text.iter().position(|byte| *byte == b'\n')
+}
+
+// The line that begins at a place, without its end; None where the text ends before the line does.
+fn line_at(bytes: &[u8], at: usize) -> Option<&[u8]>
+    requires { at ≤ length bytes.now }
+    ensures value { option_copied result ≡ line_at bytes.now at }
+    ensures within { IfSome result (λ line. at + length line.now + 1 ≤ length bytes.now) }
+{
+    let rest = &bytes[at..];
+    Some(&rest[..line_end(rest)?])
+}
+
+// Whether a text is digits alone, without a zero before others.
+fn is_numeral(text: &[u8]) -> bool
+    ensures { result ≡ is_numeral text.now }
+{
+    let Some(first) = text.first() else {
+        return false;
+    };
+    (text.len() == 1 || *first != b'0') && has_digits_alone(text)
+}
+
+// Whether each byte is a decimal digit.
+fn has_digits_alone(text: &[u8]) -> bool
+    ensures { result ≡ all_ascii_digits text.now }
+{
+    text.iter().all(|byte| byte.is_ascii_digit())
+}
+
+// The number that digits write, where it is at most the greatest allowed.
+fn digits_value(text: &[u8], most: u32) -> Option<u32>
+    requires { all_ascii_digits text.now ≡ true }
+    ensures { MatchOption result (most < digits_value 10 text.now)
+        (λ number. (number ≡ digits_value 10 text.now) × (number ≤ most)) }
+{
+    let mut number = 0u32;
+    for digit in text {
+        let next = 10 * u64::from(number) + u64::from(*digit - b'0');
+        if next > u64::from(most) {
+            return None;
+        }
+        number = next as u32;
+    }
+    Some(number)
+}
+
+// The number within its bounds that a text writes without leading zeros.
+fn read_number(text: &[u8], least: u32, most: u32) -> Option<u32>
+    ensures value { result ≡ number_within least most text.now }
+    ensures within { IfSome result (λ number. (least ≤ number) × (number ≤ most)) }
+{
+    if !is_numeral(text) {
+        return None;
+    }
+    let number = digits_value(text, most)?;
+    if number < least {
+        return None;
+    }
+    Some(number)
+}
+
+#[tactic(auto, unfolding(crate::specs::ReportLines::front_said))]
+fn read_front(text: &[u8]) -> Option<u32>
+    ensures { result ≡ front_said text.now }
+{
+    read_number(text_after(text, b"front ")?, 1, u32::MAX)
+}
+
+#[tactic(auto, unfolding(crate::specs::ReportLines::moves_said))]
+pub(crate) fn read_moves(text: &[u8]) -> Option<u8>
+    ensures { result ≡ moves_said text.now }
+{
+    let moves = read_number(text_after(text, b"moves ")?, 1, 26)?;
+    Some(moves as u8)
+}
+
+#[tactic(auto, unfolding(crate::specs::ReportLines::count_said))]
+fn read_count(text: &[u8]) -> Option<u8>
+    ensures { result ≡ count_said text.now }
+{
+    let count = read_number(text_after(text, b" count ")?, 0, 64)?;
+    Some(count as u8)
+}
+
+// How many bits stand at the front.
+fn bits_len(text: &[u8]) -> usize
+    ensures len { result ≡ position_or_len ends_bits text.now }
+    ensures inside { result ≤ length text.now }
+{
+    text.iter()
+        .position(|byte| !matches!(*byte, b'0' | b'1'))
+        .unwrap_or(text.len())
+}
+
+// The vector with a one wherever the text has one.
+fn vector_of(text: &[u8]) -> WinVector
+    requires low { 1 ≤ length text.now }
+    requires high { length text.now ≤ 64 }
+    ensures { result ≡ map is_one text.now }
+{
+    let mut vector = WinVector::none(text.len() as u8);
+    for (place, bit) in text.iter().enumerate() {
+        vector = vector.set(place as u8, *bit == b'1');
+    }
+    vector
+}
+
+#[tactic(auto, unfolding(crate::specs::ReportLines::bits_said))]
+fn read_bits(text: &[u8]) -> Option<WinVector>
+    ensures { result ≡ bits_said text.now }
+{
+    let width = bits_len(text);
+    if width == 0 || width > usize::from(MAX_WIDTH) {
+        return None;
+    }
+    let vector = vector_of(&text[..width]);
+    let count = read_count(&text[width..])?;
+    if count == vector.count() {
+        Some(vector)
+    } else {
+        None
+    }
+}
+
+#[tactic(auto, unfolding(crate::specs::ReportLines::vector_said))]
+fn read_vector(text: &[u8]) -> Option<WinVector>
+    ensures { result ≡ vector_said text.now }
+{
+    read_bits(text_after(text, b"vector ")?)
+}
+
+fn read_counted_card(text: &[u8]) -> Option<(Card, u8)>
+    ensures { result ≡ card_counted text.now }
+{
+    let [suit, rank, rest @ ..] = text else {
+        return None;
+    };
+    let card = read_card(*suit, *rank)?;
+    let count = read_count(rest)?;
+    Some((card, count))
+}
+
+#[tactic(auto, unfolding(crate::specs::ReportLines::card_said))]
+fn read_card_line(text: &[u8]) -> Option<(Card, u8)>
+    ensures { result ≡ card_said text.now }
+{
+    read_counted_card(text_after(text, b"card ")?)
+}
+
+// The number of vectors in the line that begins at a place, and the place after it.
+pub(crate) fn front_at(bytes: &[u8], at: usize) -> Option<(u32, usize)>
+    requires { at ≤ length bytes.now }
+    ensures value { result ≡ said_at front_said bytes.now at }
+    ensures within { IfSome result (λ said. said.1 ≤ length bytes.now) }
+{
+    let text = line_at(bytes, at)?;
+    let vectors = read_front(text)?;
+    Some((vectors, at + text.len() + 1))
+}
+
+// The same of a vector.
+pub(crate) fn vector_at(bytes: &[u8], at: usize) -> Option<(WinVector, usize)>
+    requires { at ≤ length bytes.now }
+    ensures value { result ≡ said_at vector_said bytes.now at }
+    ensures within { IfSome result (λ said. said.1 ≤ length bytes.now) }
+{
+    let text = line_at(bytes, at)?;
+    let vector = read_vector(text)?;
+    Some((vector, at + text.len() + 1))
+}
+
+// The same of the card to play, and the count of layouts.
+pub(crate) fn card_at(bytes: &[u8], at: usize) -> Option<((Card, u8), usize)>
+    requires { at ≤ length bytes.now }
+    ensures value { result ≡ said_at card_said bytes.now at }
+    ensures within { IfSome result (λ said. said.1 ≤ length bytes.now) }
+{
+    let text = line_at(bytes, at)?;
+    let card = read_card_line(text)?;
+    Some((card, at + text.len() + 1))
+}
