@@ -4,9 +4,10 @@ where its library is there (Debian's libdds-dev), all on the same random endings
 
 Usage: bench/double_dummy.py [SECONDS], the least processor time of one measurement (default 0.5). It builds the programs first."""
 import pathlib
-import resource
 import subprocess
 import sys
+
+from timing import processor_seconds
 
 HERE = pathlib.Path(__file__).resolve().parent
 CRATE = HERE.parent / "crates" / "bench_double_dummy"
@@ -26,22 +27,15 @@ def build():
     return dds
 
 
-def seconds(words):
-    """The processor time of a program, and what it prints."""
-    before = resource.getrusage(resource.RUSAGE_CHILDREN).ru_utime
-    done = subprocess.run([str(word) for word in words], check=True, capture_output=True)
-    return resource.getrusage(resource.RUSAGE_CHILDREN).ru_utime - before, done.stdout
-
-
 def each(program, tricks, strain, least, answers):
     """Microseconds an ending, of a program that takes the number of endings; its answers go to `answers` by that number."""
     endings = 50
     while True:
-        taken, answer = seconds(program(endings))
+        taken, answer = processor_seconds(program(endings))
         if answers.setdefault((tricks, strain, endings), answer) != answer:
             sys.exit("the answers differ for %d tricks, %s, %d endings" % (tricks, strain, endings))
         if taken >= least:
-            return 1e6 * min([taken] + [seconds(program(endings))[0] for _ in range(2)]) / endings
+            return 1e6 * min([taken] + [processor_seconds(program(endings))[0] for _ in range(2)]) / endings
         endings *= 2
 
 

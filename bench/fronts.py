@@ -1,12 +1,13 @@
 #!/usr/bin/env python3
 """Times fronts and joins beside the same work over std::vector in C++, in one run, and prints the ratios.
 
-Usage: bench/fronts.py [SECONDS], the least time of one measurement (default 0.5). It builds both programs first.
+Usage: bench/fronts.py [SECONDS], the least processor time of one measurement (default 0.5). It builds both programs first.
 """
 import pathlib
 import subprocess
 import sys
-import time
+
+from timing import processor_seconds
 
 HERE = pathlib.Path(__file__).resolve().parent
 CRATE = HERE.parent / "crates" / "bench_fronts"
@@ -17,12 +18,10 @@ WORK = [("inserts", 1, 3), ("inserts", 8, 24), ("inserts", 64, 192), ("joins", 8
 
 
 def seconds(program, kind, size, rounds):
-    start = time.perf_counter()
-    done = subprocess.run([program, kind, str(size), str(rounds)], check=True, capture_output=True)
-    return time.perf_counter() - start, done.stdout
+    return processor_seconds([program, kind, size, rounds])
 
 
-def rounds_for(kind, size, least):
+def rounds_of(kind, size, least):
     rounds = 100
     while seconds(THEIRS, kind, size, rounds)[0] < least:
         rounds *= 2
@@ -36,7 +35,7 @@ def main():
     subprocess.run(["rt", "run"], cwd=CRATE, check=True, stdout=subprocess.DEVNULL, stderr=subprocess.DEVNULL)
     print("work          per second, ours   per second, C++   time, ours to C++")
     for kind, size, steps in WORK:
-        rounds = rounds_for(kind, size, least)
+        rounds = rounds_of(kind, size, least)
         ours, theirs = [], []
         for _ in range(5):
             mine, own = seconds(OURS, kind, size, rounds)

@@ -6,9 +6,10 @@ Each size is read to 1 MiB at a time, and all games of it held, so that the allo
 Usage: bench/pbn.py [SECONDS [KIND ..]], the least time of one measurement (default 0.3). It builds the program first.
 A kind is a word of the program or the number of a byte; by default all words, and then each byte in turn, of which the worst are printed."""
 import pathlib
-import resource
 import subprocess
 import sys
+
+from timing import least_seconds, processor_seconds, rounds_for
 
 HERE = pathlib.Path(__file__).resolve().parent
 CRATE = HERE.parent / "crates" / "bench_pbn"
@@ -19,36 +20,13 @@ RUNS = 5
 
 
 def seconds(kind, size, rounds):
-    """Seconds of the processor, so that other work on the machine counts little."""
-    before = resource.getrusage(resource.RUSAGE_CHILDREN)
-    subprocess.run([OURS, kind, str(size), str(rounds)], check=True, stdout=subprocess.DEVNULL)
-    after = resource.getrusage(resource.RUSAGE_CHILDREN)
-    return after.ru_utime + after.ru_stime - before.ru_utime - before.ru_stime
-
-
-def rounds_for(kind, least):
-    """Rounds of 1 MiB, as many as take the least time."""
-    rounds = 1
-    while seconds(kind, SIZES[0], rounds) - seconds(kind, SIZES[0], 0) < least:
-        rounds *= 2
-    return rounds
-
-
-def times(kind, least):
-    """The seconds that so many bytes take in files of each size, and the bytes."""
-    rounds = rounds_for(kind, least)
-    idle = [[] for _ in SIZES]
-    read = [[] for _ in SIZES]
-    for _ in range(RUNS):
-        for place, size in enumerate(SIZES):
-            idle[place].append(seconds(kind, size, 0))
-            read[place].append(seconds(kind, size, rounds))
-    return [min(some) - min(none) for some, none in zip(read, idle)], rounds << 20
+    return processor_seconds([OURS, kind, size, rounds])[0]
 
 
 def line(kind, least):
-    taken, count = times(kind, least)
-    taken = [max(it, 1e-6) for it in taken]
+    rounds = rounds_for(lambda n: seconds(kind, SIZES[0], n), least)
+    taken = least_seconds(lambda size, n: seconds(kind, size, n), SIZES, rounds, RUNS)
+    count = rounds << 20
     speeds = ["%12.4g" % (count / it) for it in taken]
     ratios = [it / taken[0] for it in taken[1:]]
     return ratios, "%10s %s   %14.2f %14.2f" % (kind, " ".join(speeds), *ratios)

@@ -6,9 +6,10 @@ The plan is a wide one: declarer's side and the defenders in turn, with a reply 
 
 Usage: bench/plans.py [SECONDS], the least time of one measurement (default 0.5). It builds the program first."""
 import pathlib
-import resource
 import subprocess
 import sys
+
+from timing import least_seconds, processor_seconds, rounds_for
 
 HERE = pathlib.Path(__file__).resolve().parent
 CRATE = HERE.parent / "crates" / "bench_plans"
@@ -19,34 +20,13 @@ RUNS = 5
 
 
 def seconds(kind, lines, rounds):
-    """Seconds of the processor, so that other work on the machine counts little. It stops where the program's answer is wrong."""
-    before = resource.getrusage(resource.RUSAGE_CHILDREN)
-    done = subprocess.run([OURS, kind, str(lines), str(rounds)], check=True, capture_output=True, text=True)
-    after = resource.getrusage(resource.RUSAGE_CHILDREN)
-    first, second = done.stdout.splitlines()
+    """Seconds of the processor. It stops where the program's answer is wrong."""
+    taken, told = processor_seconds([OURS, kind, lines, rounds])
+    first, second = told.splitlines()
     times = rounds * (LINES_A_ROUND // lines)
     if not first.startswith(f"{lines} lines, ") or not first.endswith("the same: true") or second != f"{times} times as well":
-        sys.exit(f"{kind}, {lines} lines, {rounds} rounds: {done.stdout!r}")
-    return after.ru_utime + after.ru_stime - before.ru_utime - before.ru_stime
-
-
-def rounds_for(kind, least):
-    """As many rounds as take the least time."""
-    rounds = 1
-    while seconds(kind, LENGTHS[0], rounds) - seconds(kind, LENGTHS[0], 0) < least:
-        rounds *= 2
-    return rounds
-
-
-def times(kind, rounds):
-    """The seconds that so many rounds take at each length, without what a run takes besides."""
-    idle = [[] for _ in LENGTHS]
-    busy = [[] for _ in LENGTHS]
-    for _ in range(RUNS):
-        for place, lines in enumerate(LENGTHS):
-            idle[place].append(seconds(kind, lines, 0))
-            busy[place].append(seconds(kind, lines, rounds))
-    return [max(min(some) - min(none), 1e-6) for some, none in zip(busy, idle)]
+        sys.exit(f"{kind}, {lines} lines, {rounds} rounds: {told!r}")
+    return taken
 
 
 def main():
@@ -54,8 +34,8 @@ def main():
     subprocess.run(["rt", "run"], cwd=CRATE, check=True, stdout=subprocess.DEVNULL, stderr=subprocess.DEVNULL)
     print("work   lines a second: 25,000      100,000   100,000 to 25,000, time a line")
     for kind in ("write", "read"):
-        rounds = rounds_for(kind, least)
-        shorter, longer = times(kind, rounds)
+        rounds = rounds_for(lambda n: seconds(kind, LENGTHS[0], n), least)
+        shorter, longer = least_seconds(lambda lines, n: seconds(kind, lines, n), LENGTHS, rounds, RUNS)
         count = rounds * LINES_A_ROUND
         print("%-5s  %22.4g %12.4g   %30.2f" % (kind, count / shorter, count / longer, longer / shorter), flush=True)
     print(f"again: bench/plans.py {least:g}")

@@ -7,17 +7,18 @@ declarer's side, as a quicker plain search would. Before times are compared, bot
 `solve`, and must name the same card with the same count.
 
 Of 13 tricks it takes hands whose result is decided at the start, and hands that are decided by the last trick alone: declarer
-leads from thirteen spades, and double dummy goes down all thirteen tricks. Undecided hands of 13 tricks are beyond the plain
-double dummy of both. Of seven tricks it takes random endings with four moves.
+leads from thirteen spades, and double dummy goes down all thirteen tricks. Undecided hands of 13 tricks are beyond the
+baseline's double dummy. Of seven tricks it takes random endings with four moves.
 
 Usage: bench/search.py [RUNS], how often each is timed (default 5); the best counts. The program is built first where needed.
 Peak memory is measured where GNU time is there as /usr/bin/time."""
 import os
 import pathlib
-import resource
 import subprocess
 import sys
 import tempfile
+
+from timing import processor_seconds
 
 HERE = pathlib.Path(__file__).resolve().parent
 OURS = HERE.parent / "alphamu"
@@ -91,22 +92,11 @@ def decided(layouts):
 
 
 def output(words):
-    done = subprocess.run([str(word) for word in words], capture_output=True, text=True)
-    if done.returncode != 0:
-        sys.exit(f"{words}: status {done.returncode}, {done.stderr}")
-    return done.stdout
+    return processor_seconds(words)[1]
 
 
 def lines_of(text, words):
     return [line for line in text.splitlines() if line.split(" ")[0] in words]
-
-
-def seconds(words):
-    """Seconds of the processor, so that other work on the machine counts little, and what was printed."""
-    before = resource.getrusage(resource.RUSAGE_CHILDREN)
-    told = output(words)
-    after = resource.getrusage(resource.RUSAGE_CHILDREN)
-    return after.ru_utime + after.ru_stime - before.ru_utime - before.ru_stime, told
 
 
 def peak(words, folder):
@@ -130,7 +120,7 @@ def compared(ending, folder, runs):
         sys.exit(f"{ending.name}: the fronts differ: {fronts}")
     best, cards = [], set()
     for it in words:
-        timed = [seconds(it) for _ in range(runs)]
+        timed = [processor_seconds(it) for _ in range(runs)]
         best.append(min(taken for taken, _ in timed))
         cards |= {lines_of(told, ["card"])[-1] for _, told in timed}
     if len(cards) != 1:

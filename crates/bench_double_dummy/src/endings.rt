@@ -95,6 +95,7 @@ impl Draws {
 }
 
 /// How many of so many endings are made. Each is answered by a solver of its own.
+/// No clause pins the count: the script compares it with what the programs in C++ count.
 pub fn made_of(alloc: Global, work: Workload, endings: u64) -> u64 {
     let mut draws = Draws { state: 20_191_118 };
     let mut made: u64 = 0;

@@ -14,6 +14,7 @@ pub struct Outcome {
 
 /// In each round: puts vectors of which none dominates another into an empty front, then for each of them one that it
 /// dominates, then for each one that dominates it.
+/// No clause pins the outcome: the script compares it with the one of the same work in C++.
 pub fn inserts(alloc: Global, size: u64, rounds: u64) -> Result<Outcome, AllocError> {
     let base = split_vectors(alloc, size)?;
     let mut below = Vec::new(alloc);
@@ -35,6 +36,7 @@ pub fn inserts(alloc: Global, size: u64, rounds: u64) -> Result<Outcome, AllocEr
 }
 
 /// In each round: joins a child with all layouts and one with every other layout.
+/// No clause pins the outcome: the script compares it with the one of the same work in C++.
 pub fn joins(alloc: Global, size: u64, rounds: u64) -> Result<Outcome, AllocError> {
     let vectors = split_vectors(alloc, size)?;
     let mut whole = Front::new(alloc, MAX_WIDTH);

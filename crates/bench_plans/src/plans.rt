@@ -7,6 +7,7 @@ use strategy_tree::{Plan, Reply};
 const MOST_LEVELS: u8 = 64;
 
 /// A plan of so many lines.
+/// No clause pins the plan: it is a workload to be timed, and the script counts its lines.
 pub fn plan_of_lines(alloc: Global, lines: u64) -> Result<Plan, AllocError> {
     ours(alloc, lines, MOST_LEVELS)
 }

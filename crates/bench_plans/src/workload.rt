@@ -7,6 +7,7 @@ use strategy_tree::{Plan, read_plan};
 const LINES_A_ROUND: u64 = 100_000;
 
 /// How many lines a text has.
+/// No clause pins the count: it is printed, and the script and the stored run compare it.
 pub fn line_count(bytes: &[u8]) -> u64 {
     let mut count: u64 = 0;
     for byte in bytes {
@@ -23,6 +24,7 @@ fn times_a_round(text: &Text) -> u64 {
 }
 
 /// Writes the plan in so many rounds, and counts how often it came to the text.
+/// No clause pins the count: the script stops where it isn't the number of times.
 pub fn write_often(
     alloc: Global,
     plan: &Plan,
@@ -45,6 +47,7 @@ pub fn write_often(
 }
 
 /// Reads the text in so many rounds, and counts how often it was a plan.
+/// No clause pins the count: the script stops where it isn't the number of times.
 pub fn read_often(alloc: Global, text: &Text, rounds: u64) -> Result<u64, AllocError> {
     let mut count: u64 = 0;
     for _ in 0..rounds {
@@ -62,6 +65,7 @@ pub fn read_often(alloc: Global, text: &Text, rounds: u64) -> Result<u64, AllocE
 }
 
 /// Whether the text is read as a plan that is written as the same text.
+/// No clause pins the answer: that it is `true` is a law of `strategy_tree`, and the script stops where it isn't.
 pub fn is_read_back(alloc: Global, text: &Text) -> Result<bool, AllocError> {
     let Ok((plan, _)) = read_plan(alloc, text.bytes(), 0) else {
         return Ok(false);

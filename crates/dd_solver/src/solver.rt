@@ -16,7 +16,7 @@ pub struct Solver {
 }
 
 impl Solver {
-    /// A solver that remembers nothing yet. It takes no memory.
+    /// A solver that remembers nothing yet, by no memory. No clause says so, since what it remembers changes no answer.
     pub fn new(alloc: Global) -> Solver {
         Solver {
             memo: Memo::new(alloc),

@@ -1,0 +1,33 @@
+"""What the benchmarks share: the processor time of a program, and how often it has to run to be timed."""
+import resource
+import subprocess
+import sys
+
+
+def processor_seconds(words):
+    """Seconds of the processor that a program takes, so that other work on the machine counts little, and what it prints."""
+    before = resource.getrusage(resource.RUSAGE_CHILDREN)
+    done = subprocess.run([str(word) for word in words], capture_output=True, text=True)
+    after = resource.getrusage(resource.RUSAGE_CHILDREN)
+    if done.returncode != 0:
+        sys.exit(f"{words}: status {done.returncode}, {done.stderr}")
+    return after.ru_utime + after.ru_stime - before.ru_utime - before.ru_stime, done.stdout
+
+
+def rounds_for(seconds, least):
+    """As many rounds as take the least time, where `seconds` gives the time of so many."""
+    rounds = 1
+    while seconds(rounds) - seconds(0) < least:
+        rounds *= 2
+    return rounds
+
+
+def least_seconds(seconds, sizes, rounds, runs):
+    """The least time of so many rounds at each size, in turn, without what a run takes besides."""
+    idle = [[] for _ in sizes]
+    busy = [[] for _ in sizes]
+    for _ in range(runs):
+        for place, size in enumerate(sizes):
+            idle[place].append(seconds(size, 0))
+            busy[place].append(seconds(size, rounds))
+    return [max(min(some) - min(none), 1e-6) for some, none in zip(busy, idle)]
