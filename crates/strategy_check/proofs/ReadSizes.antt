@@ -24,7 +24,7 @@ some_same : {A : Type 0} (x y : A) → Some x ≡ Some y → x ≡ y
 some_same x y h = cc
 
 -- a line has at least its end
-said_later : {A : Type 0} (says : List ℕ → Option A) (bytes : List ℕ) (at : ℕ) (x : A × ℕ) → said_at says bytes at ≡ Some x → at + 1 ≤ x.1
+pub said_later : {A : Type 0} (says : List ℕ → Option A) (bytes : List ℕ) (at : ℕ) (x : A × ℕ) → said_at says bytes at ≡ Some x → at + 1 ≤ x.1
 said_later {A} says bytes at x h = from_line (line_at bytes at) h
   where
     from_said : (line : List ℕ) (o : Option A) → option_map (λ said. (said, at + length line + 1)) o ≡ Some x → at + 1 ≤ x.1

@@ -1,5 +1,7 @@
 //! What a strategy wins in one layout.
 ghost use Rattle.std.specs.Prelude.{◌≡◌};
+ghost use Rattle.trick_rules.specs.Table.{IsState};
+ghost use Rattle.trick_rules.specs.Play.{makes as makes_in};
 ghost use Rattle.strategy_games.specs.Plans.{wins as wins_in};
 ghost use Rattle.strategy_tree.specs.Bridge.{bridge};
 ghost use Rattle.strategy_tree.specs.PlanMeaning.{plan_of, replies_of};
@@ -10,6 +12,17 @@ use dd_solver::makes_plain;
 use strategy_tree::{Plan, Reply};
 use trick_rules::{Position, play};
 
+// Whether the contract is made by double dummy. No card is played where that is decided.
+fn makes(position: &Position, left: CardSet) -> bool
+    requires { IsState (record { table = position.now; left = left }) }
+    ensures { result ≡ makes_in (record { table = position.now; left = left }) }
+{
+    match position.decided() {
+        Some(made) => made,
+        None => makes_plain(position, left),
+    }
+}
+
 /// Whether a strategy makes the contract where Left holds these cards, whatever the defenders do.
 #[cycle(winning)]
 pub fn wins(plan: &Plan, position: &Position, left: CardSet) -> bool
@@ -17,7 +30,7 @@ pub fn wins(plan: &Plan, position: &Position, left: CardSet) -> bool
     ensures { result ≡ wins_in bridge (plan_of plan.now) (record { table = position.now; left = left }) }
 {
     match plan {
-        Plan::Stop => makes_plain(position, left),
+        Plan::Stop => makes(position, left),
         Plan::Play(card, rest) => wins(rest, &play(position, *card), left.without(*card)),
         Plan::Hear(replies) => win_against_each(replies, position, left),
     }

@@ -16,8 +16,8 @@ use Rattle.strategy_check.proofs.winning.+winning.Goals.{win_against_each-else-h
 
 -- ---- one plan
 
-pub wins-makes_plain-requires : goal.wins-makes_plain-requires
-wins-makes_plain-requires t c = (followed_state (plan_of c.args.plan.now) (record { table = c.args.position.now; left = c.args.left }) c.requires).fits
+pub wins-makes-requires : goal.wins-makes-requires
+wins-makes-requires t c = followed_state (plan_of c.args.plan.now) (record { table = c.args.position.now; left = c.args.left }) c.requires
 
 pub wins-play-requires : goal.wins-play-requires
 wins-play-requires t c =
