@@ -1,0 +1,14 @@
+pub mod Hands
+pub mod Fitting
+pub mod Adding
+pub mod Told
+pub mod Listed
+pub mod Shuffles
+pub mod MadePacks
+pub mod MadeHands
+pub mod MadeDeals
+pub mod MadeTexts
+pub mod MadeLayouts
+pub mod MadeBoards
+pub mod MadeTags
+pub mod MadeAccepted

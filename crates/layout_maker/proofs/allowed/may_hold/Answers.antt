@@ -1,0 +1,34 @@
+use Rattle.std.proofs.Common.{◌≡◌, ℕ, ◌<◌, ◌+◌, List, ◌∷◌, None, cond, suc, length, drop, get_or, ap, ap₂, ◌∙◌, sym, arith}
+use Rattle.std.proofs.Math.Seq.{drop-cons}
+use Rattle.trick_rules.specs.Play.{take_out}
+use Rattle.pbn_deal.specs.declared.board.Played.{Played}
+use Rattle.pbn_deal.specs.Boards.{next_trick}
+use Rattle.layout_maker.specs.Choosing.{after_plays, narrowed}
+use Rattle.layout_maker.proofs.allowed.may_hold.Goals as goal
+
+-- the plays left begin with the one at hand
+split_at : (plays : List Played) (i : ℕ) (play : Played) → i < length plays → play ≡ get_or plays i play → drop i plays ≡ play ∷ drop (i + 1) plays
+split_at plays i play lt is =
+    let next : suc i ≡ i + 1 = omega arith in
+    drop-cons plays i play lt ∙ ap (λ x. x ∷ drop (suc i) plays) (sym is) ∙ ap (λ k. play ∷ drop k plays) next
+
+pub loop-play-preserved : goal.loop-play-preserved
+loop-play-preserved c =
+    let play = c.play-item.result in
+    let trump = c.trump-trump.result in
+    let trick = c.loop-play.trick in
+    let hidden = c.loop-play.hidden in
+    let may = c.loop-play.may in
+    let i = c.loop-play.play-index in
+    let plays = c.plays-play-items.result.now in
+    let rest = drop (i + 1) plays in
+    let lt : i < length plays = omega arith in
+    record {
+      short = c.add_card.ensures.short;
+      told =
+          c.loop-play.invariant.told
+          ∙ ap (after_plays trump trick hidden may) (split_at plays i play lt c.play-item.is)
+          ∙ ap (λ b. cond b (after_plays trump (next_trick trump trick play.card) (take_out play.card hidden) (narrowed play.seat trick.cards hidden play.card may) rest) None) (sym c.may_play.ensures ∙ c.if-not-may_play.false)
+          ∙ sym (ap (λ k. after_plays trump k c.without-hidden.result c.narrow-may.result rest) c.add_card.ensures.value
+          ∙ ap₂ (λ u m. after_plays trump (next_trick trump trick play.card) u m rest) c.without-hidden.ensures.value c.narrow-may.ensures);
+    }

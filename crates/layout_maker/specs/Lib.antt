@@ -1,0 +1,4 @@
+pub mod Generator
+pub mod MadeProblem
+pub mod Divisions
+pub mod Choosing

@@ -1,0 +1,19 @@
+//! Why a board's layouts aren't listed.
+use thiserror::Error;
+
+/// Why a board's layouts aren't listed.
+#[derive(Clone, Copy, Debug, PartialEq, Eq, Error)]
+pub enum MakeFault {
+    /// More than 64 layouts fit, as many as this.
+    #[error("{0} layouts fit")]
+    MoreThan64(u128),
+    /// The play rules out every layout.
+    #[error("no layout fits")]
+    NoneFit,
+    /// The board doesn't tell which cards the defenders hold.
+    #[error("the defenders' cards are not shown")]
+    NotShown,
+    /// Memory was refused.
+    #[error("out of memory")]
+    Memory,
+}
