@@ -1,5 +1,5 @@
 -- Texts that have grown by one piece more.
-use Rattle.std.proofs.Common.{◌≡◌, ℕ, ◌+◌, ◌<◌, Bool, Some, List, [], ◌∷◌, ◌++◌, length, map, take, flat_map, slice_get, get_or, refl, sym, ap, ◌∙◌, append_assoc, codes}
+use Rattle.std.proofs.Common.{◌≡◌, ℕ, ◌+◌, ◌<◌, Bool, Some, List, [], ◌∷◌, ◌++◌, length, map, take, flat_map, slice_get, get_or, max, arith, refl, sym, ap, ◌∙◌, append_assoc, codes}
 use Rattle.std.proofs.lemmas.List.{append-nil, map-append}
 use Rattle.std.proofs.lemmas.Grind.{take_at_read, flat_map-append}
 use Rattle.std.proofs.lemmas.Option.{slice_get_within, get_or_from_slice_get}
@@ -8,9 +8,12 @@ use Rattle.card_sets.specs.declared.seat.Seat.TheVariants.{Declarer, Dummy}
 use Rattle.card_letters.specs.Letters.{card_text}
 use Rattle.trick_rules.specs.Table.{Table, to_play}
 use Rattle.pbn_deal.specs.Boards.{BoardValue}
+use Rattle.win_vectors.specs.Vectors.{ones_of}
+use Rattle.fusion_base.specs.declared.table.CardVector.{CardVector}
 use Rattle.strategy_tree.specs.PlanText.{line_of, plan_text}
 use Rattle.am_report.specs.Answers.{EntryValue}
 use Rattle.am_report.specs.Card.{count_text}
+use Rattle.am_report.specs.Fusion.{most_ones}
 use Rattle.am_report.specs.Head.{seat_text, trump_text, hand_line, trick_line, table_text}
 use Rattle.am_report.specs.Solve.{bit_letter, vector_line, entry_text}
 
@@ -32,6 +35,16 @@ bit_more start now next vector k bit here so_far grew =
     let more = take-more vector k bit (slice_get_within vector k bit here) (sym (get_or_from_slice_get vector k bit bit here)) in
     grew ∙ ap (λ t. t ++ bit_letter bit ∷ []) so_far ∙ append_assoc start (map bit_letter (take k vector)) (bit_letter bit ∷ [])
     ∙ ap (λ t. start ++ t) (sym (map-append bit_letter (take k vector) (bit ∷ [])) ∙ ap (map bit_letter) (sym more))
+
+most_ones-push : (table : List CardVector) (entry : CardVector) → most_ones (table ++ entry ∷ []) ≡ max (most_ones table) (ones_of entry.vector)
+most_ones-push [] entry = omega arith
+most_ones-push (first ∷ table) entry = omega (arith, most_ones-push table entry)
+
+-- the greatest count of one card more
+pub most_more : (table : List CardVector) (k most next : ℕ) (entry : CardVector) → k < length table → entry ≡ get_or table k entry → most ≡ most_ones (take k table)
+    → next ≡ max most (ones_of entry.vector) → next ≡ most_ones (take (k + 1) table)
+most_more table k most next entry inside is so_far more =
+    more ∙ ap (λ m. max m (ones_of entry.vector)) so_far ∙ sym (most_ones-push (take k table) entry) ∙ ap most_ones (sym (take-more table k entry inside is))
 
 entry_text-whole : (entry : EntryValue) → vector_line entry.vector ++ plan_text entry.plan ≡ entry_text entry
 unfolding entry_text

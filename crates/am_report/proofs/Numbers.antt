@@ -21,7 +21,7 @@ use Rattle.am_report.specs.ReportLines.{is_numeral, number_within, is_one}
 
 -- ---- tests
 
-and_parts : (a b : Bool) → (a && b) ≡ true → (a ≡ true) × (b ≡ true)
+pub and_parts : (a b : Bool) → (a && b) ≡ true → (a ≡ true) × (b ≡ true)
 and_parts true b h = (refl, h)
 and_parts false b h = absurd (false≢true h)
 
@@ -40,7 +40,7 @@ fails false never = refl
 le_from : (a b : ℕ) → nat_le a b ≡ true → a ≤ b
 le_from a b h = elim (leb_tells a b) [ inl below ↦ below.1 | inr above ↦ absurd (false≢true (sym above.0 ∙ h)) ]
 
-le_true : (a b : ℕ) → a ≤ b → nat_le a b ≡ true
+pub le_true : (a b : ℕ) → a ≤ b → nat_le a b ≡ true
 le_true a b h = elim (leb_tells a b) [ inl below ↦ below.0 | inr above ↦ absurd (omega (arith, above.1)) ]
 
 -- ---- digits

@@ -4,5 +4,10 @@ pub mod Lines
 pub mod Head
 pub mod Card
 pub mod Solve
+pub mod Check
+pub mod Made
+pub mod Fusion
+pub mod LayoutFile
 pub mod ReportLines
 pub mod Reading
+pub mod ReadBack

@@ -75,7 +75,7 @@ fn push_table(
 {
     push_line(text, b"declarer ", &[compass_letter(board.declarer())])?;
     push_trump_line(text, table.trump)?;
-    push_number_line(text, alloc, b"need ", usize::from(table.need))?;
+    push_number_line(text, alloc, b"need ", u64::from(table.need))?;
     push_hand_line(text, alloc, board, Seat::Declarer, table.declarer)?;
     push_hand_line(text, alloc, board, Seat::Dummy, table.dummy)?;
     push_trick_line(text, board, &table.trick)?;
@@ -93,10 +93,10 @@ fn push_numbers(text: &mut Text, alloc: Global, numbers: &[u16]) -> Result<(), A
     let [first, rest @ ..] = numbers else {
         return Ok(());
     };
-    push_number(text, alloc, usize::from(*first))?;
+    push_number(text, alloc, u64::from(*first))?;
     for number in rest {
         text.push(b" ")?;
-        push_number(text, alloc, usize::from(*number))?;
+        push_number(text, alloc, u64::from(*number))?;
     }
     Ok(())
 }
@@ -124,10 +124,10 @@ fn push_dropped_line(text: &mut Text, alloc: Global, layout: Dropped) -> Result<
     ensures { OnOk result (text.new ≡ text.old ++ dropped_line layout) }
 {
     text.push(b"dropped ")?;
-    push_number(text, alloc, usize::from(layout.number))?;
+    push_number(text, alloc, u64::from(layout.number))?;
     text.push(b" ")?;
     text.push(cause_text(layout.cause))?;
-    push_number_line(text, alloc, b" ", usize::from(layout.play))
+    push_number_line(text, alloc, b" ", u64::from(layout.play))
 }
 
 // Appends a line for each dropped layout.
@@ -149,7 +149,7 @@ pub fn head_text(alloc: Global, board: &Board, kept: &Kept, moves: u8) -> Result
     let mut text = Text::new(alloc);
     text.push(b"alphamu report 1\n")?;
     push_table(&mut text, alloc, board, kept.node.position())?;
-    push_number_line(&mut text, alloc, b"moves ", usize::from(moves))?;
+    push_number_line(&mut text, alloc, b"moves ", u64::from(moves))?;
     push_kept_line(&mut text, alloc, &kept.numbers)?;
     push_dropped(&mut text, alloc, &kept.dropped)?;
     Ok(text)

@@ -1,21 +1,30 @@
-//! The texts that the program writes, and a report read back: the report of an answer, its head, and the answer of one card.
-//! It stands on `pbn_deal` and `layout_list` for what was asked, and on `strategy_tree` for plans and their lines.
-//! Its contract promises each text whole, byte for byte, and what a report says or its first fault, unless memory is refused.
+//! The texts that the program writes, and a report read back: the report of an answer with its head, and the answers of the other jobs.
+//! It stands on `pbn_deal` and `layout_list` for what was asked, on `fusion_base` for plain sampling, and on `strategy_tree` for plans and their lines.
+//! Its contract promises each text whole, byte for byte, what a report says or its first fault, unless memory is refused, and that a written report is read back.
 #![tactic(auto)]
 
 pub mod answer;
 pub mod card;
+pub mod check;
 pub mod fault;
+pub mod fusion;
 pub mod head;
+pub mod laws;
 mod lines;
+pub mod list;
+pub mod made;
 pub mod reading;
 mod report_lines;
 pub mod solve;
 
 pub use answer::{Entry, SolveAnswer};
 pub use card::card_text;
+pub use check::check_text;
 pub use fault::{ReportFault, ReportKind};
+pub use fusion::fusion_text;
 pub use head::head_text;
+pub use list::list_text;
+pub use made::{MadeSummary, made_text};
 pub use reading::{ReadReport, read_report};
 pub use solve::solve_text;
 

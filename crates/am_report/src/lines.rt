@@ -16,7 +16,7 @@ pub(crate) fn push_line(text: &mut Text, word: &[u8], value: &[u8]) -> Result<()
 }
 
 // Appends a number.
-pub(crate) fn push_number(text: &mut Text, alloc: Global, number: usize) -> Result<(), AllocError>
+pub(crate) fn push_number(text: &mut Text, alloc: Global, number: u64) -> Result<(), AllocError>
     ensures { OnOk result (text.new ≡ text.old ++ decimal number) }
 {
     let digits = format!(in alloc; "{number}")?;
@@ -28,7 +28,7 @@ pub(crate) fn push_number_line(
     text: &mut Text,
     alloc: Global,
     word: &[u8],
-    number: usize,
+    number: u64,
 ) -> Result<(), AllocError>
     ensures { OnOk result (text.new ≡ text.old ++ line_of (word.now ++ decimal number)) }
 {

@@ -32,12 +32,16 @@ fn push_bits(text: &mut Text, vector: WinVector) -> Result<(), AllocError>
 }
 
 #[tactic(auto, unfolding(crate::specs::Solve::vector_line))]
-fn push_vector_line(text: &mut Text, alloc: Global, vector: WinVector) -> Result<(), AllocError>
+pub(crate) fn push_vector_line(
+    text: &mut Text,
+    alloc: Global,
+    vector: WinVector,
+) -> Result<(), AllocError>
     ensures { OnOk result (text.new ≡ text.old ++ vector_line vector) }
 {
     text.push(b"vector ")?;
     push_bits(text, vector)?;
-    push_number_line(text, alloc, b" count ", usize::from(vector.count()))
+    push_number_line(text, alloc, b" count ", u64::from(vector.count()))
 }
 
 // Appends each vector with its plan.
@@ -71,7 +75,7 @@ pub fn solve_text(
     ensures { IfOk result (λ text. text ≡ solve_text board.now kept.now moves answer.now) }
 {
     let mut text = head_text(alloc, board, kept, moves)?;
-    push_number_line(&mut text, alloc, b"front ", answer.entries.len())?;
+    push_number_line(&mut text, alloc, b"front ", answer.entries.len() as u64)?;
     push_entries(&mut text, alloc, &answer.entries)?;
     push_count_line(&mut text, alloc, answer.card, answer.count)?;
     text.push(b"end\n")?;

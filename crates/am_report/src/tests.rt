@@ -1,8 +1,13 @@
-//! Reports of small endings and of a slam, byte for byte.
+//! Reports of small endings and of a slam, and the other texts, byte for byte.
 ghost use Rattle.std.specs.Prelude.{◌≤◌};
 
-use crate::{Entry, SolveAnswer, card_text, head_text, solve_text};
+use crate::{
+    Entry, MadeSummary, SolveAnswer, card_text, check_text, fusion_text, head_text, list_text,
+    made_text, solve_text,
+};
 use card_sets::{Card, Rank, Suit};
+use fusion_base::CardVector;
+use layout_list::line::{Defenders, read_lines};
 use layout_list::{Kept, layouts};
 use pbn_deal::{Board, read_board};
 use pbn_text::games;
@@ -26,6 +31,10 @@ const KING_ON_SEVEN: &str =
 
 const ENDING_REPORT: &str =
     "alphamu report 1\ndeclarer S\ntrump NT\nneed 1\nhand S KJ...\nhand N 32...\ntrick N -\nturn N\nmoves 2\nkept 1 2\nfront 2\nvector 10 count 1\nplay S2\nhear 3\non S7\nplay SK\nstop\non SQ\nplay SK\nstop\non SA\nplay SJ\nstop\nvector 01 count 1\nplay S2\nhear 3\non S7\nplay SJ\nstop\non SQ\nplay SK\nstop\non SA\nplay SJ\nstop\ncard S2 count 1\nend\n";
+
+// Each layout of the ending, as they are listed.
+const ENDING_LIST: &str =
+    "% alphamu layouts 1\nN:32... AQ... KJ... 75...\nN:32... A7... KJ... Q5...\nN:32... Q7... KJ... A5...\nN:32... A5... KJ... Q7...\nN:32... Q5... KJ... A7...\nN:32... 75... KJ... AQ...\n";
 
 // The same ending with hearts as trumps, after the first two cards.
 const TRICK: &str =
@@ -63,6 +72,14 @@ fn kept_of(alloc: Global, board: &Board, list: &[u8]) -> Result<Kept, Fail> {
         return Err("the layouts are too long".into());
     }
     Ok(layouts(alloc, list, board)?)
+}
+
+// The layouts of a layout file.
+fn layouts_of(alloc: Global, board: &Board, list: &[u8]) -> Result<Vec<Defenders>, Fail> {
+    if list.len() > 10_000 {
+        return Err("the layouts are too long".into());
+    }
+    Ok(read_lines(alloc, list, board)?)
 }
 
 fn spade(rank: u8) -> Card
@@ -124,5 +141,63 @@ fn one_card_is_answered(rt: HostRuntime) -> Result<(), Fail> {
         text.bytes(),
         b"alphamu card 1\ncard ST count 7 of 12\n".as_slice()
     );
+    Ok(())
+}
+
+#[test]
+fn two_good_plans_are_counted(rt: HostRuntime) -> Result<(), Fail> {
+    let text = check_text(rt.alloc(), 2)?;
+    assert_eq!(rt;
+        text.bytes(),
+        b"alphamu check 1\nplans 2\ngood\n".as_slice()
+    );
+    Ok(())
+}
+
+#[test]
+fn what_is_made_of_number_0_is_written(rt: HostRuntime) -> Result<(), Fail> {
+    let summary = MadeSummary {
+        number: 0,
+        layouts: 40,
+        front: 1,
+        best: 0,
+        card: spade(12),
+    };
+    let text = made_text(rt.alloc(), &summary)?;
+    assert_eq!(rt;
+        text.bytes(),
+        b"alphamu made 1\nnumber 0\nlayouts 40\nfront 1\nbest 0\ncard SQ\n".as_slice()
+    );
+    Ok(())
+}
+
+#[test]
+fn the_first_of_two_equal_cards_is_named(rt: HostRuntime) -> Result<(), Fail> {
+    let both = WinVector::none(2).set(0, true).set(1, true);
+    let table = [
+        CardVector {
+            card: spade(2),
+            vector: both,
+        },
+        CardVector {
+            card: spade(3),
+            vector: both,
+        },
+    ];
+    let text = fusion_text(rt.alloc(), &table)?;
+    assert_eq!(rt;
+        text.bytes(),
+        b"alphamu fusion 1\ncard S2 vector 11 count 2\ncard S3 vector 11 count 2\nnamed S2\n".as_slice()
+    );
+    Ok(())
+}
+
+#[test]
+fn layouts_are_listed_as_a_layout_file_has_them(rt: HostRuntime) -> Result<(), Fail> {
+    let alloc = rt.alloc();
+    let board = board_of(alloc, ENDING.as_bytes())?;
+    let layouts = layouts_of(alloc, &board, ENDING_LIST.as_bytes())?;
+    let text = list_text(alloc, &board, &layouts)?;
+    assert_eq!(rt; text.bytes(), ENDING_LIST.as_bytes());
     Ok(())
 }

@@ -1,0 +1,135 @@
+-- Texts in which no line ends.
+use Rattle.std.proofs.Common.{◌≡◌, ℕ, zero, suc, ◌+◌, ◌-◌, ◌/◌, ◌%◌, ◌≤◌, Bool, true, false, not, ◌&&◌, ◌==◌, if◌then◌else◌, nat_lt, List, [], ◌∷◌, ◌++◌, map, filter, flat_map, get_or, All, refl, ap, ◌∙◌, arith, codes}
+use Rattle.std.specs.List.{list_all, join_with_byte}
+use Rattle.std.specs.Fmt.{decimal, digit_glyph, digits_onto, digits}
+use Rattle.std.proofs.lemmas.Bool.{ne_eqb, false≢true}
+use Rattle.std.proofs.lemmas.List.Folds.{list_all-append}
+use Rattle.std.proofs.lemmas.List.Elements.{All-nil, All-cons}
+use Rattle.card_sets.specs.declared.card.Suit.{Suit}
+use Rattle.card_sets.specs.declared.card.Suit.TheVariants.{Spades, Hearts, Diamonds, Clubs}
+use Rattle.card_sets.specs.declared.seat.Compass.{Compass}
+use Rattle.card_sets.specs.declared.seat.Compass.TheVariants.{N, E, S, W}
+use Rattle.card_sets.specs.Cards.{suit_of, rank_of, card_of}
+use Rattle.card_sets.specs.SetWords.{has_card}
+use Rattle.pbn_deal.specs.Hands.{suit_order}
+use Rattle.card_letters.specs.Letters.{card_text, suit_letter, rank_letter, compass_letter}
+use Rattle.pbn_deal.specs.Writing.{ranks_down, suit_text, hand_text}
+use Rattle.am_report.specs.Lines.{spaced}
+use Rattle.am_report.specs.ReportLines.{is_line_end}
+use Rattle.am_report.proofs.Numbers.{and_parts}
+
+-- no byte is a line end
+abbrev pub is_plain : List ℕ → Bool
+is_plain text = list_all (λ byte. not (is_line_end byte)) text
+
+both_true : (a b : Bool) → a ≡ true → b ≡ true → (a && b) ≡ true
+both_true a b first second = rw (first, second) refl
+
+pub not_true : (b : Bool) → not b ≡ true → b ≡ false
+not_true false h = refl
+not_true true h = absurd (false≢true h)
+
+pub plain_byte : (byte : ℕ) → not (is_line_end byte) ≡ true → is_line_end byte ≡ false
+plain_byte byte h = not_true (is_line_end byte) h
+
+pub plain_all : (text : List ℕ) → is_plain text ≡ true → All (λ byte. is_line_end byte ≡ false) text
+plain_all [] plain = All-nil (λ byte. is_line_end byte ≡ false)
+plain_all (byte ∷ text) plain =
+    let parts = and_parts (not (is_line_end byte)) (is_plain text) plain in
+    All-cons (λ b. is_line_end b ≡ false) byte text (plain_byte byte parts.0) (plain_all text parts.1)
+
+pub plain_both : (a b : List ℕ) → is_plain a ≡ true → is_plain b ≡ true → is_plain (a ++ b) ≡ true
+plain_both a b first second = list_all-append (λ byte. not (is_line_end byte)) a b ∙ both_true (is_plain a) (is_plain b) first second
+
+pub plain_cons : (byte : ℕ) (text : List ℕ) → not (is_line_end byte) ≡ true → is_plain text ≡ true → is_plain (byte ∷ text) ≡ true
+plain_cons byte text first second = both_true (not (is_line_end byte)) (is_plain text) first second
+
+above_plain : (byte : ℕ) → 11 ≤ byte → not (is_line_end byte) ≡ true
+above_plain byte high = ap not (ne_eqb byte 10 (λ e. omega arith))
+
+-- ---- numbers
+
+if_plain : (b : Bool) (x y : List ℕ) → is_plain x ≡ true → is_plain y ≡ true → is_plain (if b then x else y) ≡ true
+if_plain true x y first second = first
+if_plain false x y first second = second
+
+glyph_plain : (d : ℕ) → not (is_line_end (digit_glyph false d)) ≡ true
+glyph_plain d = go (nat_lt d 10)
+  where
+    go : (b : Bool) → not (is_line_end (if b then 48 + d else 87 + d)) ≡ true
+    go true = above_plain (48 + d) (omega arith)
+    go false = above_plain (87 + d) (omega arith)
+
+digits_onto_plain : (k n : ℕ) (text : List ℕ) → is_plain text ≡ true → is_plain (digits_onto k 10 false n text) ≡ true
+digits_onto_plain zero n text plain = plain
+digits_onto_plain (suc k) n text plain =
+    let more = plain_cons (digit_glyph false (n % 10)) text (glyph_plain (n % 10)) plain in
+    if_plain (n / 10 == 0) (digit_glyph false (n % 10) ∷ text) (digits_onto k 10 false (n / 10) (digit_glyph false (n % 10) ∷ text)) more
+    (digits_onto_plain k (n / 10) (digit_glyph false (n % 10) ∷ text) more)
+
+pub decimal_plain : (n : ℕ) → is_plain (decimal n) ≡ true
+unfolding digits
+decimal_plain n = digits_onto_plain 64 n [] refl
+
+-- ---- letters
+
+get_or_plain : (text : List ℕ) (i : ℕ) → is_plain text ≡ true → not (is_line_end (get_or text i 0)) ≡ true
+get_or_plain [] i plain = refl
+get_or_plain (byte ∷ text) zero plain = (and_parts (not (is_line_end byte)) (is_plain text) plain).0
+get_or_plain (byte ∷ text) (suc i) plain = get_or_plain text i (and_parts (not (is_line_end byte)) (is_plain text) plain).1
+
+rank_plain : (rank : ℕ) → not (is_line_end (rank_letter rank)) ≡ true
+rank_plain rank = get_or_plain (codes "23456789TJQKA") (rank - 2) refl
+
+suit_plain : (suit : Suit) → not (is_line_end (suit_letter suit)) ≡ true
+suit_plain Spades = refl
+suit_plain Hearts = refl
+suit_plain Diamonds = refl
+suit_plain Clubs = refl
+
+compass_plain : (place : Compass) → not (is_line_end (compass_letter place)) ≡ true
+compass_plain N = refl
+compass_plain E = refl
+compass_plain S = refl
+compass_plain W = refl
+
+pub suit_letter_plain : (suit : Suit) → is_plain (suit_letter suit ∷ []) ≡ true
+suit_letter_plain suit = plain_cons (suit_letter suit) [] (suit_plain suit) refl
+
+pub compass_letter_plain : (place : Compass) → is_plain (compass_letter place ∷ []) ≡ true
+compass_letter_plain place = plain_cons (compass_letter place) [] (compass_plain place) refl
+
+pub card_text_plain : (card : ℕ) → is_plain (card_text card) ≡ true
+card_text_plain card =
+    plain_cons (suit_letter (suit_of card)) (rank_letter (rank_of card) ∷ []) (suit_plain (suit_of card)) (plain_cons (rank_letter (rank_of card)) [] (rank_plain (rank_of card)) refl)
+
+-- ---- hands
+
+ranks_plain : (ranks : List ℕ) → is_plain (map rank_letter ranks) ≡ true
+ranks_plain [] = refl
+ranks_plain (rank ∷ ranks) = plain_cons (rank_letter rank) (map rank_letter ranks) (rank_plain rank) (ranks_plain ranks)
+
+suit_text_plain : (cards : List ℕ) (suit : Suit) → is_plain (suit_text cards suit) ≡ true
+unfolding suit_text
+suit_text_plain cards suit = ranks_plain (filter (λ rank. has_card cards (card_of suit rank)) ranks_down)
+
+joined_plain : (pieces : List Suit) (text : Suit → List ℕ) → ((suit : Suit) → is_plain (text suit) ≡ true) → is_plain (join_with_byte 46 (map text pieces)) ≡ true
+joined_plain [] text plain = refl
+joined_plain (suit ∷ []) text plain = plain suit
+joined_plain (suit ∷ next ∷ later) text plain =
+    plain_both (text suit) (46 ∷ join_with_byte 46 (map text (next ∷ later))) (plain suit) (plain_cons 46 (join_with_byte 46 (map text (next ∷ later))) refl (joined_plain (next ∷ later) text plain))
+
+pub hand_text_plain : (cards : List ℕ) → is_plain (hand_text cards) ≡ true
+unfolding hand_text
+hand_text_plain cards = joined_plain suit_order (suit_text cards) (suit_text_plain cards)
+
+-- ---- lists
+
+later_plain : {A : Type 0} (written : A → List ℕ) → ((x : A) → is_plain (written x) ≡ true) → (items : List A) → is_plain (flat_map (λ x. codes " " ++ written x) items) ≡ true
+later_plain written plain [] = refl
+later_plain written plain (x ∷ items) =
+    plain_both (codes " " ++ written x) (flat_map (λ y. codes " " ++ written y) items) (plain_both (codes " ") (written x) refl (plain x)) (later_plain written plain items)
+
+pub spaced_plain : {A : Type 0} (written : A → List ℕ) → ((x : A) → is_plain (written x) ≡ true) → (items : List A) → is_plain (spaced written items) ≡ true
+spaced_plain written plain [] = refl
+spaced_plain written plain (x ∷ items) = plain_both (written x) (flat_map (λ y. codes " " ++ written y) items) (plain x) (later_plain written plain items)

@@ -1,0 +1,75 @@
+//! Layouts in text, as a layout file lists them.
+ghost use Rattle.std.specs.Prelude.{◌≡◌, ◌++◌, IfOk, OnOk, flat_map};
+ghost use Rattle.am_report.specs.LayoutFile.{dealt_hand, hand_of, layout_line, list_text};
+
+use am_outside::Text;
+use card_sets::{CardSet, Compass, Seat};
+use layout_list::line::Defenders;
+use pbn_deal::board::seat_of;
+use pbn_deal::{Board, deal_text};
+use std::alloc::{AllocError, Global};
+
+// The hand of a seat before the first card.
+fn dealt_hand(board: &Board, layout: &Defenders, seat: Seat) -> CardSet
+    ensures { result ≡ dealt_hand board.now layout.now seat }
+{
+    match seat {
+        Seat::Declarer => board.declarer_hand(),
+        Seat::Left => layout.left,
+        Seat::Dummy => board.dummy_hand(),
+        Seat::Right => layout.right,
+    }
+}
+
+// The hand at a place of the table.
+fn hand_of(board: &Board, layout: &Defenders, place: Compass) -> CardSet
+    ensures { result ≡ hand_of board.now layout.now place }
+{
+    dealt_hand(board, layout, seat_of(board.declarer(), place))
+}
+
+#[tactic(auto, unfolding(crate::specs::LayoutFile::layout_line))]
+fn push_layout_line(
+    text: &mut Text,
+    alloc: Global,
+    board: &Board,
+    layout: &Defenders,
+) -> Result<(), AllocError>
+    ensures { OnOk result (text.new ≡ text.old ++ layout_line board.now layout.now) }
+{
+    let hands = [
+        Some(hand_of(board, layout, Compass::N)),
+        Some(hand_of(board, layout, Compass::E)),
+        Some(hand_of(board, layout, Compass::S)),
+        Some(hand_of(board, layout, Compass::W)),
+    ];
+    text.push(deal_text(alloc, hands)?.bytes())?;
+    text.push(b"\n")
+}
+
+// Appends a line for each layout.
+fn push_layouts(
+    text: &mut Text,
+    alloc: Global,
+    board: &Board,
+    layouts: &[Defenders],
+) -> Result<(), AllocError>
+    ensures { OnOk result (text.new ≡ text.old ++ flat_map (layout_line board.now) layouts.now) }
+{
+    for layout in layouts {
+        push_layout_line(text, alloc, board, layout)?;
+    }
+    Ok(())
+}
+
+/// A layout file: a line that says what it is, and for each layout a line with the four hands before the first played
+/// card, from North.
+#[tactic(auto, unfolding(crate::specs::LayoutFile::list_text))]
+pub fn list_text(alloc: Global, board: &Board, layouts: &[Defenders]) -> Result<Text, AllocError>
+    ensures { IfOk result (λ text. text ≡ list_text board.now layouts.now) }
+{
+    let mut text = Text::new(alloc);
+    text.push(b"% alphamu layouts 1\n")?;
+    push_layouts(&mut text, alloc, board, layouts)?;
+    Ok(text)
+}
