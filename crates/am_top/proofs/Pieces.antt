@@ -1,5 +1,5 @@
 -- Pieces that are written one after another.
-use Rattle.std.proofs.Common.{◌≡◌, ℕ, zero, suc, ◌+◌, ◌<◌, List, [], ◌∷◌, ◌++◌, Result, Ok, Err, map, length, take, drop, Option, refl, sym, ap, subst, ◌∙◌, arith, rules, append_assoc, append-nil, take-append-drop}
+use Rattle.std.proofs.Common.{◌≡◌, ℕ, zero, suc, ◌+◌, ◌<◌, List, [], ◌∷◌, ◌++◌, Result, Ok, Err, map, length, take, drop, Option, sym, ap, subst, ◌∙◌, arith, rules, append_assoc, append-nil, take-append-drop}
 use Rattle.std.specs.Prelude.{slice_index_or, IsErr}
 use Rattle.std.proofs.lemmas.List.Folds.{concat-append}
 use Rattle.std.specs.Io.KnownBytes.{append_known}

@@ -6,19 +6,19 @@ use Rattle.win_vectors.specs.Fronts.{Vector, Covers}
 use Rattle.win_vectors.proofs.Orders.{Dominates-refl}
 use Rattle.trick_rules.specs.Nodes.{Layouts, IsNode}
 use Rattle.strategy_games.specs.Plans.{Plan, Fits, wins_vector}
-use Rattle.strategy_games.specs.Choosing.{IsChosenPlan, IsNamedCard, IsBestCount}
+use Rattle.strategy_games.specs.Choosing.{IsChosenPlan, IsNamedCard}
 use Rattle.strategy_games.proofs.Lists.{Contains-map, Contains-here}
 use Rattle.strategy_tree.specs.Bridge.{bridge}
 use Rattle.strategy_tree.proofs.BridgeLaws as laws
-use Rattle.job_words.specs.declared.Job.{Job}
-use Rattle.job_words.specs.declared.Job.TheVariants.{Solve, Card}
-use Rattle.pbn_deal.specs.Boards.{BoardValue}
-use Rattle.layout_list.specs.Kept.{KeptValue}
+use Rattle.job_words.specs.declared.asks.Search.{Search}
+use Rattle.am_report.specs.declared.made.MadeSummary.{MadeSummary}
 use Rattle.am_report.specs.Answers.{AnswerValue, EntryValue}
 use Rattle.am_report.specs.Solve.{solve_text}
 use Rattle.am_report.specs.Card.{card_text}
-use Rattle.am_top.specs.Answers.{TaskValue}
-use Rattle.am_top.specs.Reports.{IsSolveAnswer, IsTextFor, IsText}
+use Rattle.am_report.specs.Made.{made_text}
+use Rattle.am_top.specs.declared.root.Root.{Root}
+use Rattle.am_top.specs.Answers.{Report, NamedCard, Problem}
+use Rattle.am_top.specs.Reports.{IsSolveAnswer, IsText, made_moves}
 
 -- ---- what is printed
 
@@ -75,29 +75,22 @@ answer-same n moves found other is also =
     let count = laws.best_count.unique n moves found.count other.count is.count also.count in
     ap (λ e. answer_of e found.card found.count) entries ∙ ap₂ (λ c k. answer_of other.entries c k) card count
 
--- what a text is made from
-abbrev IsTextOf : Job → ℕ → BoardValue → KeptValue → List ℕ → Type 0
-IsTextOf Solve moves board kept text = (found : AnswerValue) × IsSolveAnswer kept.node moves found × (text ≡ solve_text board kept moves found)
-IsTextOf Card moves board kept text = (card count : ℕ) × IsNamedCard bridge kept.node moves card × IsBestCount bridge kept.node moves count × (text ≡ card_text card count (length kept.node.lefts))
+module _ (root : Root) (moves : ℕ) (search other : Search) (text more : List ℕ) where
+  pub one-report : IsText (Report root moves search) text → IsText (Report root moves other) more → text ≡ more
+  one-report (found, is, written) (also, same, again) =
+      written ∙ ap (solve_text root.board root.kept moves) (answer-same root.kept.node moves found also is same) ∙ sym again
 
-text-made : (job : Job) (task : TaskValue) (text : List ℕ) → IsTextFor job task text → IsTextOf job task.ask.moves task.board task.kept text
-text-made Solve task text is = is
-text-made Card task text is = is
+  pub one-card : IsText (NamedCard root moves search) text → IsText (NamedCard root moves other) more → text ≡ more
+  one-card (card, count, is, best, written) (named, most, also, same, again) =
+      written ∙ ap₂ (λ c k. card_text c k (length root.kept.node.lefts)) (named-same root.kept.node moves card named is also) (laws.best_count.unique root.kept.node moves count most best same) ∙ sym again
 
-text-same : (job : Job) (moves : ℕ) (board : BoardValue) (kept : KeptValue) (text more : List ℕ) → IsTextOf job moves board kept text → IsTextOf job moves board kept more → text ≡ more
-text-same Solve moves board kept text more (found, is, written) (other, also, again) =
-    written ∙ ap (solve_text board kept moves) (answer-same kept.node moves found other is also) ∙ sym again
-text-same Card moves board kept text more (card, count, is, best, written) (other, most, also, same, again) =
-    written ∙ ap₂ (λ c k. card_text c k (length kept.node.lefts)) (named-same kept.node moves card other is also) (laws.best_count.unique kept.node moves count most best same) ∙ sym again
+abbrev summary_of : ℕ → Root → ℕ → ℕ → ℕ → MadeSummary
+summary_of number root front best card = record { number = number; layouts = length root.kept.node.lefts; front = front; best = best; card = card }
 
-pub one-text : (task other : TaskValue) (text more : List ℕ) → other.board ≡ task.board → other.kept ≡ task.kept → other.ask.job ≡ task.ask.job → other.ask.moves ≡ task.ask.moves
-    → IsText task text → IsText other more → text ≡ more
-one-text task other text more board kept job moves is also =
-    let made = text-made task.ask.job task text is in
-    let made_too : IsTextOf task.ask.job task.ask.moves task.board task.kept more =
-    subst (λ j. IsTextOf j task.ask.moves task.board task.kept more) job
-    (subst (λ m. IsTextOf other.ask.job m task.board task.kept more) moves
-    (subst (λ b. IsTextOf other.ask.job other.ask.moves b task.kept more) board
-    (subst (λ k. IsTextOf other.ask.job other.ask.moves other.board k more) kept
-    (text-made other.ask.job other more also)))) in
-    text-same task.ask.job task.ask.moves task.board task.kept text more made made_too
+pub one-summary : (number : ℕ) (root : Root) (search other : Search) (text more : List ℕ) → IsText (Problem number root search) text → IsText (Problem number root other) more → text ≡ more
+one-summary number root search other text more (vectors, card, count, front, is, best, written) (others, named, most, same_front, also, same, again) =
+    let fronts = laws.one_front.unique root.kept.node made_moves vectors others front same_front in
+    let cards = named-same root.kept.node made_moves card named is also in
+    let counts = laws.best_count.unique root.kept.node made_moves count most best same in
+    written ∙ ap (λ f. made_text (summary_of number root (length f) count card)) fronts ∙ ap (λ k. made_text (summary_of number root (length others) k card)) counts
+    ∙ ap (λ c. made_text (summary_of number root (length others) most c)) cards ∙ sym again

@@ -1,75 +1,107 @@
 -- How the stages of a run come together to the answer.
-use Rattle.std.proofs.Common.{◌≡◌, rules, subst, inl, inr, ℕ, List, Option, Some, None, Result, Ok, Err, refl, sym, ap, ◌∙◌}
-use Rattle.std.specs.Prelude.{IfSome, IfOk, IfErr, ⊤}
+use Rattle.std.proofs.Common.{◌≡◌, subst, ℕ, List, Option, Some, None, Result, Ok, Err, refl, sym, ap₂, ◌∙◌}
+use Rattle.std.specs.Prelude.{IfSome, IfOk, IfErr}
 use Rattle.alphamu_core.specs.declared.answers.RootFault as root
+use Rattle.trick_rules.specs.Nodes.{Layouts as LayoutsNode}
 use Rattle.am_outside.specs.Shelf.{Files}
+use Rattle.root_workers.specs.Roots.{IsSpentAt}
+use Rattle.am_top.specs.declared.inputs.Inputs.{Inputs}
+use Rattle.am_top.specs.declared.inputs.Work.{Work}
+use Rattle.am_top.specs.declared.inputs.Work.TheVariants as works
 use Rattle.am_top.specs.declared.status.Status.{Status}
-use Rattle.am_top.specs.declared.status.Status.TheVariants.{Done, BadWords, Unread, BadPbn, BadLayouts, NoTurn, Spent, Unwritten, Memory, TooLong}
-use Rattle.am_top.specs.Answers.{InputsValue, TaskValue, inputs_read, task_in, answer}
+use Rattle.am_top.specs.declared.status.Status.TheVariants.{Done, Refuted, BadWords, Unread, BadPbn, BadLayouts, NoTurn, Spent, Unwritten, Memory, TooLong, BadReport, BadMake}
+use Rattle.am_top.specs.Steps.{◌>>=◌}
+use Rattle.job_words.specs.declared.asks.Search.{Search}
+use Rattle.layout_maker.specs.MadeProblem.{made_deal, made_layouts}
+use Rattle.am_top.specs.declared.root.Root.{Root}
+use Rattle.am_top.specs.Answers.{TaskValue, Report, NamedCard, Problem, root_in, task_at, problem_of, task_in, answer}
+use Rattle.am_top.specs.Files.{inputs_read}
 use Rattle.am_top.specs.Refusals.{root_status}
-use Rattle.am_top.specs.Reports.{IsText}
-use Rattle.am_top.specs.Endings.{IsSpentOn, IsWithinNodes, IsStatusFor}
-use Rattle.am_top.specs.Stages.{IsOfFiles, IsOfReading, IsRefusedAs, IsFileRefusal, IsSpentOr, IsAfterReading, IsTextFor, IsRefusal}
+use Rattle.am_top.specs.Endings.{IsSpentOn}
+use Rattle.am_top.specs.Stages.{IsOfReading, IsReadRefusal, IsFileRefusal, IsSpentOr, IsTaskRefusal, IsTextFor, IsRefusal}
+
+-- ---- one step, and then another
+
+-- what refuses a step refuses the whole
+pub refused_step : {A B : Type 0} (step : Result A Status) (next : A → Result B Status) (status : Status) → IsFileRefusal step status → IsFileRefusal (step >>= next) status
+refused_step step next Done is = is
+refused_step step next (Refuted plan place) is = rw is refl
+refused_step step next BadWords is = is
+refused_step step next (Unread file) is = is
+refused_step step next (BadPbn line kind) is = rw is refl
+refused_step step next (BadLayouts fault) is = rw is refl
+refused_step step next NoTurn is = rw is refl
+refused_step step next (Spent card) is = is
+refused_step step next Unwritten is = is
+refused_step step next Memory is = tt
+refused_step step next (TooLong file) is = is
+refused_step step next (BadReport line kind) is = rw is refl
+refused_step step next (BadMake fault) is = rw is refl
 
 -- ---- the work of a task
 
-pub spent_or : (task : TaskValue) (fault : root.RootFault) → ((card : ℕ) → fault ≡ root.TheVariants.Spent card → IsSpentOn task card) → IsSpentOr task (root_status fault)
-spent_or task (root.TheVariants.Spent card) spent = spent card refl
-spent_or task root.TheVariants.Memory spent = tt
+pub spent_or : (node : LayoutsNode) (moves nodes : ℕ) (fault : root.RootFault) → ((card : ℕ) → fault ≡ root.TheVariants.Spent card → IsSpentAt node moves nodes card) → IsSpentOr node moves nodes (root_status fault)
+spent_or node moves nodes (root.TheVariants.Spent card) spent = spent card refl
+spent_or node moves nodes root.TheVariants.Memory spent = tt
 
--- ---- what the files lead to
+-- files that are refused lead to no task
+pub refused_files : (found : Result TaskValue Status) (status : Status) → IsFileRefusal found status → IsTaskRefusal found status
+refused_files found Done is = is
+refused_files found (Refuted plan place) is = is
+refused_files found BadWords is = is
+refused_files found (Unread file) is = is
+refused_files found (BadPbn line kind) is = is
+refused_files found (BadLayouts fault) is = is
+refused_files found NoTurn is = is
+refused_files found (Spent card) is = absurd is
+refused_files found Unwritten is = is
+refused_files found Memory is = tt
+refused_files found (TooLong file) is = is
+refused_files found (BadReport line kind) is = is
+refused_files found (BadMake fault) is = is
 
-pub refused_task : (found : Result TaskValue Status) (status : Status) → IsFileRefusal found status → IsRefusal found status
-refused_task found Done is = absurd is
-refused_task found BadWords is = absurd is
-refused_task found (Unread file) is = tt
-refused_task found (BadPbn line kind) is = is
-refused_task found (BadLayouts fault) is = is
-refused_task found NoTurn is = is
-refused_task found (Spent card) is = absurd is
-refused_task found Unwritten is = absurd is
-refused_task found Memory is = tt
-refused_task found (TooLong file) is = absurd is
+-- a search that is too large, or no memory
+pub refused_search : (found : Result TaskValue Status) (task : TaskValue) (node : LayoutsNode) (moves nodes : ℕ) (status : Status) → found ≡ Ok task → ((card : ℕ) → IsSpentAt node moves nodes card → IsSpentOn task card)
+    → IsSpentOr node moves nodes status → IsTaskRefusal found status
+refused_search found task node moves nodes Done same spent is = absurd is
+refused_search found task node moves nodes (Refuted plan place) same spent is = absurd is
+refused_search found task node moves nodes BadWords same spent is = absurd is
+refused_search found task node moves nodes (Unread file) same spent is = absurd is
+refused_search found task node moves nodes (BadPbn line kind) same spent is = absurd is
+refused_search found task node moves nodes (BadLayouts fault) same spent is = absurd is
+refused_search found task node moves nodes NoTurn same spent is = absurd is
+refused_search found task node moves nodes (Spent card) same spent is = (task, same, spent card is)
+refused_search found task node moves nodes Unwritten same spent is = absurd is
+refused_search found task node moves nodes Memory same spent is = tt
+refused_search found task node moves nodes (TooLong file) same spent is = absurd is
+refused_search found task node moves nodes (BadReport line kind) same spent is = absurd is
+refused_search found task node moves nodes (BadMake fault) same spent is = absurd is
 
-pub refused_task-after : (found : Result TaskValue Status) (status : Status) → IsFileRefusal found status → IsAfterReading status
-refused_task-after found Done is = absurd is
-refused_task-after found BadWords is = absurd is
-refused_task-after found (Unread file) is = absurd is
-refused_task-after found (BadPbn line kind) is = tt
-refused_task-after found (BadLayouts fault) is = tt
-refused_task-after found NoTurn is = tt
-refused_task-after found (Spent card) is = absurd is
-refused_task-after found Unwritten is = absurd is
-refused_task-after found Memory is = tt
-refused_task-after found (TooLong file) is = absurd is
+pub refused_searches : {A : Type 0} (result : Result A Status) (found : Result TaskValue Status) (task : TaskValue) (node : LayoutsNode) (moves nodes : ℕ) → found ≡ Ok task → ((card : ℕ) → IsSpentAt node moves nodes card → IsSpentOn task card)
+    → IfErr result (IsSpentOr node moves nodes) → IfErr result (IsTaskRefusal found)
+refused_searches (Ok text) found task node moves nodes same spent is = tt
+refused_searches (Err status) found task node moves nodes same spent is = refused_search found task node moves nodes status same spent is
 
-pub refused_work : (found : Result TaskValue Status) (task : TaskValue) (status : Status) → found ≡ Ok task → IsSpentOr task status → IsRefusal found status
-refused_work found task Done same is = absurd is
-refused_work found task BadWords same is = absurd is
-refused_work found task (Unread file) same is = absurd is
-refused_work found task (BadPbn line kind) same is = absurd is
-refused_work found task (BadLayouts fault) same is = absurd is
-refused_work found task NoTurn same is = absurd is
-refused_work found task (Spent card) same is = (task, same, is)
-refused_work found task Unwritten same is = absurd is
-refused_work found task Memory same is = tt
-refused_work found task (TooLong file) same is = absurd is
+-- a job that searches is accepted
+module _ (root : Root) (work : Work) (moves : ℕ) (search' : Search) where
+  pub task_at-Solve : work ≡ works.Solve moves search' → task_at root work ≡ Ok (Report root moves search')
+  unfolding task_at
+  task_at-Solve is = rw is refl
 
-pub refused_work-after : (task : TaskValue) (status : Status) → IsSpentOr task status → IsAfterReading status
-refused_work-after task Done is = absurd is
-refused_work-after task BadWords is = absurd is
-refused_work-after task (Unread file) is = absurd is
-refused_work-after task (BadPbn line kind) is = absurd is
-refused_work-after task (BadLayouts fault) is = absurd is
-refused_work-after task NoTurn is = absurd is
-refused_work-after task (Spent card) is = tt
-refused_work-after task Unwritten is = absurd is
-refused_work-after task Memory is = tt
-refused_work-after task (TooLong file) is = absurd is
+  pub task_at-Card : work ≡ works.Card moves search' → task_at root work ≡ Ok (NamedCard root moves search')
+  unfolding task_at
+  task_at-Card is = rw is refl
+
+-- the root of the problem of a number
+pub problem-root : (number : ℕ) (search' : Search) (root : Root) (deal layouts : List ℕ) → deal ≡ made_deal number → layouts ≡ made_layouts number → root_in deal layouts ≡ Ok root → problem_of number search' ≡ Ok (Problem number root search')
+unfolding problem_of
+problem-root number search' root deal layouts made also is =
+    let read : root_in (made_deal number) (made_layouts number) ≡ Ok root = ap₂ root_in (sym made) (sym also) ∙ is in
+    rw read refl
 
 -- ---- the answer
 
-answer-in : (words : List (List ℕ)) (files : Files) (inputs : InputsValue) → inputs_read words files ≡ Ok inputs → answer words files ≡ task_in inputs
+answer-in : (words : List (List ℕ)) (files : Files) (inputs : Inputs) → inputs_read words files ≡ Ok inputs → answer words files ≡ task_in inputs
 unfolding answer
 answer-in words files inputs is = rw is refl
 
@@ -77,34 +109,56 @@ answer-refused : (words : List (List ℕ)) (files : Files) (status : Status) →
 unfolding answer
 answer-refused words files status is = rw is refl
 
-refused_inputs : (words : List (List ℕ)) (files : Files) (status : Status) → IsRefusedAs (inputs_read words files) status → IsRefusal (answer words files) status
+refused_inputs : (words : List (List ℕ)) (files : Files) (status : Status) → IsReadRefusal (inputs_read words files) status → IsRefusal (answer words files) status
 refused_inputs words files Done is = absurd is
+refused_inputs words files (Refuted plan place) is = absurd is
 refused_inputs words files BadWords is = answer-refused words files BadWords is
 refused_inputs words files (Unread file) is = tt
-refused_inputs words files (BadPbn line kind) is = answer-refused words files (BadPbn line kind) is
-refused_inputs words files (BadLayouts fault) is = answer-refused words files (BadLayouts fault) is
-refused_inputs words files NoTurn is = answer-refused words files NoTurn is
+refused_inputs words files (BadPbn line kind) is = absurd is
+refused_inputs words files (BadLayouts fault) is = absurd is
+refused_inputs words files NoTurn is = absurd is
 refused_inputs words files (Spent card) is = absurd is
 refused_inputs words files Unwritten is = absurd is
 refused_inputs words files Memory is = tt
 refused_inputs words files (TooLong file) is = answer-refused words files (TooLong file) is
+refused_inputs words files (BadReport line kind) is = absurd is
+refused_inputs words files (BadMake fault) is = absurd is
+
+-- a task that is refused
+refused_task : (found : Result TaskValue Status) (status : Status) → IsTaskRefusal found status → IsRefusal found status
+refused_task found Done is = absurd is
+refused_task found (Refuted plan place) is = is
+refused_task found BadWords is = absurd is
+refused_task found (Unread file) is = tt
+refused_task found (BadPbn line kind) is = is
+refused_task found (BadLayouts fault) is = is
+refused_task found NoTurn is = is
+refused_task found (Spent card) is = is
+refused_task found Unwritten is = absurd is
+refused_task found Memory is = tt
+refused_task found (TooLong file) is = absurd is
+refused_task found (BadReport line kind) is = is
+refused_task found (BadMake fault) is = is
 
 -- where the shelf tells its files
 
-pub told_refused_inputs : (told : Option Files) (words : List (List ℕ)) (status : Status) → IfSome told (λ files. IsRefusedAs (inputs_read words files) status) → IfSome told (λ files. IsRefusal (answer words files) status)
+pub told_refused_inputs : (told : Option Files) (words : List (List ℕ)) (status : Status) → IfSome told (λ files. IsReadRefusal (inputs_read words files) status) → IfSome told (λ files. IsRefusal (answer words files) status)
 told_refused_inputs None words status is = tt
 told_refused_inputs (Some files) words status is = refused_inputs words files status is
 
-pub told_text : (told : Option Files) (words : List (List ℕ)) (inputs : InputsValue) (result : Result (List ℕ) Status) → IfSome told (λ files. inputs_read words files ≡ Ok inputs) → IfOk result (IsTextFor (task_in inputs)) → IfSome told (λ files. IfOk result (IsTextFor (answer words files)))
+pub told_text : (told : Option Files) (words : List (List ℕ)) (inputs : Inputs) (result : Result (List ℕ) Status) → IfSome told (λ files. inputs_read words files ≡ Ok inputs) → IfOk result (IsTextFor (task_in inputs)) → IfSome told (λ files. IfOk result (IsTextFor (answer words files)))
 told_text None words inputs result same is = tt
 told_text (Some files) words inputs result same is = rw (answer-in words files inputs same) is
 
-pub told_refused : (told : Option Files) (words : List (List ℕ)) (inputs : InputsValue) (result : Result (List ℕ) Status) → IfSome told (λ files. inputs_read words files ≡ Ok inputs) → IfErr result (IsRefusal (task_in inputs)) → IfSome told (λ files. IfErr result (IsRefusal (answer words files)))
+refused_tasks : {A : Type 0} (result : Result A Status) (found : Result TaskValue Status) → IfErr result (IsTaskRefusal found) → IfErr result (IsRefusal found)
+refused_tasks (Ok text) found is = tt
+refused_tasks (Err status) found is = refused_task found status is
+
+pub told_refused : (told : Option Files) (words : List (List ℕ)) (inputs : Inputs) (result : Result (List ℕ) Status) → IfSome told (λ files. inputs_read words files ≡ Ok inputs) → IfErr result (IsTaskRefusal (task_in inputs)) → IfSome told (λ files. IfErr result (IsRefusal (answer words files)))
 told_refused None words inputs result same is = tt
-told_refused (Some files) words inputs result same is = rw (answer-in words files inputs same) is
+told_refused (Some files) words inputs result same is = rw (answer-in words files inputs same) (refused_tasks result (task_in inputs) is)
 
 -- ---- statuses that no stage before the output gives
 
 pub reading-not_done : (status : Status) → IsOfReading status → (status ≡ Done → ⊥) × (status ≡ Unwritten → ⊥)
-reading-not_done status (inl bad) = (λ same. search (rules, bad, same), λ same. search (rules, bad, same))
-reading-not_done status (inr of_files) = (λ same. subst (λ s. IsOfFiles s) same of_files, λ same. subst (λ s. IsOfFiles s) same of_files)
+reading-not_done status is = (λ same. subst IsOfReading same is, λ same. subst IsOfReading same is)

@@ -1,9 +1,11 @@
 pub mod Codes
 pub mod Names
 pub mod Lines
+pub mod Steps
+pub mod Files
 pub mod Refusals
+pub mod Judging
 pub mod Answers
-pub mod Inputs
 pub mod Reports
 pub mod Endings
 pub mod Stages

@@ -3,6 +3,7 @@ use Rattle.std.specs.Prelude.{ℕ, List, ◌++◌, codes}
 use Rattle.pbn_text.specs.declared.fault.Syntax as syntax
 use Rattle.pbn_deal.specs.declared.deal.DealFault as deal
 use Rattle.pbn_deal.specs.declared.fault.BoardFault as board
+use Rattle.am_report.specs.declared.fault.ReportKind as report
 use Rattle.am_top.specs.declared.status.FileWord as file
 use Rattle.am_top.specs.declared.status.PbnKind as kind
 
@@ -10,6 +11,7 @@ use Rattle.am_top.specs.declared.status.PbnKind as kind
 abbrev pub file_name : file.FileWord → List ℕ
 file_name file.TheVariants.Deal = codes "deal"
 file_name file.TheVariants.Layouts = codes "layouts"
+file_name file.TheVariants.Report = codes "report"
 
 abbrev pub syntax_name : syntax.Syntax → List ℕ
 syntax_name syntax.TheVariants.OpenString = codes "OpenString"
@@ -47,3 +49,12 @@ abbrev pub kind_name : kind.PbnKind → List ℕ
 kind_name (kind.TheVariants.Syntax fault) = syntax_name fault
 kind_name kind.TheVariants.NoGame = codes "NoGame"
 kind_name (kind.TheVariants.Board fault) = board_name fault
+
+abbrev pub report_name : report.ReportKind → List ℕ
+report_name report.TheVariants.Version = codes "Version"
+report_name report.TheVariants.Head = codes "Head"
+report_name report.TheVariants.Vector = codes "Vector"
+report_name report.TheVariants.Plan = codes "Plan"
+report_name report.TheVariants.TooDeep = codes "TooDeep"
+report_name report.TheVariants.Card = codes "Card"
+report_name report.TheVariants.End = codes "End"

@@ -1,16 +1,19 @@
 -- Why words and files are refused.
-use Rattle.std.specs.Prelude.{◌≡◌, ℕ, List, Some}
+use Rattle.std.specs.Prelude.{◌≡◌, ℕ, List, Some, IsSomeAnd}
 use Rattle.am_outside.specs.Faults.{Rose}
-use Rattle.job_words.specs.Words.{AskValue, words_read}
+use Rattle.job_words.specs.Asks.{AskValue}
+use Rattle.job_words.specs.Words.{words_read}
 use Rattle.pbn_text.specs.declared.fault.TextFault as text
 use Rattle.pbn_deal.specs.declared.fault.BoardRefusal as board
 use Rattle.layout_list.specs.declared.fault.LayoutFault as layouts
+use Rattle.layout_maker.specs.declared.fault.MakeFault as make
 use Rattle.alphamu_core.specs.declared.answers.RootFault as root
+use Rattle.am_report.specs.declared.fault.ReportFault as report
 use Rattle.am_top.specs.declared.status.FileWord.{FileWord}
-use Rattle.am_top.specs.declared.status.FileWord.TheVariants.{Deal, Layouts}
 use Rattle.am_top.specs.declared.status.PbnKind.TheVariants.{Syntax, Board}
 use Rattle.am_top.specs.declared.status.Status.{Status}
-use Rattle.am_top.specs.declared.status.Status.TheVariants.{BadPbn, BadLayouts, Spent, Memory}
+use Rattle.am_top.specs.declared.status.Status.TheVariants.{BadPbn, BadLayouts, BadReport, BadMake, Spent, Memory}
+use Rattle.am_top.specs.Files.{name_of}
 
 abbrev pub syntax_status : text.TextFault → Status
 syntax_status (text.TheVariants.Syntax line kind) = BadPbn line (Syntax kind)
@@ -32,11 +35,16 @@ abbrev pub root_status : root.RootFault → Status
 root_status (root.TheVariants.Spent card) = Spent card
 root_status root.TheVariants.Memory = Memory
 
--- the name that the words give a file
-abbrev pub name_of : AskValue → FileWord → List ℕ
-name_of ask Deal = ask.deal
-name_of ask Layouts = ask.layouts
+abbrev pub report_status : report.ReportFault → Status
+report_status (report.TheVariants.Fault line kind) = BadReport line kind
+report_status report.TheVariants.Memory = Memory
+
+abbrev pub make_status : make.MakeFault → Status
+make_status (make.TheVariants.MoreThan64 count) = BadMake (make.TheVariants.MoreThan64 count)
+make_status make.TheVariants.NoneFit = BadMake make.TheVariants.NoneFit
+make_status make.TheVariants.NotShown = BadMake make.TheVariants.NotShown
+make_status make.TheVariants.Memory = Memory
 
 -- the words name the file, and the count of faults at that name rose
 abbrev pub IsUnread : List (List ℕ) → (List ℕ → ℕ) → (List ℕ → ℕ) → FileWord → Type 0
-IsUnread words before now file = (ask : AskValue) × (words_read words ≡ Some ask) × Rose (before (name_of ask file)) (now (name_of ask file))
+IsUnread words before now file = (ask : AskValue) × (words_read words ≡ Some ask) × IsSomeAnd (name_of ask file) (λ name. Rose (before name) (now name))

@@ -1,15 +1,19 @@
 -- What is written where a job is done.
-use Rattle.std.specs.Prelude.{◌≡◌, ℕ, List, map, length, All}
+use Rattle.std.specs.Prelude.{◌≡◌, ℕ, Bool, List, map, length, All}
 use Rattle.strategy_games.specs.Plans.{IsFront}
 use Rattle.strategy_games.specs.Choosing.{IsChosenPlan, IsBestCount, IsNamedCard}
 use Rattle.strategy_tree.specs.Bridge.{bridge}
 use Rattle.trick_rules.specs.Nodes.{Layouts}
-use Rattle.job_words.specs.declared.Job.{Job}
-use Rattle.job_words.specs.declared.Job.TheVariants.{Solve, Card}
+use Rattle.fusion_base.specs.Sampling.{card_vectors}
 use Rattle.am_report.specs.Answers.{AnswerValue}
-use Rattle.am_report.specs.Solve.{solve_text}
 use Rattle.am_report.specs.Card.{card_text}
-use Rattle.am_top.specs.Answers.{TaskValue}
+use Rattle.am_report.specs.Check.{check_text}
+use Rattle.am_report.specs.Fusion.{fusion_text}
+use Rattle.am_report.specs.LayoutFile.{list_text}
+use Rattle.am_report.specs.Made.{made_text}
+use Rattle.am_report.specs.Solve.{solve_text}
+use Rattle.am_top.specs.declared.root.Root.{Root}
+use Rattle.am_top.specs.Answers.{TaskValue, Report, NamedCard, Sample, Good, AllLayouts, Problem}
 
 -- the vectors of the front in order, each with the plan that is chosen for it; the named card; and the best count
 pub record IsSolveAnswer (n : Layouts) (moves : ℕ) (found : AnswerValue) : Type 0 where
@@ -18,21 +22,32 @@ pub record IsSolveAnswer (n : Layouts) (moves : ℕ) (found : AnswerValue) : Typ
   pub card : IsNamedCard bridge n moves found.card
   pub count : IsBestCount bridge n moves found.count
 
--- the report of a task: no number of workers, size of a table or rule of cuts stands in it
-abbrev pub IsSolveText : TaskValue → List ℕ → Type 0
-IsSolveText task text = (found : AnswerValue) × IsSolveAnswer task.kept.node task.ask.moves found
-    × (text ≡ solve_text task.board task.kept task.ask.moves found)
+-- the report of a root: no number of workers, size of a table or rule of cuts stands in it
+abbrev pub IsSolveText : Root → ℕ → List ℕ → Type 0
+IsSolveText root moves text = (found : AnswerValue) × IsSolveAnswer root.kept.node moves found
+    × (text ≡ solve_text root.board root.kept moves found)
 
 -- the card to play, its count, and the number of kept layouts
-abbrev pub IsCardText : TaskValue → List ℕ → Type 0
-IsCardText task text = (card count : ℕ) × IsNamedCard bridge task.kept.node task.ask.moves card
-    × IsBestCount bridge task.kept.node task.ask.moves count
-    × (text ≡ card_text card count (length task.kept.node.lefts))
+abbrev pub IsCardText : Root → ℕ → List ℕ → Type 0
+IsCardText root moves text = (card count : ℕ) × IsNamedCard bridge root.kept.node moves card
+    × IsBestCount bridge root.kept.node moves count
+    × (text ≡ card_text card count (length root.kept.node.lefts))
 
-abbrev pub IsTextFor : Job → TaskValue → List ℕ → Type 0
-IsTextFor Solve task text = IsSolveText task text
-IsTextFor Card task text = IsCardText task text
+-- the moves of a problem that is made from a number
+abbrev pub made_moves : ℕ
+made_moves = 3
 
--- the text of the job that is asked for
+-- the number, the kept layouts, the length of the front, the best count and the named card
+abbrev pub IsMadeText : ℕ → Root → List ℕ → Type 0
+IsMadeText number root text = (vectors : List (List Bool)) × (card count : ℕ) × IsFront bridge root.kept.node made_moves vectors
+    × IsNamedCard bridge root.kept.node made_moves card × IsBestCount bridge root.kept.node made_moves count
+    × (text ≡ made_text (record { number = number; layouts = length root.kept.node.lefts; front = length vectors; best = count; card = card }))
+
+-- the text of a job
 abbrev pub IsText : TaskValue → List ℕ → Type 0
-IsText task text = IsTextFor task.ask.job task text
+IsText (Report root moves search) text = IsSolveText root moves text
+IsText (NamedCard root moves search) text = IsCardText root moves text
+IsText (Sample root) text = text ≡ fusion_text (card_vectors root.kept.node)
+IsText (Good plans) text = text ≡ check_text plans
+IsText (AllLayouts board layouts) text = text ≡ list_text board layouts
+IsText (Problem number root search) text = IsMadeText number root text

@@ -1,12 +1,19 @@
-//! What a report says, in the words of the game. A call does nothing: its contract is the law, for every task.
-ghost use Rattle.std.specs.Prelude.{◌≡◌, ◌≤◌, ℕ, List, map, Contains};
+//! What a report says, in the words of the game. A call does nothing: its contract is the law, for every root.
+ghost use Rattle.std.specs.Prelude.{◌≡◌, ◌≤◌, ◌<◌, ◌^◌, ℕ, List, Some, Ok, length, map, Contains};
 ghost use Rattle.win_vectors.specs.Vectors.{ones_of};
 ghost use Rattle.win_vectors.specs.Fronts.{Covers};
 ghost use Rattle.trick_rules.specs.Nodes.{Layouts, IsNode};
 ghost use Rattle.strategy_games.specs.Plans.{Plan, Fits, wins_vector};
 ghost use Rattle.strategy_tree.specs.Bridge.{bridge};
+ghost use Rattle.am_outside.specs.Shelf.{Files};
+ghost use Rattle.job_words.specs.declared.asks.Search.{Search};
+ghost use Rattle.job_words.specs.Asks.{Made};
+ghost use Rattle.job_words.specs.Words.{words_read};
 ghost use Rattle.am_report.specs.Answers.{AnswerValue, EntryValue};
-ghost use Rattle.am_top.specs.Answers.{TaskValue};
+ghost use Rattle.am_report.specs.Solve.{solve_text};
+ghost use Rattle.am_top.specs.declared.root.Root.{Root};
+ghost use Rattle.am_top.specs.Answers.{Report, NamedCard, Problem, answer};
+ghost use Rattle.am_top.specs.Judging.{plans_in};
 ghost use Rattle.am_top.specs.Reports.{IsSolveAnswer, IsText};
 
 /// The plan that is printed below a vector is a strategy, and wins exactly that vector: in each layout it is made against
@@ -26,10 +33,27 @@ pub fn printed_vectors_cover()
         → Fits bridge plan n moves → ones_of (wins_vector bridge plan n) ≤ found.count }
 {}
 
-/// The board, the kept layouts, the job and the number of moves have one text: no number of workers, size of the table,
-/// rule of cuts or number of nodes changes a byte.
+/// A root and a number of moves have one report and one card, and a number one summary of its problem: no number of
+/// workers, size of the table, rule of cuts or number of nodes changes a byte.
 pub fn one_text()
-    ensures { (task other : TaskValue) (text more : List ℕ) → other.board ≡ task.board → other.kept ≡ task.kept
-        → other.ask.job ≡ task.ask.job → other.ask.moves ≡ task.ask.moves → IsText task text → IsText other more
-        → text ≡ more }
+    ensures report { (root : Root) (moves : ℕ) (search other : Search) (text more : List ℕ)
+        → IsText (Report root moves search) text → IsText (Report root moves other) more → text ≡ more }
+    ensures card { (root : Root) (moves : ℕ) (search other : Search) (text more : List ℕ)
+        → IsText (NamedCard root moves search) text → IsText (NamedCard root moves other) more → text ≡ more }
+    ensures problem { (number : ℕ) (root : Root) (search other : Search) (text more : List ℕ)
+        → IsText (Problem number root search) text → IsText (Problem number root other) more → text ≡ more }
+{}
+
+/// Words that ask for the problem of a number are never refused: its texts are read as files are, and lead to a root.
+pub fn made_problems_are_accepted()
+    ensures { (words : List (List ℕ)) (files : Files) (number : ℕ) (search : Search)
+        → words_read words ≡ Some (Made number search)
+        → (root : Root) × (answer words files ≡ Ok (Problem number root search)) }
+{}
+
+/// What is written for `solve` is found good by `check`, for every root and number of moves.
+pub fn solved_reports_are_good()
+    ensures { (root : Root) (moves : ℕ) (found : AnswerValue) → IsNode root.kept.node → 1 ≤ moves → moves ≤ 26
+        → IsSolveAnswer root.kept.node moves found → length found.entries < 2 ^ 32
+        → plans_in root (solve_text root.board root.kept moves found) ≡ Ok (length found.entries) }
 {}

@@ -4,16 +4,17 @@
 #![tactic(auto)]
 
 pub mod inputs;
+mod judge;
 pub mod laws;
 mod line;
 mod names;
 pub mod program;
+pub mod root;
 pub mod status;
-pub mod task;
 mod work;
 
 pub use program::run;
-pub use status::{FileWord, PbnKind, Status};
+pub use status::{FileWord, PbnKind, Place, Status};
 
 #[cfg(test)]
 mod tests;

@@ -1,8 +1,9 @@
 //! The names of files and faults, as lines to standard error print them.
 ghost use Rattle.std.specs.Prelude.{◌≡◌};
-ghost use Rattle.am_top.specs.Names.{file_name, syntax_name, deal_name, board_name, kind_name};
+ghost use Rattle.am_top.specs.Names.{file_name, syntax_name, deal_name, board_name, kind_name, report_name};
 
 use crate::status::{FileWord, PbnKind};
+use am_report::ReportKind;
 use pbn_deal::{BoardFault, DealFault};
 use pbn_text::Syntax;
 
@@ -12,6 +13,7 @@ pub fn file_name(file: FileWord) -> &'static [u8]
     match file {
         FileWord::Deal => b"deal",
         FileWord::Layouts => b"layouts",
+        FileWord::Report => b"report",
     }
 }
 
@@ -82,5 +84,19 @@ pub fn kind_name(kind: PbnKind) -> &'static [u8]
         PbnKind::Syntax(fault) => syntax_name(fault),
         PbnKind::NoGame => b"NoGame",
         PbnKind::Board(fault) => board_name(fault),
+    }
+}
+
+pub fn report_name(kind: ReportKind) -> &'static [u8]
+    ensures { result.now ≡ report_name kind }
+{
+    match kind {
+        ReportKind::Version => b"Version",
+        ReportKind::Head => b"Head",
+        ReportKind::Vector => b"Vector",
+        ReportKind::Plan => b"Plan",
+        ReportKind::TooDeep => b"TooDeep",
+        ReportKind::Card => b"Card",
+        ReportKind::End => b"End",
     }
 }

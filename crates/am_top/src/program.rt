@@ -1,43 +1,54 @@
 //! The call that the program makes.
-ghost use Rattle.std.specs.Prelude.{◌≡◌, ◌≢◌, ◌≤◌, ◌⊎◌, Ok, None, length, IfOk, IfErr, IfSome, IsErrOf};
+ghost use Rattle.std.specs.Prelude.{◌≡◌, ◌≢◌, ◌≤◌, ◌⊎◌, Ok, None, Some, IfOk, IfErr, IfSome, IsErrOf};
 ghost use Rattle.std.specs.Io.KnownBytes.{append_known};
 ghost use Rattle.am_outside.specs.Faults.{Rose};
 ghost use Rattle.am_outside.specs.Sink.{AppendsPart};
-ghost use Rattle.job_words.specs.Asks.{ask_of, texts_of};
-ghost use Rattle.job_words.specs.Words.{words_read, IsWithinLimits};
-ghost use Rattle.am_top.specs.Answers.{TaskValue, answer, file_limit, task_in};
-ghost use Rattle.am_top.specs.Inputs.{inputs_of};
-ghost use Rattle.am_top.specs.Stages.{IsAfterReading, IsRefusal, IsTextFor};
+ghost use Rattle.job_words.specs.Asks.{AskValue, texts_of};
+ghost use Rattle.job_words.specs.Words.{words_read};
+ghost use Rattle.am_top.specs.Answers.{TaskValue, answer, task_in};
+ghost use Rattle.am_top.specs.Files.{AreWithin};
+ghost use Rattle.am_top.specs.Stages.{IsRefusal, IsTaskRefusal, IsTextFor};
 ghost use Rattle.am_top.specs.Lines.{line_of, IsSaid};
 ghost use Rattle.am_top.specs.Refusals.{IsUnread};
 ghost use Rattle.am_top.specs.Endings.{IsStatusFor, IsReported, IsReportedInPart, IsWithinNodes, IsDoneOrMemory, HasNoFault};
 
 use crate::inputs::{Inputs, read_inputs};
 use crate::line::refuse;
+use crate::root::{list, read_root};
 use crate::status::{FileWord, Status};
-use crate::task::read_task;
-use crate::work::work;
+use crate::work::{solve_made, work};
 use am_outside::{Gate, Shelf, Sink, Text, write_whole};
 use std::alloc::Global;
 use std::thread::Threads;
 
 // The text of the job that the files lead to, or why there is none.
-fn text_in(alloc: Global, inputs: &Inputs<'_>) -> Result<Text, Status>
-    requires limits { IsWithinLimits (ask_of inputs.now.ask) }
-    requires deal_within { length inputs.now.deal ≤ file_limit }
-    requires layouts_within { length inputs.now.layouts ≤ file_limit }
-    ensures text { IfOk result (IsTextFor (task_in (inputs_of inputs.now))) }
-    ensures refused { IfErr result (IsRefusal (task_in (inputs_of inputs.now))) }
-    ensures after_reading { IfErr result IsAfterReading }
+#[tactic(auto, unfolding(crate::specs::Answers::task_in))]
+fn text_in<R: Threads + Sync>(rt: &R, alloc: Global, inputs: &Inputs) -> Result<Text, Status>
+    requires { AreWithin inputs.now }
+    ensures text { IfOk result (IsTextFor (task_in inputs.now)) }
+    ensures refused { IfErr result (IsTaskRefusal (task_in inputs.now)) }
 {
-    match read_task(alloc, inputs) {
-        Ok(task) => work(alloc, &task),
-        Err(status) => Err(status),
+    match inputs {
+        Inputs::OnLayouts {
+            deal,
+            layouts,
+            work: job,
+        } => {
+            let root = read_root(alloc, deal, layouts)?;
+            work(rt, alloc, &root, job)
+        }
+        Inputs::List { deal } => list(alloc, deal),
+        Inputs::Made { number, search } => solve_made(alloc, *number, search),
     }
 }
 
 // The whole text of the job, or why there is none.
-fn text_for<S: Shelf>(alloc: Global, words: &[String], shelf: &mut S) -> Result<Text, Status>
+fn text_for<R: Threads + Sync, S: Shelf>(
+    rt: &R,
+    alloc: Global,
+    words: &[String],
+    shelf: &mut S,
+) -> Result<Text, Status>
     ensures text { IfSome (S.told shelf.old) (λ files. IfOk result (IsTextFor (answer (texts_of words.now) files))) }
     ensures refused { IfSome (S.told shelf.old) (λ files. IfErr result (IsRefusal (answer (texts_of words.now) files))) }
     ensures bad_words { IsErrOf result Status.BadWords → words_read (texts_of words.now) ≡ None }
@@ -49,7 +60,7 @@ fn text_for<S: Shelf>(alloc: Global, words: &[String], shelf: &mut S) -> Result<
     ensures same_files { S.told shelf.new ≡ S.told shelf.old }
 {
     match read_inputs(alloc, words, shelf) {
-        Ok(inputs) => text_in(alloc, &inputs),
+        Ok(inputs) => text_in(rt, alloc, &inputs),
         Err(status) => Err(status),
     }
 }
@@ -73,9 +84,10 @@ fn deliver<O: Sink, E: Sink>(text: &Text, out: &mut O, err: &mut E) -> Status
 /// why not to `err`. The words don't include the program's name.
 ///
 /// The whole text is made before its first byte is written. The first refusal ends the run, in the order: words, the deal
-/// file, the layout file, the board, the layouts, whose turn it is, the work of the job, the output.
+/// file, the layout file, the report, the board, the layouts, whose turn it is, the report's grammar, the work of the job,
+/// the output. A step that the job doesn't need is left out.
 pub fn run<R: Threads + Sync, S: Shelf, O: Sink, E: Sink, G: Gate>(
-    _rt: &R,
+    rt: &R,
     alloc: Global,
     words: &[String],
     shelf: &mut S,
@@ -87,8 +99,9 @@ pub fn run<R: Threads + Sync, S: Shelf, O: Sink, E: Sink, G: Gate>(
     ensures report { IfSome (S.told shelf.old) (λ files. result ≡ Status.Done
         → IsReported (answer (texts_of words.now) files) (O.told out.old) (O.told out.new)) }
     ensures status { IfSome (S.told shelf.old) (λ files. IsStatusFor (answer (texts_of words.now) files) result) }
-    ensures complete { IfSome (S.told shelf.old) (λ files. (task : TaskValue) → answer (texts_of words.now) files ≡ Ok task
-        → IsWithinNodes task → HasNoFault task.ask (S.faults shelf.old) (S.faults shelf.new)
+    ensures complete { IfSome (S.told shelf.old) (λ files. (ask : AskValue) (task : TaskValue)
+        → words_read (texts_of words.now) ≡ Some ask → answer (texts_of words.now) files ≡ Ok task
+        → IsWithinNodes task → HasNoFault ask (S.faults shelf.old) (S.faults shelf.new)
         → ¬ (Rose (O.faults out.old) (O.faults out.new)) → IsDoneOrMemory result) }
 
     // What shows each cause.
@@ -107,7 +120,7 @@ pub fn run<R: Threads + Sync, S: Shelf, O: Sink, E: Sink, G: Gate>(
 
     ensures same_files { S.told shelf.new ≡ S.told shelf.old }
 {
-    match text_for(alloc, words, shelf) {
+    match text_for(rt, alloc, words, shelf) {
         Ok(text) => deliver(&text, out, err),
         Err(status) => refuse(status, err),
     }

@@ -1,12 +1,14 @@
 //! How a run ends.
 ghost use Rattle.std.specs.Prelude.{◌≡◌, ◌≤◌};
 ghost use Rattle.am_top.specs.Codes.{code_of};
-ghost use Rattle.am_top.specs.Refusals.{syntax_status, board_status, layout_status, root_status};
+ghost use Rattle.am_top.specs.Refusals.{syntax_status, board_status, layout_status, root_status, report_status, make_status};
 ghost use Rattle.am_top.specs.declared.status.Status.TheVariants as ends;
 
 use alphamu_core::RootFault;
+use am_report::{ReportFault, ReportKind};
 use card_sets::Card;
 use layout_list::LayoutFault;
+use layout_maker::MakeFault;
 use pbn_deal::{BoardFault, BoardRefusal};
 use pbn_text::{Syntax, TextFault};
 use std::alloc::{AllocError, AllocFailed};
@@ -16,6 +18,7 @@ use std::alloc::{AllocError, AllocFailed};
 pub enum FileWord {
     Deal,
     Layouts,
+    Report,
 }
 
 /// What is wrong with a deal file.
@@ -29,11 +32,26 @@ pub enum PbnKind {
     Board(BoardFault),
 }
 
+/// Where a report that is judged is at fault.
+#[derive(Clone, Copy, Debug, PartialEq, Eq)]
+pub enum Place {
+    /// The head isn't the head of the files.
+    Head,
+    /// The vector isn't as wide as there are kept layouts.
+    Width,
+    /// The plan is no strategy: its first node that doesn't fit, counted from 1, each before those below it.
+    Node(u32),
+    /// The plan wins another vector: the first layout that differs, from 1, and whether the plan wins it.
+    Layout(u8, bool),
+}
+
 /// How a run ends. A line is counted in its file, from 1.
 #[derive(Clone, Copy, Debug, PartialEq, Eq)]
 pub enum Status {
     /// The whole output was written.
     Done,
+    /// The report is at fault at this plan, counted from 1; 0 where its head is.
+    Refuted(u32, Place),
     /// The words ask for nothing that the program does.
     BadWords,
     /// The file isn't there, or reading it failed.
@@ -50,8 +68,12 @@ pub enum Status {
     Unwritten,
     /// Memory was refused.
     Memory,
-    /// The file has more than 1,048,576 bytes.
+    /// The file has more bytes than its limit: 1,048,576, and 16,777,216 for a report.
     TooLong(FileWord),
+    /// The report is refused at this line.
+    BadReport(u32, ReportKind),
+    /// The layouts of the board aren't listed; never for want of memory.
+    BadMake(MakeFault),
 }
 
 impl Status {
@@ -61,6 +83,7 @@ impl Status {
     {
         match self {
             Status::Done => 0,
+            Status::Refuted(_, _) => 1,
             Status::BadWords => 2,
             Status::Unread(_) => 3,
             Status::BadPbn(_, _) => 4,
@@ -70,6 +93,8 @@ impl Status {
             Status::Unwritten => 8,
             Status::Memory => 9,
             Status::TooLong(_) => 10,
+            Status::BadReport(_, _) => 11,
+            Status::BadMake(_) => 12,
         }
     }
 }
@@ -127,5 +152,25 @@ pub fn root_status(fault: RootFault) -> Status
     match fault {
         RootFault::Spent(card) => Status::Spent(card),
         RootFault::Memory => Status::Memory,
+    }
+}
+
+/// The status of a report that isn't read.
+pub fn report_status(fault: ReportFault) -> Status
+    ensures { result ≡ report_status fault }
+{
+    match fault {
+        ReportFault::Fault { line, kind } => Status::BadReport(line, kind),
+        ReportFault::Memory => Status::Memory,
+    }
+}
+
+/// The status of a board whose layouts aren't listed.
+pub fn make_status(fault: MakeFault) -> Status
+    ensures { result ≡ make_status fault }
+{
+    match fault {
+        MakeFault::Memory => Status::Memory,
+        other => Status::BadMake(other),
     }
 }

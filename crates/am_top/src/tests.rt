@@ -4,6 +4,7 @@ use am_outside::{MemoryShelf, MemorySink, OpenGate};
 use std::alloc::{AllocError, Global};
 use std::thread::Threads;
 
+mod jobs;
 mod refusals;
 mod reports;
 
@@ -14,7 +15,7 @@ const QUEEN: &str =
 // East has ace and seven, or queen and seven.
 const QUEEN_LAYOUTS: &str = "N:32... A7... KJ... Q5...\nN:32... Q7... KJ... A5...\n";
 
-// A run of these words, which are separated by single spaces, over two files.
+// A run of words, which are separated by single spaces.
 #[derive(Drop)]
 struct Run {
     status: Status,
@@ -29,6 +30,10 @@ impl Run {
             && self.err.bytes() == err.as_bytes()
     }
 }
+
+// The report of two moves on these layouts.
+const QUEEN_REPORT: &str =
+    "alphamu report 1\ndeclarer S\ntrump NT\nneed 1\nhand S KJ...\nhand N 32...\ntrick N -\nturn N\nmoves 2\nkept 1 2\nfront 2\nvector 10 count 1\nplay S2\nhear 3\non S7\nplay SK\nstop\non SQ\nplay SK\nstop\non SA\nplay SJ\nstop\nvector 01 count 1\nplay S2\nhear 3\non S7\nplay SJ\nstop\non SQ\nplay SK\nstop\non SA\nplay SJ\nstop\ncard S2 count 1\nend\n";
 
 fn shelf_of(alloc: Global, deal: &str, layouts: &str) -> Result<MemoryShelf, AllocError> {
     let mut shelf = MemoryShelf::new(alloc);
@@ -52,10 +57,20 @@ fn ran<R: Threads + Sync>(
     deal: &str,
     layouts: &str,
 ) -> Result<Run, AllocError> {
-    let words = words_of(alloc, text)?;
     let mut shelf = shelf_of(alloc, deal, layouts)?;
+    ran_over(rt, alloc, text, &mut shelf)
+}
+
+// The same over a shelf.
+fn ran_over<R: Threads + Sync>(
+    rt: &R,
+    alloc: Global,
+    text: &str,
+    shelf: &mut MemoryShelf,
+) -> Result<Run, AllocError> {
+    let words = words_of(alloc, text)?;
     let mut out = MemorySink::new(alloc, 10_000, 0)?;
     let mut err = MemorySink::new(alloc, 100, 0)?;
-    let status = run(rt, alloc, &words, &mut shelf, &mut out, &mut err, &OpenGate);
+    let status = run(rt, alloc, &words, shelf, &mut out, &mut err, &OpenGate);
     Ok(Run { status, out, err })
 }

@@ -1,5 +1,5 @@
 -- What clap makes of the plain words, word by word.
-use Rattle.std.proofs.Common.{◌≡◌, ◌==◌, ℕ, Bool, true, false, not, List, [], ◌∷◌, Option, Some, None, refl, codes, arith}
+use Rattle.std.proofs.Common.{◌≡◌, ◌==◌, ◌-◌, ◌^◌, ℕ, Bool, true, false, not, List, [], ◌∷◌, Option, Some, None, refl, codes, arith}
 use Rattle.std.specs.Prelude.{fold}
 use Rattle.std.specs.Str.{all_ascii_digits, bytes_eq}
 use Rattle.std.proofs.lemmas.Bool.{false≢true, ne_eqb}
@@ -15,9 +15,9 @@ use Rattle.job_words.specs.Command.{option_command}
 use Rattle.job_words.specs.Options.{OptionValues, options_at, options_read}
 use Rattle.job_words.specs.Values.{file_name, is_value, job_named, number_in, number_of, number_or}
 use Rattle.job_words.specs.Table.{keeps_to}
-use Rattle.job_words.specs.Words.{ask_in, job_in, plain_ask, plain_words, table_in, words_read}
-use Rattle.job_words.specs.declared.Job.{Job}
-use Rattle.job_words.specs.declared.Job.TheVariants.{Solve, Card}
+use Rattle.job_words.specs.Asks.{Card, Check, Fusion, ListOf, Made, OnLayouts, Solve}
+use Rattle.job_words.specs.Plain.{card_words, check_words, fusion_words, list_words, made_words, plain_search, solve_words}
+use Rattle.job_words.specs.Words.{ask_in, card_in, check_in, job_in, list_in, made_in, moves_in, on_layouts, search_in, solve_in, table_in, words_read}
 
 unfoldable pub shape : Shape
 unfolding option_command
@@ -41,23 +41,6 @@ at rows pending waiting = record {
   position = 1;
   is_trailing = false;
   stopped = None;
-}
-
--- the options with these four values
-abbrev plain_options : Text → Text → Text → Text → OptionValues
-plain_options job deal layouts moves = record {
-  job = Some job;
-  deal = Some deal;
-  layouts = Some layouts;
-  report = None;
-  moves = Some moves;
-  number = None;
-  nodes = None;
-  workers = None;
-  shards = None;
-  room = None;
-  no_table = false;
-  no_cuts = false;
 }
 
 -- the words lead from one place to the other, without a fault
@@ -108,71 +91,258 @@ module _ (word : Text) (plain : IsPlainWord word) (rows : List Row) where
   unfolding shape option_command clap_on_literals
   layouts_value rest to = steps (waits rows (codes "layouts")) (has rows (codes "layouts") word) to word rest (rw (plain.dashes, plain.long, plain.short) refl) (rw (plain.dashes, plain.long, plain.short) refl)
 
+  report_value : (rest : List Text) (to : Walk) → Leads (has rows (codes "report") word) rest to → Leads (waits rows (codes "report")) (word ∷ rest) to
+  unfolding shape option_command clap_on_literals
+  report_value rest to = steps (waits rows (codes "report")) (has rows (codes "report") word) to word rest (rw (plain.dashes, plain.long, plain.short) refl) (rw (plain.dashes, plain.long, plain.short) refl)
+
   moves_value : (rest : List Text) (to : Walk) → Leads (has rows (codes "moves") word) rest to → Leads (waits rows (codes "moves")) (word ∷ rest) to
   unfolding shape option_command clap_on_literals
   moves_value rest to = steps (waits rows (codes "moves")) (has rows (codes "moves") word) to word rest (rw (plain.dashes, plain.long, plain.short) refl) (rw (plain.dashes, plain.long, plain.short) refl)
 
+  number_value : (rest : List Text) (to : Walk) → Leads (has rows (codes "number") word) rest to → Leads (waits rows (codes "number")) (word ∷ rest) to
+  unfolding shape option_command clap_on_literals
+  number_value rest to = steps (waits rows (codes "number")) (has rows (codes "number") word) to word rest (rw (plain.dashes, plain.long, plain.short) refl) (rw (plain.dashes, plain.long, plain.short) refl)
+
 -- the options, each after what stands before it
 module _ (job deal layouts : Text) where
+  abbrev one_row : List Row
+  one_row = row (codes "job") job ∷ []
+
   abbrev two_rows : List Row
   two_rows = row (codes "job") job ∷ row (codes "deal") deal ∷ []
 
   abbrev three_rows : List Row
   three_rows = row (codes "job") job ∷ row (codes "deal") deal ∷ row (codes "layouts") layouts ∷ []
 
-  job_option : (rest : List Text) (to : Walk) → Leads (waits [] (codes "job")) rest to → Leads (at [] None idle) (codes "--job" ∷ rest) to
+  job_option : (rest : List Text) (to : Walk) → Leads (waits [] (codes "job")) rest to
+      → Leads (at [] None idle) (codes "--job" ∷ rest) to
   unfolding shape option_command clap_on_literals
   job_option rest to = steps (at [] None idle) (waits [] (codes "job")) to (codes "--job") rest refl refl
 
-  deal_option : (rest : List Text) (to : Walk) → Leads (waits (row (codes "job") job ∷ []) (codes "deal")) rest to
+  deal_option : (rest : List Text) (to : Walk) → Leads (waits one_row (codes "deal")) rest to
       → Leads (has [] (codes "job") job) (codes "--deal" ∷ rest) to
   unfolding shape option_command clap_on_literals
-  deal_option rest to = steps (has [] (codes "job") job) (waits (row (codes "job") job ∷ []) (codes "deal")) to (codes "--deal") rest refl refl
+  deal_option rest to = steps (has [] (codes "job") job) (waits one_row (codes "deal")) to (codes "--deal") rest refl refl
+
+  number_option : (rest : List Text) (to : Walk) → Leads (waits one_row (codes "number")) rest to
+      → Leads (has [] (codes "job") job) (codes "--number" ∷ rest) to
+  unfolding shape option_command clap_on_literals
+  number_option rest to = steps (has [] (codes "job") job) (waits one_row (codes "number")) to (codes "--number") rest refl refl
 
   layouts_option : (rest : List Text) (to : Walk) → Leads (waits two_rows (codes "layouts")) rest to
-      → Leads (has (row (codes "job") job ∷ []) (codes "deal") deal) (codes "--layouts" ∷ rest) to
+      → Leads (has one_row (codes "deal") deal) (codes "--layouts" ∷ rest) to
   unfolding shape option_command clap_on_literals
-  layouts_option rest to = steps (has (row (codes "job") job ∷ []) (codes "deal") deal) (waits two_rows (codes "layouts")) to (codes "--layouts") rest refl refl
+  layouts_option rest to = steps (has one_row (codes "deal") deal) (waits two_rows (codes "layouts")) to (codes "--layouts") rest refl refl
 
   moves_option : (rest : List Text) (to : Walk) → Leads (waits three_rows (codes "moves")) rest to
       → Leads (has two_rows (codes "layouts") layouts) (codes "--moves" ∷ rest) to
   unfolding shape option_command clap_on_literals
   moves_option rest to = steps (has two_rows (codes "layouts") layouts) (waits three_rows (codes "moves")) to (codes "--moves") rest refl refl
 
--- the whole walk
-abbrev words : Text → Text → Text → Text → List Text
-words job deal layouts moves =
-    codes "--job" ∷ job ∷ codes "--deal" ∷ deal ∷ codes "--layouts" ∷ layouts ∷ codes "--moves" ∷ moves ∷ []
-
-module _ (job deal layouts moves : Text) (all : List Text) (leads : Leads (at [] None idle) all (has (three_rows job deal layouts) (codes "moves") moves)) where
-  -- clap finds no fault
-  no_fault : fault_of option_command all ≡ []
+  report_option : (rest : List Text) (to : Walk) → Leads (waits three_rows (codes "report")) rest to
+      → Leads (has two_rows (codes "layouts") layouts) (codes "--report" ∷ rest) to
   unfolding shape option_command clap_on_literals
-  no_fault = rw (leads.fault, leads.walk) refl
+  report_option rest to = steps (has two_rows (codes "layouts") layouts) (waits three_rows (codes "report")) to (codes "--report") rest refl refl
 
-  -- and finds the four values
-  found : options_at (matches_of option_command all) ≡ plain_options job deal layouts moves
+-- the words of a walk from its start that ends with all words read
+abbrev reads : List Text → Walk → Type 0
+reads all to = Leads (at [] None idle) all to
+
+-- the words with these values
+module _ (job deal : Text) where
+  abbrev list_options : OptionValues
+  list_options = record {
+    job = Some job;
+    deal = Some deal;
+    layouts = None;
+    report = None;
+    moves = None;
+    number = None;
+    nodes = None;
+    workers = None;
+    shards = None;
+    room = None;
+    no_table = false;
+    no_cuts = false;
+  }
+
+  abbrev list_walk : Walk
+  list_walk = has (row (codes "job") job ∷ []) (codes "deal") deal
+
+  list_no_fault : (all : List Text) → reads all list_walk → fault_of option_command all ≡ []
   unfolding shape option_command clap_on_literals
-  found = rw leads.walk refl
+  list_no_fault all leads = rw (leads.fault, leads.walk) refl
 
-  options_found : options_read all ≡ Some (plain_options job deal layouts moves)
+  list_found : (all : List Text) → reads all list_walk → options_at (matches_of option_command all) ≡ list_options
+  unfolding shape option_command clap_on_literals
+  list_found all leads = rw leads.walk refl
+
+  list_leads : is_value job ≡ true → is_value deal ≡ true → reads (codes "--job" ∷ job ∷ codes "--deal" ∷ deal ∷ []) list_walk
+  list_leads job_is deal_is = job_option job deal [] _ _ (job_value job (plain_word job job_is) _ _ _ (deal_option job deal [] _ _ (deal_value deal (plain_word deal deal_is) _ _ _ (ends _))))
+
+  list_read : is_value job ≡ true → is_value deal ≡ true → options_read (codes "--job" ∷ job ∷ codes "--deal" ∷ deal ∷ []) ≡ Some list_options
   unfolding options_read
-  options_found = rw (no_fault, found) refl
+  list_read job_is deal_is =
+      let leads = list_leads job_is deal_is in
+      rw (list_no_fault _ leads, list_found _ leads) refl
 
-pub plain_read : (job deal layouts moves : Text) → is_value job ≡ true → is_value deal ≡ true → is_value layouts ≡ true → is_value moves ≡ true
-    → options_read (words job deal layouts moves) ≡ Some (plain_options job deal layouts moves)
-plain_read job deal layouts moves job_is deal_is layouts_is moves_is =
-    options_found job deal layouts moves (words job deal layouts moves)
-    (job_option job deal layouts _ _ (job_value job (plain_word job job_is) [] _ _
-    (deal_option job deal layouts _ _ (deal_value deal (plain_word deal deal_is) _ _ _
-    (layouts_option job deal layouts _ _ (layouts_value layouts (plain_word layouts layouts_is) _ _ _
-    (moves_option job deal layouts _ _ (moves_value moves (plain_word moves moves_is) _ _ _ (ends _)))))))))
+-- the words with these values
+module _ (job deal layouts : Text) where
+  abbrev fusion_options : OptionValues
+  fusion_options = record {
+    job = Some job;
+    deal = Some deal;
+    layouts = Some layouts;
+    report = None;
+    moves = None;
+    number = None;
+    nodes = None;
+    workers = None;
+    shards = None;
+    room = None;
+    no_table = false;
+    no_cuts = false;
+  }
+
+  abbrev fusion_walk : Walk
+  fusion_walk = has (row (codes "job") job ∷ row (codes "deal") deal ∷ []) (codes "layouts") layouts
+
+  fusion_no_fault : (all : List Text) → reads all fusion_walk → fault_of option_command all ≡ []
+  unfolding shape option_command clap_on_literals
+  fusion_no_fault all leads = rw (leads.fault, leads.walk) refl
+
+  fusion_found : (all : List Text) → reads all fusion_walk → options_at (matches_of option_command all) ≡ fusion_options
+  unfolding shape option_command clap_on_literals
+  fusion_found all leads = rw leads.walk refl
+
+  fusion_leads : is_value job ≡ true → is_value deal ≡ true → is_value layouts ≡ true → reads (codes "--job" ∷ job ∷ codes "--deal" ∷ deal ∷ codes "--layouts" ∷ layouts ∷ []) fusion_walk
+  fusion_leads job_is deal_is layouts_is = job_option job deal layouts _ _ (job_value job (plain_word job job_is) _ _ _ (deal_option job deal layouts _ _ (deal_value deal (plain_word deal deal_is) _ _ _ (layouts_option job deal layouts _ _ (layouts_value layouts (plain_word layouts layouts_is) _ _ _ (ends _))))))
+
+  fusion_read : is_value job ≡ true → is_value deal ≡ true → is_value layouts ≡ true → options_read (codes "--job" ∷ job ∷ codes "--deal" ∷ deal ∷ codes "--layouts" ∷ layouts ∷ []) ≡ Some fusion_options
+  unfolding options_read
+  fusion_read job_is deal_is layouts_is =
+      let leads = fusion_leads job_is deal_is layouts_is in
+      rw (fusion_no_fault _ leads, fusion_found _ leads) refl
+
+-- the words with these values
+module _ (job deal layouts moves : Text) where
+  abbrev searched_options : OptionValues
+  searched_options = record {
+    job = Some job;
+    deal = Some deal;
+    layouts = Some layouts;
+    report = None;
+    moves = Some moves;
+    number = None;
+    nodes = None;
+    workers = None;
+    shards = None;
+    room = None;
+    no_table = false;
+    no_cuts = false;
+  }
+
+  abbrev searched_walk : Walk
+  searched_walk = has (row (codes "job") job ∷ row (codes "deal") deal ∷ row (codes "layouts") layouts ∷ []) (codes "moves") moves
+
+  searched_no_fault : (all : List Text) → reads all searched_walk → fault_of option_command all ≡ []
+  unfolding shape option_command clap_on_literals
+  searched_no_fault all leads = rw (leads.fault, leads.walk) refl
+
+  searched_found : (all : List Text) → reads all searched_walk → options_at (matches_of option_command all) ≡ searched_options
+  unfolding shape option_command clap_on_literals
+  searched_found all leads = rw leads.walk refl
+
+  searched_leads : is_value job ≡ true → is_value deal ≡ true → is_value layouts ≡ true → is_value moves ≡ true → reads (codes "--job" ∷ job ∷ codes "--deal" ∷ deal ∷ codes "--layouts" ∷ layouts ∷ codes "--moves" ∷ moves ∷ []) searched_walk
+  searched_leads job_is deal_is layouts_is moves_is = job_option job deal layouts _ _ (job_value job (plain_word job job_is) _ _ _ (deal_option job deal layouts _ _ (deal_value deal (plain_word deal deal_is) _ _ _ (layouts_option job deal layouts _ _ (layouts_value layouts (plain_word layouts layouts_is) _ _ _ (moves_option job deal layouts _ _ (moves_value moves (plain_word moves moves_is) _ _ _ (ends _))))))))
+
+  searched_read : is_value job ≡ true → is_value deal ≡ true → is_value layouts ≡ true → is_value moves ≡ true → options_read (codes "--job" ∷ job ∷ codes "--deal" ∷ deal ∷ codes "--layouts" ∷ layouts ∷ codes "--moves" ∷ moves ∷ []) ≡ Some searched_options
+  unfolding options_read
+  searched_read job_is deal_is layouts_is moves_is =
+      let leads = searched_leads job_is deal_is layouts_is moves_is in
+      rw (searched_no_fault _ leads, searched_found _ leads) refl
+
+-- the words with these values
+module _ (job deal layouts report : Text) where
+  abbrev check_options : OptionValues
+  check_options = record {
+    job = Some job;
+    deal = Some deal;
+    layouts = Some layouts;
+    report = Some report;
+    moves = None;
+    number = None;
+    nodes = None;
+    workers = None;
+    shards = None;
+    room = None;
+    no_table = false;
+    no_cuts = false;
+  }
+
+  abbrev check_walk : Walk
+  check_walk = has (row (codes "job") job ∷ row (codes "deal") deal ∷ row (codes "layouts") layouts ∷ []) (codes "report") report
+
+  check_no_fault : (all : List Text) → reads all check_walk → fault_of option_command all ≡ []
+  unfolding shape option_command clap_on_literals
+  check_no_fault all leads = rw (leads.fault, leads.walk) refl
+
+  check_found : (all : List Text) → reads all check_walk → options_at (matches_of option_command all) ≡ check_options
+  unfolding shape option_command clap_on_literals
+  check_found all leads = rw leads.walk refl
+
+  check_leads : is_value job ≡ true → is_value deal ≡ true → is_value layouts ≡ true → is_value report ≡ true → reads (codes "--job" ∷ job ∷ codes "--deal" ∷ deal ∷ codes "--layouts" ∷ layouts ∷ codes "--report" ∷ report ∷ []) check_walk
+  check_leads job_is deal_is layouts_is report_is = job_option job deal layouts _ _ (job_value job (plain_word job job_is) _ _ _ (deal_option job deal layouts _ _ (deal_value deal (plain_word deal deal_is) _ _ _ (layouts_option job deal layouts _ _ (layouts_value layouts (plain_word layouts layouts_is) _ _ _ (report_option job deal layouts _ _ (report_value report (plain_word report report_is) _ _ _ (ends _))))))))
+
+  check_read : is_value job ≡ true → is_value deal ≡ true → is_value layouts ≡ true → is_value report ≡ true → options_read (codes "--job" ∷ job ∷ codes "--deal" ∷ deal ∷ codes "--layouts" ∷ layouts ∷ codes "--report" ∷ report ∷ []) ≡ Some check_options
+  unfolding options_read
+  check_read job_is deal_is layouts_is report_is =
+      let leads = check_leads job_is deal_is layouts_is report_is in
+      rw (check_no_fault _ leads, check_found _ leads) refl
+
+-- the words with these values
+module _ (job number : Text) where
+  abbrev made_options : OptionValues
+  made_options = record {
+    job = Some job;
+    deal = None;
+    layouts = None;
+    report = None;
+    moves = None;
+    number = Some number;
+    nodes = None;
+    workers = None;
+    shards = None;
+    room = None;
+    no_table = false;
+    no_cuts = false;
+  }
+
+  abbrev made_walk : Walk
+  made_walk = has (row (codes "job") job ∷ []) (codes "number") number
+
+  made_no_fault : (all : List Text) → reads all made_walk → fault_of option_command all ≡ []
+  unfolding shape option_command clap_on_literals
+  made_no_fault all leads = rw (leads.fault, leads.walk) refl
+
+  made_found : (all : List Text) → reads all made_walk → options_at (matches_of option_command all) ≡ made_options
+  unfolding shape option_command clap_on_literals
+  made_found all leads = rw leads.walk refl
+
+  made_leads : is_value job ≡ true → is_value number ≡ true → reads (codes "--job" ∷ job ∷ codes "--number" ∷ number ∷ []) made_walk
+  made_leads job_is number_is = job_option job [] [] _ _ (job_value job (plain_word job job_is) _ _ _ (number_option job [] [] _ _ (number_value number (plain_word number number_is) _ _ _ (ends _))))
+
+  made_read : is_value job ≡ true → is_value number ≡ true → options_read (codes "--job" ∷ job ∷ codes "--number" ∷ number ∷ []) ≡ Some made_options
+  unfolding options_read
+  made_read job_is number_is =
+      let leads = made_leads job_is number_is in
+      rw (made_no_fault _ leads, made_found _ leads) refl
 
 -- what writes a number is a value
-pub number_value : (least most : ℕ) (text : Text) (number : ℕ) → number_in least most text ≡ Some number → is_value text ≡ true
+is_value-number_in : (least most : ℕ) (text : Text) (number : ℕ) → number_in least most text ≡ Some number → is_value text ≡ true
 unfolding number_in number_of
-number_value least most [] number is = cc
-number_value least most (d ∷ ds) number is = go (all_ascii_digits (d ∷ ds)) refl
+is_value-number_in least most [] number is = cc
+is_value-number_in least most (d ∷ ds) number is = go (all_ascii_digits (d ∷ ds)) refl
   where
     go : (b : Bool) → all_ascii_digits (d ∷ ds) ≡ b → is_value (d ∷ ds) ≡ true
     go true e =
@@ -182,28 +352,80 @@ number_value least most (d ∷ ds) number is = go (all_ascii_digits (d ∷ ds)) 
         let none : None ≡ Some number = rw e at is in
         cc
 
-pub plain_asks : (job : Job) (deal layouts moves : Text) (number : ℕ) → is_value deal ≡ true → is_value layouts ≡ true → number_in 1 26 moves ≡ Some number
-    → words_read (plain_words job deal layouts moves) ≡ Some (plain_ask job deal layouts number)
-unfolding words_read ask_in job_in table_in job_named keeps_to file_name number_or
-plain_asks Solve deal layouts moves number deal_is layouts_is number_is =
-    let moves_is = number_value 1 26 moves number number_is in
+-- the plain words of each job
+pub solve_asks : (deal layouts moves : List ℕ) (number : ℕ) → is_value deal ≡ true → is_value layouts ≡ true → number_in 1 26 moves ≡ Some number
+    → words_read (solve_words deal layouts moves) ≡ Some (OnLayouts deal layouts (Solve number plain_search))
+unfolding words_read ask_in job_in on_layouts solve_in moves_in search_in table_in job_named keeps_to file_name number_or
+solve_asks deal layouts moves number deal_is layouts_is number_is =
+    let moves_is = is_value-number_in 1 26 moves number number_is in
     rw (
       (plain_word deal deal_is).dashes,
       (plain_word layouts layouts_is).dashes,
       (plain_word moves moves_is).dashes,
-      plain_read (codes "solve") deal layouts moves refl deal_is layouts_is moves_is,
-      deal_is,
-      layouts_is,
+      searched_read (codes "solve") deal layouts moves refl deal_is layouts_is moves_is,
       number_is,
+      deal_is,
+      layouts_is,
     ) refl
-plain_asks Card deal layouts moves number deal_is layouts_is number_is =
-    let moves_is = number_value 1 26 moves number number_is in
+
+pub card_asks : (deal layouts moves : List ℕ) (number : ℕ) → is_value deal ≡ true → is_value layouts ≡ true → number_in 1 26 moves ≡ Some number
+    → words_read (card_words deal layouts moves) ≡ Some (OnLayouts deal layouts (Card number plain_search))
+unfolding words_read ask_in job_in on_layouts card_in moves_in search_in table_in job_named keeps_to file_name number_or
+card_asks deal layouts moves number deal_is layouts_is number_is =
+    let moves_is = is_value-number_in 1 26 moves number number_is in
     rw (
       (plain_word deal deal_is).dashes,
       (plain_word layouts layouts_is).dashes,
       (plain_word moves moves_is).dashes,
-      plain_read (codes "card") deal layouts moves refl deal_is layouts_is moves_is,
+      searched_read (codes "card") deal layouts moves refl deal_is layouts_is moves_is,
+      number_is,
       deal_is,
       layouts_is,
+    ) refl
+
+pub fusion_asks : (deal layouts : List ℕ) → is_value deal ≡ true → is_value layouts ≡ true
+    → words_read (fusion_words deal layouts) ≡ Some (OnLayouts deal layouts Fusion)
+unfolding words_read ask_in job_in on_layouts job_named keeps_to file_name number_or
+fusion_asks deal layouts deal_is layouts_is =
+    rw (
+      (plain_word deal deal_is).dashes,
+      (plain_word layouts layouts_is).dashes,
+      fusion_read (codes "fusion") deal layouts refl deal_is layouts_is,
+      deal_is,
+      layouts_is,
+    ) refl
+
+pub list_asks : (deal : List ℕ) → is_value deal ≡ true
+    → words_read (list_words deal) ≡ Some (ListOf deal)
+unfolding words_read ask_in job_in list_in job_named keeps_to file_name number_or
+list_asks deal deal_is =
+    rw (
+      (plain_word deal deal_is).dashes,
+      list_read (codes "list") deal refl deal_is,
+      deal_is,
+    ) refl
+
+pub check_asks : (deal layouts report : List ℕ) → is_value deal ≡ true → is_value layouts ≡ true → is_value report ≡ true
+    → words_read (check_words deal layouts report) ≡ Some (OnLayouts deal layouts (Check report))
+unfolding words_read ask_in job_in on_layouts check_in job_named keeps_to file_name number_or
+check_asks deal layouts report deal_is layouts_is report_is =
+    rw (
+      (plain_word deal deal_is).dashes,
+      (plain_word layouts layouts_is).dashes,
+      (plain_word report report_is).dashes,
+      check_read (codes "check") deal layouts report refl deal_is layouts_is report_is,
+      report_is,
+      deal_is,
+      layouts_is,
+    ) refl
+
+pub made_asks : (number : List ℕ) (value : ℕ) → number_in 0 (2 ^ 64 - 1) number ≡ Some value
+    → words_read (made_words number) ≡ Some (Made value plain_search)
+unfolding words_read ask_in job_in made_in search_in table_in job_named keeps_to file_name number_or
+made_asks number value number_is =
+    let digits_are = is_value-number_in 0 (2 ^ 64 - 1) number value number_is in
+    rw (
+      (plain_word number digits_are).dashes,
+      made_read (codes "made") number refl digits_are,
       number_is,
     ) refl

@@ -1,22 +1,64 @@
 -- The words and what they ask for, without where they lie in memory.
-use Rattle.std.specs.Prelude.{ℕ, List, map, String, string_bytes}
+use Rattle.std.specs.Prelude.{◌≡◌, ◌≤◌, ◌<◌, ◌*◌, ◌^◌, ℕ, ⊤, List, true, map, String, string_bytes}
 use Rattle.std.specs.declared.alloc.Global.{Global}
-use Rattle.job_words.specs.declared.Ask.{Ask}
-use Rattle.job_words.specs.Words.{AskValue}
+use Rattle.job_words.specs.declared.asks.Ask as asks
+use Rattle.job_words.specs.declared.asks.LayoutsJob as jobs
+use Rattle.job_words.specs.declared.asks.Search.{Search}
+use Rattle.job_words.specs.Values.{is_value}
 
+-- a job on a deal and its layouts: with how many cards of declarer's side the search goes through and how to search,
+-- or with the name of the file of a report
+pub data JobValue : Type 0 where
+  Solve : ℕ → Search → JobValue
+  Card : ℕ → Search → JobValue
+  Fusion : JobValue
+  Check : List ℕ → JobValue
+
+-- a job on the layouts that a file has for the deal of another, deal first; all layouts of a deal; the problem made from a number
+pub data AskValue : Type 0 where
+  OnLayouts : List ℕ → List ℕ → JobValue → AskValue
+  ListOf : List ℕ → AskValue
+  Made : ℕ → Search → AskValue
+
+-- the bytes of each word
 abbrev pub texts_of : List (String Global) → List (List ℕ)
 texts_of words = map (λ word. string_bytes word) words
 
-abbrev pub ask_of : Ask → AskValue
-ask_of ask = record {
-  job = ask.job;
-  deal = ask.deal.now;
-  layouts = ask.layouts.now;
-  moves = ask.moves;
-  nodes = ask.nodes;
-  workers = ask.workers;
-  shards = ask.shards;
-  room = ask.room;
-  table = ask.table;
-  cuts = ask.cuts;
-}
+-- a job by its value
+abbrev pub job_of : jobs.LayoutsJob → JobValue
+job_of (jobs.TheVariants.Solve moves search) = Solve moves search
+job_of (jobs.TheVariants.Card moves search) = Card moves search
+job_of jobs.TheVariants.Fusion = Fusion
+job_of (jobs.TheVariants.Check report) = Check report.now
+
+-- an ask by its value
+abbrev pub ask_of : asks.Ask → AskValue
+ask_of (asks.TheVariants.OnLayouts deal layouts job) = OnLayouts deal.now layouts.now (job_of job)
+ask_of (asks.TheVariants.List deal) = ListOf deal.now
+ask_of (asks.TheVariants.Made number search) = Made number search
+
+-- how many cards of declarer's side a search can go through
+abbrev pub IsMoves : ℕ → Type 0
+IsMoves moves = (1 ≤ moves) × (moves ≤ 26)
+
+-- the limits that a search keeps
+pub record IsSearchWithinLimits (search : Search) : Type 0 where
+  pub nodes : (1 ≤ search.nodes) × (search.nodes < 2 ^ 64)
+  pub workers : (1 ≤ search.workers) × (search.workers ≤ 64)
+  pub shards : (1 ≤ search.shards) × (search.shards ≤ 64)
+  pub room : (1 ≤ search.room) × (search.room ≤ 65536)
+  pub entries : search.shards * search.room ≤ 1048576
+
+-- the limits that a job keeps
+abbrev pub IsJobWithinLimits : JobValue → Type 0
+IsJobWithinLimits (Solve moves search) = IsMoves moves × IsSearchWithinLimits search
+IsJobWithinLimits (Card moves search) = IsMoves moves × IsSearchWithinLimits search
+IsJobWithinLimits Fusion = ⊤
+IsJobWithinLimits (Check report) = is_value report ≡ true
+
+-- the limits that an ask keeps
+abbrev pub IsWithinLimits : AskValue → Type 0
+IsWithinLimits (OnLayouts deal layouts job) =
+    (is_value deal ≡ true) × (is_value layouts ≡ true) × IsJobWithinLimits job
+IsWithinLimits (ListOf deal) = is_value deal ≡ true
+IsWithinLimits (Made number search) = (number < 2 ^ 64) × IsSearchWithinLimits search

@@ -2,5 +2,6 @@ pub mod Command
 pub mod Options
 pub mod Values
 pub mod Table
-pub mod Words
 pub mod Asks
+pub mod Words
+pub mod Plain

@@ -1,31 +1,31 @@
 -- Which options each job requires, allows and refuses.
 use Rattle.std.specs.Prelude.{◌||◌, Bool, true, not, [], ◌∷◌, is_some}
 use Rattle.std.specs.List.{list_all}
-use Rattle.job_words.specs.declared.Job.{Job}
-use Rattle.job_words.specs.declared.Job.TheVariants.{Solve, Card}
+use Rattle.job_words.specs.declared.table.Job as jobs
 use Rattle.job_words.specs.declared.table.Use.{Use}
 use Rattle.job_words.specs.declared.table.Use.TheVariants.{Required, Allowed, Refused}
 use Rattle.job_words.specs.declared.table.Uses.{Uses}
 use Rattle.job_words.specs.Options.{OptionValues}
 
+-- no option but the job's name
+abbrev pub no_options : Uses
+no_options = record {
+  deal = Refused;
+  layouts = Refused;
+  report = Refused;
+  moves = Refused;
+  number = Refused;
+  search = Refused;
+}
+
 -- the table: a row for each job
-abbrev pub uses_by : Job → Uses
-uses_by Solve = record {
-  deal = Required;
-  layouts = Required;
-  report = Refused;
-  moves = Required;
-  number = Refused;
-  search = Allowed;
-}
-uses_by Card = record {
-  deal = Required;
-  layouts = Required;
-  report = Refused;
-  moves = Required;
-  number = Refused;
-  search = Allowed;
-}
+abbrev pub uses_by : jobs.Job → Uses
+uses_by jobs.TheVariants.Solve = record no_options { deal = Required; layouts = Required; moves = Required; search = Allowed }
+uses_by jobs.TheVariants.Card = record no_options { deal = Required; layouts = Required; moves = Required; search = Allowed }
+uses_by jobs.TheVariants.Fusion = record no_options { deal = Required; layouts = Required }
+uses_by jobs.TheVariants.List = record no_options { deal = Required }
+uses_by jobs.TheVariants.Check = record no_options { deal = Required; layouts = Required; report = Required }
+uses_by jobs.TheVariants.Made = record no_options { number = Required; search = Allowed }
 
 -- an option that is given, or isn't, is so used
 abbrev pub is_used_so : Use → Bool → Bool

@@ -2,8 +2,8 @@
 use Rattle.std.specs.Prelude.{◌==◌, ◌&&◌, ℕ, Bool, false, not, List, [], ◌∷◌, Option, Some, None, codes, nat_le, option_and_then, if◌then◌else◌}
 use Rattle.std.specs.Str.{all_ascii_digits, bytes_eq}
 use Rattle.std.specs.Str.Parse.{digits_value}
-use Rattle.job_words.specs.declared.Job.{Job}
-use Rattle.job_words.specs.declared.Job.TheVariants.{Solve, Card}
+use Rattle.job_words.specs.declared.table.Job.{Job}
+use Rattle.job_words.specs.declared.table.Job.TheVariants as jobs
 
 -- a value isn't empty and doesn't begin with a dash
 abbrev pub is_value : List ℕ → Bool
@@ -37,6 +37,10 @@ number_or default least most (Some text) = number_in least most text
 -- the job of this name
 unfoldable pub job_named : List ℕ → Option Job
 job_named name =
-    if bytes_eq name (codes "solve") then Some Solve
-    else if bytes_eq name (codes "card") then Some Card
+    if bytes_eq name (codes "solve") then Some jobs.Solve
+    else if bytes_eq name (codes "card") then Some jobs.Card
+    else if bytes_eq name (codes "fusion") then Some jobs.Fusion
+    else if bytes_eq name (codes "list") then Some jobs.List
+    else if bytes_eq name (codes "check") then Some jobs.Check
+    else if bytes_eq name (codes "made") then Some jobs.Made
     else None

@@ -1,25 +1,13 @@
 -- What the words of the command line ask for.
-use Rattle.std.specs.Prelude.{◌≡◌, ◌≤◌, ◌<◌, ◌*◌, ◌-◌, ◌^◌, ℕ, Bool, true, not, List, [], ◌∷◌, Option, Some, None, codes, nat_le, option_and_then, if◌then◌else◌}
+use Rattle.std.specs.Prelude.{◌*◌, ◌-◌, ◌^◌, ℕ, Bool, not, List, Option, Some, None, codes, nat_le, option_and_then, if◌then◌else◌}
 use Rattle.std.specs.List.{list_any}
 use Rattle.std.specs.Str.{bytes_eq}
-use Rattle.job_words.specs.declared.Job.{Job}
-use Rattle.job_words.specs.declared.Job.TheVariants.{Solve, Card}
+use Rattle.job_words.specs.declared.asks.Search.{Search}
+use Rattle.job_words.specs.declared.table.Job as jobs
+use Rattle.job_words.specs.Asks.{AskValue, Card, Check, Fusion, JobValue, ListOf, Made, OnLayouts, Solve}
 use Rattle.job_words.specs.Options.{OptionValues, options_read}
-use Rattle.job_words.specs.Values.{file_name, is_value, job_named, number_in, number_or}
+use Rattle.job_words.specs.Values.{file_name, job_named, number_in, number_or}
 use Rattle.job_words.specs.Table.{keeps_to, uses_by}
-
--- a job, its files, how many cards of declarer's side the search goes through, and how to search
-pub record AskValue : Type 0 where
-  pub job : Job
-  pub deal : List ℕ
-  pub layouts : List ℕ
-  pub moves : ℕ
-  pub nodes : ℕ
-  pub workers : ℕ
-  pub shards : ℕ
-  pub room : ℕ
-  pub table : Bool
-  pub cuts : Bool
 
 infixl 10 ◌>>=◌
 -- a step, and then the next; a step that refuses ends them
@@ -27,7 +15,7 @@ abbrev pub ◌>>=◌ : {A B : Type 0} → Option A → (A → Option B) → Opti
 step >>= next = option_and_then next step
 
 -- the job that the options name, where they are those that it takes
-unfoldable pub job_in : OptionValues → Option Job
+unfoldable pub job_in : OptionValues → Option jobs.Job
 job_in o = do
   name ← o.job
   job ← job_named name
@@ -40,21 +28,13 @@ table_in o = do
   room ← number_or 16384 1 65536 o.room
   if nat_le (shards * room) 1048576 then Some (shards, room) else None
 
--- what the options ask for
-unfoldable pub ask_in : OptionValues → Option AskValue
-ask_in o = do
-  job ← job_in o
-  deal ← o.deal >>= file_name
-  layouts ← o.layouts >>= file_name
-  moves ← o.moves >>= number_in 1 26
+-- how to search
+unfoldable pub search_in : OptionValues → Option Search
+search_in o = do
   nodes ← number_or 10000000 1 (2 ^ 64 - 1) o.nodes
   workers ← number_or 1 1 64 o.workers
   size ← table_in o
   Some (record {
-    job = job;
-    deal = deal;
-    layouts = layouts;
-    moves = moves;
     nodes = nodes;
     workers = workers;
     shards = size.0;
@@ -63,6 +43,65 @@ ask_in o = do
     cuts = not o.no_cuts;
   })
 
+-- how many cards of declarer's side a search goes through
+unfoldable pub moves_in : OptionValues → Option ℕ
+moves_in o = o.moves >>= number_in 1 26
+
+-- every best trade-off, by a search
+unfoldable pub solve_in : OptionValues → Option JobValue
+solve_in o = do
+  moves ← moves_in o
+  search ← search_in o
+  Some (Solve moves search)
+
+-- the card to play, by the same search
+unfoldable pub card_in : OptionValues → Option JobValue
+card_in o = do
+  moves ← moves_in o
+  search ← search_in o
+  Some (Card moves search)
+
+-- the check of a report
+unfoldable pub check_in : OptionValues → Option JobValue
+check_in o = do
+  report ← o.report >>= file_name
+  Some (Check report)
+
+-- a job on the two files
+unfoldable pub on_layouts : OptionValues → JobValue → Option AskValue
+on_layouts o job = do
+  deal ← o.deal >>= file_name
+  layouts ← o.layouts >>= file_name
+  Some (OnLayouts deal layouts job)
+
+-- all layouts of a deal
+unfoldable pub list_in : OptionValues → Option AskValue
+list_in o = do
+  deal ← o.deal >>= file_name
+  Some (ListOf deal)
+
+-- the problem made from a number
+unfoldable pub made_in : OptionValues → Option AskValue
+made_in o = do
+  number ← o.number >>= number_in 0 (2 ^ 64 - 1)
+  search ← search_in o
+  Some (Made number search)
+
+-- what the options ask for, by the job
+abbrev pub ask_by : jobs.Job → OptionValues → Option AskValue
+ask_by jobs.TheVariants.Solve o = solve_in o >>= on_layouts o
+ask_by jobs.TheVariants.Card o = card_in o >>= on_layouts o
+ask_by jobs.TheVariants.Fusion o = on_layouts o Fusion
+ask_by jobs.TheVariants.List o = list_in o
+ask_by jobs.TheVariants.Check o = check_in o >>= on_layouts o
+ask_by jobs.TheVariants.Made o = made_in o
+
+-- what the options ask for
+unfoldable pub ask_in : OptionValues → Option AskValue
+ask_in o = do
+  job ← job_in o
+  ask_by job o
+
 -- some word is exactly two dashes
 abbrev pub has_two_dashes : List (List ℕ) → Bool
 has_two_dashes = list_any (λ word. bytes_eq word (codes "--"))
@@ -70,39 +109,3 @@ has_two_dashes = list_any (λ word. bytes_eq word (codes "--"))
 -- what the words ask for, where they ask for anything
 unfoldable pub words_read : List (List ℕ) → Option AskValue
 words_read words = if has_two_dashes words then None else options_read words >>= ask_in
-
--- the name of a job
-abbrev pub job_name : Job → List ℕ
-job_name Solve = codes "solve"
-job_name Card = codes "card"
-
--- the plain words for a job, two files and a number of moves
-abbrev pub plain_words : Job → List ℕ → List ℕ → List ℕ → List (List ℕ)
-plain_words job deal layouts moves =
-    codes "--job" ∷ job_name job ∷ codes "--deal" ∷ deal ∷ codes "--layouts" ∷ layouts ∷ codes "--moves" ∷ moves ∷ []
-
--- the ask for them, which is otherwise the default
-abbrev pub plain_ask : Job → List ℕ → List ℕ → ℕ → AskValue
-plain_ask job deal layouts moves = record {
-  job = job;
-  deal = deal;
-  layouts = layouts;
-  moves = moves;
-  nodes = 10000000;
-  workers = 1;
-  shards = 16;
-  room = 16384;
-  table = true;
-  cuts = true;
-}
-
--- the limits that an ask keeps
-pub record IsWithinLimits (ask : AskValue) : Type 0 where
-  pub deal : is_value ask.deal ≡ true
-  pub layouts : is_value ask.layouts ≡ true
-  pub moves : (1 ≤ ask.moves) × (ask.moves ≤ 26)
-  pub nodes : (1 ≤ ask.nodes) × (ask.nodes < 2 ^ 64)
-  pub workers : (1 ≤ ask.workers) × (ask.workers ≤ 64)
-  pub shards : (1 ≤ ask.shards) × (ask.shards ≤ 64)
-  pub room : (1 ≤ ask.room) × (ask.room ≤ 65536)
-  pub entries : ask.shards * ask.room ≤ 1048576

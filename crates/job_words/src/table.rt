@@ -3,8 +3,18 @@ ghost use Rattle.std.specs.Prelude.{◌≡◌};
 ghost use Rattle.job_words.specs.Options.{options_of};
 ghost use Rattle.job_words.specs.Table.{has_search, is_used_so, keeps_to, uses_by};
 
-use crate::Job;
 use crate::options::Options;
+
+/// The jobs that have names.
+#[derive(Clone, Copy)]
+pub(crate) enum Job {
+    Solve,
+    Card,
+    Fusion,
+    List,
+    Check,
+    Made,
+}
 
 /// What a job makes of an option.
 #[derive(Clone, Copy)]
@@ -37,6 +47,15 @@ pub(crate) struct Uses {
     pub(crate) search: Use,
 }
 
+const NO_OPTIONS: Uses = Uses {
+    deal: Use::Refused,
+    layouts: Use::Refused,
+    report: Use::Refused,
+    moves: Use::Refused,
+    number: Use::Refused,
+    search: Use::Refused,
+};
+
 /// The row of the table for this job.
 pub(crate) fn uses_by(job: Job) -> Uses
     ensures { result ≡ uses_by job }
@@ -45,10 +64,29 @@ pub(crate) fn uses_by(job: Job) -> Uses
         Job::Solve | Job::Card => Uses {
             deal: Use::Required,
             layouts: Use::Required,
-            report: Use::Refused,
             moves: Use::Required,
-            number: Use::Refused,
             search: Use::Allowed,
+            ..NO_OPTIONS
+        },
+        Job::Fusion => Uses {
+            deal: Use::Required,
+            layouts: Use::Required,
+            ..NO_OPTIONS
+        },
+        Job::List => Uses {
+            deal: Use::Required,
+            ..NO_OPTIONS
+        },
+        Job::Check => Uses {
+            deal: Use::Required,
+            layouts: Use::Required,
+            report: Use::Required,
+            ..NO_OPTIONS
+        },
+        Job::Made => Uses {
+            number: Use::Required,
+            search: Use::Allowed,
+            ..NO_OPTIONS
         },
     }
 }

@@ -3,7 +3,7 @@ ghost use Rattle.std.specs.Prelude.{◌≡◌, ◌≤◌, ◌^◌, ◌<◌, ◌-
 ghost use Rattle.std.specs.Str.{all_ascii_digits};
 ghost use Rattle.job_words.specs.Values.{file_name, is_value, job_named, number_in, number_or};
 
-use crate::Job;
+use crate::table::Job;
 
 /// The value, where it may name a file: it isn't empty and doesn't begin with a dash.
 #[tactic(auto, unfolding(crate::specs::Values::file_name))]
@@ -65,6 +65,10 @@ pub(crate) fn job_named(name: &str) -> Option<Job>
     match name {
         "solve" => Some(Job::Solve),
         "card" => Some(Job::Card),
+        "fusion" => Some(Job::Fusion),
+        "list" => Some(Job::List),
+        "check" => Some(Job::Check),
+        "made" => Some(Job::Made),
         _ => None,
     }
 }

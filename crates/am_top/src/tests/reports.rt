@@ -1,5 +1,5 @@
 //! What is written where a run is done.
-use super::{QUEEN, QUEEN_LAYOUTS, ran};
+use super::{QUEEN, QUEEN_LAYOUTS, QUEEN_REPORT, ran};
 use crate::Status;
 use std::test::Fail;
 
@@ -43,7 +43,7 @@ const CASES: [Case; 8] = [
         words: TWO_MOVES,
         deal: QUEEN,
         layouts: QUEEN_LAYOUTS,
-        report: "alphamu report 1\ndeclarer S\ntrump NT\nneed 1\nhand S KJ...\nhand N 32...\ntrick N -\nturn N\nmoves 2\nkept 1 2\nfront 2\nvector 10 count 1\nplay S2\nhear 3\non S7\nplay SK\nstop\non SQ\nplay SK\nstop\non SA\nplay SJ\nstop\nvector 01 count 1\nplay S2\nhear 3\non S7\nplay SJ\nstop\non SQ\nplay SK\nstop\non SA\nplay SJ\nstop\ncard S2 count 1\nend\n",
+        report: QUEEN_REPORT,
     },
     // After two cards.
     Case {

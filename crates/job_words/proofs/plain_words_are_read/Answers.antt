@@ -1,5 +1,20 @@
-use Rattle.job_words.proofs.PlainLemmas.{plain_asks}
+use Rattle.job_words.proofs.PlainLemmas.{card_asks, check_asks, fusion_asks, list_asks, made_asks, solve_asks}
 use Rattle.job_words.proofs.plain_words_are_read.Goals as goal
 
-pub returns : goal.returns
-returns c = plain_asks
+pub returns-clause-solve : goal.returns-clause-solve
+returns-clause-solve c = solve_asks
+
+pub returns-clause-card : goal.returns-clause-card
+returns-clause-card c = card_asks
+
+pub returns-clause-fusion : goal.returns-clause-fusion
+returns-clause-fusion c = fusion_asks
+
+pub returns-clause-list : goal.returns-clause-list
+returns-clause-list c = list_asks
+
+pub returns-clause-check : goal.returns-clause-check
+returns-clause-check c = check_asks
+
+pub returns-clause-made : goal.returns-clause-made
+returns-clause-made c = made_asks

@@ -1,5 +1,11 @@
-use Rattle.am_top.proofs.Reporting.{one-text}
+use Rattle.am_top.proofs.Reporting.{one-report, one-card, one-summary}
 use Rattle.am_top.proofs.laws.one_text.Goals as goal
 
-pub returns : goal.returns
-returns c = one-text
+pub returns-clause-report : goal.returns-clause-report
+returns-clause-report c = one-report
+
+pub returns-clause-card : goal.returns-clause-card
+returns-clause-card c = one-card
+
+pub returns-clause-problem : goal.returns-clause-problem
+returns-clause-problem c = one-summary

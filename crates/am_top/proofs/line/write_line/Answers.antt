@@ -31,3 +31,8 @@ pub returns-in-TooLong-clause-written : goal.returns-in-TooLong-clause-written
 unfolding line_of
 returns-in-TooLong-clause-written g c =
     rw (c.in-TooLong.is, ← c.file_name-in-TooLong.ensures) c.write_pieces-in-TooLong.ensures.written
+
+pub returns-in-BadReport-clause-written : goal.returns-in-BadReport-clause-written
+unfolding line_of
+returns-in-BadReport-clause-written g c =
+    rw (c.in-BadReport.is, ← c.format-in-BadReport.ensures.text, ← c.as_bytes-in-BadReport.ensures.value, ← c.report_name.ensures) c.write_pieces-in-BadReport.ensures.written

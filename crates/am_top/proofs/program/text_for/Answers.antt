@@ -1,15 +1,14 @@
 use Rattle.job_words.specs.Asks.{texts_of}
-use Rattle.am_top.specs.Inputs.{inputs_of}
 use Rattle.am_top.proofs.Steps.{told_text, told_refused, told_refused_inputs, reading-not_done}
 use Rattle.am_top.proofs.program.text_for.Goals as goal
 
 pub returns-in-Ok-clause-text : goal.returns-in-Ok-clause-text
 returns-in-Ok-clause-text g c =
-    told_text (g.S.Shelf.told c.args.shelf.now) (texts_of c.args.words.now) (inputs_of c.in-Ok.inputs) c.text_in.result c.in-Ok.ensures.read c.text_in.ensures.text
+    told_text (g.S.Shelf.told c.args.shelf.now) (texts_of c.args.words.now) c.in-Ok.inputs c.text_in.result c.in-Ok.ensures.read c.text_in.ensures.text
 
 pub returns-in-Ok-clause-refused : goal.returns-in-Ok-clause-refused
 returns-in-Ok-clause-refused g c =
-    told_refused (g.S.Shelf.told c.args.shelf.now) (texts_of c.args.words.now) (inputs_of c.in-Ok.inputs) c.text_in.result c.in-Ok.ensures.read c.text_in.ensures.refused
+    told_refused (g.S.Shelf.told c.args.shelf.now) (texts_of c.args.words.now) c.in-Ok.inputs c.text_in.result c.in-Ok.ensures.read c.text_in.ensures.refused
 
 pub returns-in-Err-clause-refused : goal.returns-in-Err-clause-refused
 returns-in-Err-clause-refused g c =

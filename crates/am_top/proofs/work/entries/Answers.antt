@@ -1,4 +1,4 @@
-use Rattle.std.proofs.Common.{All, refl, sym, subst, ◌++◌, ◌∷◌, []}
+use Rattle.std.proofs.Common.{All, refl, sym, subst}
 use Rattle.std.proofs.lemmas.List.Elements.{All-push}
 use Rattle.strategy_games.specs.Choosing.{IsChosenPlan}
 use Rattle.strategy_tree.specs.Bridge.{bridge}

@@ -1,17 +1,17 @@
-use Rattle.std.proofs.Common.{Err, ap, subst, ◌∙◌}
-use Rattle.strategy_games.specs.Choosing.{IsBestCount}
-use Rattle.strategy_tree.specs.Bridge.{bridge}
-use Rattle.am_top.specs.Inputs.{task_of}
-use Rattle.am_top.specs.Endings.{IsSpentOn}
-use Rattle.am_top.proofs.Steps.{spent_or}
+use Rattle.am_top.specs.Answers.{Report, NamedCard, task_at}
+use Rattle.am_top.proofs.Steps.{refused_searches, task_at-Solve, task_at-Card}
 use Rattle.am_top.proofs.work.work.Goals as goal
 
-pub text_of-requires-clause-count : goal.text_of-requires-clause-count
-text_of-requires-clause-count c =
-    subst (λ task. IsBestCount bridge task.kept.node task.ask.moves c.in-Ok.root.count) c.task.view_is c.in-Ok.ensures.count
+pub returns-in-Solve-clause-refused : goal.returns-in-Solve-clause-refused
+returns-in-Solve-clause-refused g c =
+    let root = c.args.root.now in
+    let found = c.in-Solve in
+    refused_searches c.solve.result (task_at root c.args.work.now) (Report root found.moves found.search) root.kept.node found.moves found.search.nodes
+    (task_at-Solve root c.args.work.now found.moves found.search found.is) (λ card is. is) c.solve.ensures.refused
 
-pub returns-in-Err-clause-refused : goal.returns-in-Err-clause-refused
-returns-in-Err-clause-refused c =
-    rw (c.root_status.ensures)
-    (spent_or (task_of c.args.task.now) c.in-Err.fault
-    (λ card is. subst (λ task. IsSpentOn (task_of task) card) c.task.view_is (c.root_front.ensures.spent card (c.in-Err.is ∙ ap Err is))))
+pub returns-in-Card-clause-refused : goal.returns-in-Card-clause-refused
+returns-in-Card-clause-refused g c =
+    let root = c.args.root.now in
+    let found = c.in-Card in
+    refused_searches c.name_card.result (task_at root c.args.work.now) (NamedCard root found.moves found.search) root.kept.node found.moves found.search.nodes
+    (task_at-Card root c.args.work.now found.moves found.search found.is) (λ card is. is) c.name_card.ensures.refused

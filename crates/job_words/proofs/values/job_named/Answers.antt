@@ -11,9 +11,29 @@ pub returns-in-card : goal.returns-in-card
 unfolding job_named
 returns-in-card c = sym (ap job_named c.in-card.is)
 
+pub returns-in-fusion : goal.returns-in-fusion
+unfolding job_named
+returns-in-fusion c = sym (ap job_named c.in-fusion.is)
+
+pub returns-in-list : goal.returns-in-list
+unfolding job_named
+returns-in-list c = sym (ap job_named c.in-list.is)
+
+pub returns-in-check : goal.returns-in-check
+unfolding job_named
+returns-in-check c = sym (ap job_named c.in-check.is)
+
+pub returns-in-made : goal.returns-in-made
+unfolding job_named
+returns-in-made c = sym (ap job_named c.in-made.is)
+
 pub returns-in_default : goal.returns-in_default
 unfolding job_named
 returns-in_default c =
     let solve = bytes_ne c.args.name.now (codes "solve") c.in_default.not-solve in
     let card = bytes_ne c.args.name.now (codes "card") c.in_default.not-card in
-    rw (solve, card) refl
+    let fusion = bytes_ne c.args.name.now (codes "fusion") c.in_default.not-fusion in
+    let list = bytes_ne c.args.name.now (codes "list") c.in_default.not-list in
+    let check = bytes_ne c.args.name.now (codes "check") c.in_default.not-check in
+    let made = bytes_ne c.args.name.now (codes "made") c.in_default.not-made in
+    rw (solve, card, fusion, list, check, made) refl

@@ -1,0 +1,35 @@
+-- The texts of what was found at a root.
+use Rattle.std.proofs.Common.{◌≡◌, ℕ, List, Result, Ok, Err, length, map, All, sym, subst}
+use Rattle.std.specs.Prelude.{IfOk}
+use Rattle.strategy_games.specs.Plans.{IsFront}
+use Rattle.strategy_games.specs.Choosing.{IsChosenPlan, IsBestCount, IsNamedCard}
+use Rattle.strategy_tree.specs.Bridge.{bridge}
+use Rattle.win_vectors.specs.Fronts.{Vector}
+use Rattle.am_report.specs.Answers.{AnswerValue, EntryValue}
+use Rattle.am_report.specs.Card.{card_text}
+use Rattle.am_report.specs.Made.{made_text}
+use Rattle.am_report.specs.Solve.{solve_text}
+use Rattle.am_top.specs.declared.root.Root.{Root}
+use Rattle.am_top.specs.Reports.{IsSolveAnswer, IsSolveText, IsCardText, IsMadeText, made_moves}
+
+-- the vectors with their plans, the card and the count are an answer
+pub solve-answer : (root : Root) (moves : ℕ) (entries : List EntryValue) (vectors : List Vector) (card count : ℕ) → map (λ e. e.vector) entries ≡ vectors → IsFront bridge root.kept.node moves vectors
+    → All (λ e. IsChosenPlan bridge e.plan root.kept.node moves e.vector) entries → IsNamedCard bridge root.kept.node moves card → IsBestCount bridge root.kept.node moves count
+    → IsSolveAnswer root.kept.node moves (record { entries = entries; card = card; count = count })
+solve-answer root moves entries vectors card count same front plans named best =
+    record { vectors = subst (IsFront bridge root.kept.node moves) (sym same) front; plans = plans; card = named; count = best }
+
+pub solve-text : {E : Type 0} (root : Root) (moves : ℕ) (result : Result (List ℕ) E) (found : AnswerValue) → IsSolveAnswer root.kept.node moves found
+    → IfOk result (λ text. text ≡ solve_text root.board root.kept moves found) → IfOk result (IsSolveText root moves)
+solve-text root moves (Ok text) found is written = (found, is, written)
+solve-text root moves (Err e) found is written = tt
+
+-- the same root, once as it is and once as it is opened
+pub card-text : (opened root : Root) (moves card count : ℕ) (text : List ℕ) → opened ≡ root → IsNamedCard bridge opened.kept.node moves card → IsBestCount bridge opened.kept.node moves count
+    → text ≡ card_text card count (length opened.kept.node.lefts) → IsCardText root moves text
+card-text opened root moves card count text same named best written = subst (λ (r : Root). IsCardText r moves text) same (card, count, named, best, written)
+
+pub made-text : (number : ℕ) (opened root : Root) (vectors : List Vector) (card count : ℕ) (text : List ℕ) → opened ≡ root → IsFront bridge opened.kept.node made_moves vectors
+    → IsNamedCard bridge opened.kept.node made_moves card → IsBestCount bridge opened.kept.node made_moves count
+    → text ≡ made_text (record { number = number; layouts = length opened.kept.node.lefts; front = length vectors; best = count; card = card }) → IsMadeText number root text
+made-text number opened root vectors card count text same front named best written = subst (λ (r : Root). IsMadeText number r text) same (vectors, card, count, front, named, best, written)

@@ -1,0 +1,28 @@
+-- Words that ask for the problem of a number are accepted.
+use Rattle.std.proofs.Common.{◌≡◌, ℕ, List, Some, Ok, refl}
+use Rattle.am_outside.specs.Shelf.{Files}
+use Rattle.job_words.specs.declared.asks.Search.{Search}
+use Rattle.job_words.specs.Asks.{Made}
+use Rattle.job_words.specs.Words.{words_read}
+use Rattle.layout_maker.specs.MadeProblem.{made_deal, made_layouts, IsAcceptedProblem}
+use Rattle.layout_maker.proofs.MadeAccepted.{accepted}
+use Rattle.am_top.specs.declared.root.Root.{Root}
+use Rattle.am_top.specs.Answers.{Problem, answer, task_in, problem_of, root_in, board_in, kept_in}
+use Rattle.am_top.specs.Files.{inputs_read, named_read}
+
+abbrev root_made : (number : ℕ) → IsAcceptedProblem number → Root
+root_made number is = record { board = is.board; kept = is.kept }
+
+root-made : (number : ℕ) (is : IsAcceptedProblem number) → root_in (made_deal number) (made_layouts number) ≡ Ok (root_made number is)
+unfolding root_in board_in kept_in
+root-made number is = rw (is.one_game, is.its_board, is.its_layouts, is.is_on, is.own_turn) refl
+
+answer-made : (words : List (List ℕ)) (files : Files) (number : ℕ) (search : Search) → words_read words ≡ Some (Made number search) → answer words files ≡ problem_of number search
+unfolding answer inputs_read named_read task_in
+answer-made words files number search asked = rw asked refl
+
+pub made-accepted : (words : List (List ℕ)) (files : Files) (number : ℕ) (search : Search) → words_read words ≡ Some (Made number search)
+    → (root : Root) × (answer words files ≡ Ok (Problem number root search))
+unfolding problem_of
+made-accepted words files number search asked =
+    (root_made number (accepted number), rw (answer-made words files number search asked, root-made number (accepted number)) refl)

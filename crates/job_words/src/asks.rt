@@ -1,0 +1,70 @@
+//! What the words can ask for.
+
+/// How to search.
+#[derive(Clone, Copy, Debug, PartialEq, Eq)]
+pub struct Search {
+    /// The most nodes that the search of one node may visit: 1 or more.
+    pub nodes: u64,
+    /// How many workers share the cards at the root: 1 to 64.
+    pub workers: u32,
+    /// How many shards the table of fronts has: 1 to 64.
+    pub shards: u32,
+    /// How many fronts a shard holds: 1 to 65,536, and 1,048,576 in all shards at most.
+    pub room: u32,
+    /// Whether the search looks into the table of fronts.
+    pub table: bool,
+    /// Whether the search cuts what can't matter.
+    pub cuts: bool,
+}
+
+/// A job on a deal and its layouts.
+#[derive(Clone, Copy, Debug, PartialEq, Eq)]
+pub enum LayoutsJob<'a> {
+    /// Every best trade-off, a strategy for each, and the card to play.
+    Solve {
+        /// How many cards of declarer's side the search goes through: 1 to 26.
+        moves: u8,
+        /// How to search.
+        search: Search,
+    },
+    /// The card to play.
+    Card {
+        /// How many cards of declarer's side the search goes through: 1 to 26.
+        moves: u8,
+        /// How to search.
+        search: Search,
+    },
+    /// What plain sampling believes of each card.
+    Fusion,
+    /// Whether each strategy of a report wins exactly its vector.
+    Check {
+        /// The name of the file of the report.
+        report: &'a str,
+    },
+}
+
+/// What the words ask for.
+#[derive(Clone, Copy, Debug, PartialEq, Eq)]
+pub enum Ask<'a> {
+    /// A job on a deal and its layouts.
+    OnLayouts {
+        /// The name of the deal file.
+        deal: &'a str,
+        /// The name of the file of layouts.
+        layouts: &'a str,
+        /// What is to be done with them.
+        job: LayoutsJob<'a>,
+    },
+    /// All layouts of a deal.
+    List {
+        /// The name of the deal file.
+        deal: &'a str,
+    },
+    /// The problem made from a number, solved.
+    Made {
+        /// The number, any of 64 bits.
+        number: u64,
+        /// How to search.
+        search: Search,
+    },
+}

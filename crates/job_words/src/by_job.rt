@@ -1,0 +1,138 @@
+//! What the options ask for, by the job that they name.
+ghost use Rattle.std.specs.Prelude.{◌≡◌, ◌≤◌, ◌*◌, IfSome, option_map};
+ghost use Rattle.job_words.specs.Asks.{IsJobWithinLimits, IsMoves, IsSearchWithinLimits, IsWithinLimits, ask_of, job_of};
+ghost use Rattle.job_words.specs.Options.{options_of};
+ghost use Rattle.job_words.specs.Words.{ask_in, card_in, check_in, job_in, list_in, made_in, moves_in, on_layouts, search_in, solve_in, table_in};
+
+use crate::asks::{Ask, LayoutsJob, Search};
+use crate::options::Options;
+use crate::table::{Job, uses_by};
+use crate::values::{file_name, job_named, number_in, number_or};
+
+/// What the options ask for, or None where they aren't those of a job, or a value of theirs is refused.
+#[tactic(auto, unfolding(crate::specs::Words::ask_in))]
+pub(crate) fn ask_in<'a>(options: &Options<'a>) -> Option<Ask<'a>>
+    ensures ask { option_map ask_of result ≡ ask_in (options_of options.now) }
+    ensures limits { IfSome result (λ ask. IsWithinLimits (ask_of ask)) }
+{
+    match job_in(options)? {
+        Job::Solve => on_layouts(options, solve_in(options)?),
+        Job::Card => on_layouts(options, card_in(options)?),
+        Job::Fusion => on_layouts(options, LayoutsJob::Fusion),
+        Job::List => list_in(options),
+        Job::Check => on_layouts(options, check_in(options)?),
+        Job::Made => made_in(options),
+    }
+}
+
+#[tactic(auto, unfolding(crate::specs::Words::job_in))]
+fn job_in(options: &Options<'_>) -> Option<Job>
+    ensures { result ≡ job_in (options_of options.now) }
+{
+    let job = job_named(options.job?)?;
+    if uses_by(job).keeps_to(options) {
+        Some(job)
+    } else {
+        None
+    }
+}
+
+#[tactic(auto, unfolding(crate::specs::Words::table_in))]
+fn table_in(options: &Options<'_>) -> Option<(u32, u32)>
+    ensures size { result ≡ table_in (options_of options.now) }
+    ensures limits { IfSome result (λ size. (1 ≤ size.0) × (size.0 ≤ 64) × (1 ≤ size.1)
+        × (size.1 ≤ 65536) × (size.0 * size.1 ≤ 1048576)) }
+{
+    let shards = number_or(16, 1, 64, options.shards)?;
+    let room = number_or(16_384, 1, 65_536, options.room)?;
+    if shards * room <= 1_048_576 {
+        Some((shards as u32, room as u32))
+    } else {
+        None
+    }
+}
+
+#[tactic(auto, unfolding(crate::specs::Words::search_in))]
+fn search_in(options: &Options<'_>) -> Option<Search>
+    ensures search { result ≡ search_in (options_of options.now) }
+    ensures limits { IfSome result IsSearchWithinLimits }
+{
+    let nodes = number_or(10_000_000, 1, u64::MAX, options.nodes)?;
+    let workers = number_or(1, 1, 64, options.workers)?;
+    let (shards, room) = table_in(options)?;
+    Some(Search {
+        nodes,
+        workers: workers as u32,
+        shards,
+        room,
+        table: !options.no_table,
+        cuts: !options.no_cuts,
+    })
+}
+
+#[tactic(auto, unfolding(crate::specs::Words::moves_in))]
+fn moves_in(options: &Options<'_>) -> Option<u8>
+    ensures moves { result ≡ moves_in (options_of options.now) }
+    ensures limits { IfSome result IsMoves }
+{
+    let moves = number_in(1, 26, options.moves?)?;
+    Some(moves as u8)
+}
+
+#[tactic(auto, unfolding(crate::specs::Words::solve_in))]
+fn solve_in<'a>(options: &Options<'a>) -> Option<LayoutsJob<'a>>
+    ensures job { option_map job_of result ≡ solve_in (options_of options.now) }
+    ensures limits { IfSome result (λ job. IsJobWithinLimits (job_of job)) }
+{
+    let moves = moves_in(options)?;
+    let search = search_in(options)?;
+    Some(LayoutsJob::Solve { moves, search })
+}
+
+#[tactic(auto, unfolding(crate::specs::Words::card_in))]
+fn card_in<'a>(options: &Options<'a>) -> Option<LayoutsJob<'a>>
+    ensures job { option_map job_of result ≡ card_in (options_of options.now) }
+    ensures limits { IfSome result (λ job. IsJobWithinLimits (job_of job)) }
+{
+    let moves = moves_in(options)?;
+    let search = search_in(options)?;
+    Some(LayoutsJob::Card { moves, search })
+}
+
+#[tactic(auto, unfolding(crate::specs::Words::check_in))]
+fn check_in<'a>(options: &Options<'a>) -> Option<LayoutsJob<'a>>
+    ensures job { option_map job_of result ≡ check_in (options_of options.now) }
+    ensures limits { IfSome result (λ job. IsJobWithinLimits (job_of job)) }
+{
+    let report = file_name(options.report?)?;
+    Some(LayoutsJob::Check { report })
+}
+
+#[tactic(auto, unfolding(crate::specs::Words::on_layouts))]
+fn on_layouts<'a>(options: &Options<'a>, job: LayoutsJob<'a>) -> Option<Ask<'a>>
+    ensures ask { option_map ask_of result ≡ on_layouts (options_of options.now) (job_of job.entry) }
+    ensures limits { IsJobWithinLimits (job_of job.entry) → IfSome result (λ ask. IsWithinLimits (ask_of ask)) }
+{
+    let deal = file_name(options.deal?)?;
+    let layouts = file_name(options.layouts?)?;
+    Some(Ask::OnLayouts { deal, layouts, job })
+}
+
+#[tactic(auto, unfolding(crate::specs::Words::list_in))]
+fn list_in<'a>(options: &Options<'a>) -> Option<Ask<'a>>
+    ensures ask { option_map ask_of result ≡ list_in (options_of options.now) }
+    ensures limits { IfSome result (λ ask. IsWithinLimits (ask_of ask)) }
+{
+    let deal = file_name(options.deal?)?;
+    Some(Ask::List { deal })
+}
+
+#[tactic(auto, unfolding(crate::specs::Words::made_in))]
+fn made_in<'a>(options: &Options<'a>) -> Option<Ask<'a>>
+    ensures ask { option_map ask_of result ≡ made_in (options_of options.now) }
+    ensures limits { IfSome result (λ ask. IsWithinLimits (ask_of ask)) }
+{
+    let number = number_in(0, u64::MAX, options.number?)?;
+    let search = search_in(options)?;
+    Some(Ask::Made { number, search })
+}
