@@ -10,7 +10,7 @@ use Rattle.am_report.specs.Card.{card_text}
 use Rattle.am_report.specs.Made.{made_text}
 use Rattle.am_report.specs.Solve.{solve_text}
 use Rattle.am_top.specs.declared.root.Root.{Root}
-use Rattle.am_top.specs.Reports.{IsSolveAnswer, IsSolveText, IsCardText, IsMadeText, made_moves}
+use Rattle.am_top.specs.Reports.{IsSolveAnswer, IsSolveText, IsCardText, IsMadeText}
 
 -- the vectors with their plans, the card and the count are an answer
 pub solve-answer : (root : Root) (moves : ℕ) (entries : List EntryValue) (vectors : List Vector) (card count : ℕ) → map (λ e. e.vector) entries ≡ vectors → IsFront bridge root.kept.node moves vectors
@@ -29,7 +29,7 @@ pub card-text : (opened root : Root) (moves card count : ℕ) (text : List ℕ) 
     → text ≡ card_text card count (length opened.kept.node.lefts) → IsCardText root moves text
 card-text opened root moves card count text same named best written = subst (λ (r : Root). IsCardText r moves text) same (card, count, named, best, written)
 
-pub made-text : (number : ℕ) (opened root : Root) (vectors : List Vector) (card count : ℕ) (text : List ℕ) → opened ≡ root → IsFront bridge opened.kept.node made_moves vectors
-    → IsNamedCard bridge opened.kept.node made_moves card → IsBestCount bridge opened.kept.node made_moves count
-    → text ≡ made_text (record { number = number; layouts = length opened.kept.node.lefts; front = length vectors; best = count; card = card }) → IsMadeText number root text
-made-text number opened root vectors card count text same front named best written = subst (λ (r : Root). IsMadeText number r text) same (vectors, card, count, front, named, best, written)
+pub made-text : (number : ℕ) (opened root : Root) (moves : ℕ) (vectors : List Vector) (card count : ℕ) (text : List ℕ) → opened ≡ root → IsFront bridge opened.kept.node moves vectors
+    → IsNamedCard bridge opened.kept.node moves card → IsBestCount bridge opened.kept.node moves count
+    → text ≡ made_text (record { number = number; layouts = length opened.kept.node.lefts; front = length vectors; best = count; card = card }) → IsMadeText number root moves text
+made-text number opened root moves vectors card count text same front named best written = subst (λ (r : Root). IsMadeText number r moves text) same (vectors, card, count, front, named, best, written)

@@ -4,7 +4,7 @@ use Rattle.std.specs.Prelude.{IfSome, IfOk, IfErr}
 use Rattle.alphamu_core.specs.declared.answers.RootFault as root
 use Rattle.trick_rules.specs.Nodes.{Layouts as LayoutsNode}
 use Rattle.am_outside.specs.Shelf.{Files}
-use Rattle.root_workers.specs.Roots.{IsSpentAt}
+use Rattle.root_workers.specs.Roots.{IsSpentAt, AllFit}
 use Rattle.am_top.specs.declared.inputs.Inputs.{Inputs}
 use Rattle.am_top.specs.declared.inputs.Work.{Work}
 use Rattle.am_top.specs.declared.inputs.Work.TheVariants as works
@@ -17,6 +17,7 @@ use Rattle.am_top.specs.declared.root.Root.{Root}
 use Rattle.am_top.specs.Answers.{TaskValue, Report, NamedCard, Problem, root_in, task_at, problem_of, task_in, answer}
 use Rattle.am_top.specs.Files.{inputs_read}
 use Rattle.am_top.specs.Refusals.{root_status}
+use Rattle.am_top.specs.Reports.{IsMadeText, made_moves}
 use Rattle.am_top.specs.Endings.{IsSpentOn}
 use Rattle.am_top.specs.Stages.{IsOfReading, IsReadRefusal, IsFileRefusal, IsSpentOr, IsTaskRefusal, IsTextFor, IsRefusal}
 
@@ -98,6 +99,17 @@ unfolding problem_of
 problem-root number search' root deal layouts made also is =
     let read : root_in (made_deal number) (made_layouts number) ≡ Ok root = ap₂ root_in (sym made) (sym also) ∙ is in
     rw read refl
+
+-- its summary, by as many moves as such a problem is solved with
+pub problem-text : {E : Type 0} (number : ℕ) (search' : Search) (root : Root) (moves : ℕ) (result : Result (List ℕ) E) → problem_of number search' ≡ Ok (Problem number root search') → moves ≡ made_moves
+    → IfOk result (IsMadeText number root moves) → IfOk result (λ _. AllFit root.kept.node moves search'.nodes) → IfOk result (IsTextFor (problem_of number search'))
+problem-text number search' root moves (Ok text) accepted same is fits = record {
+  task = Problem number root search';
+  accepted = accepted;
+  is_text = subst (λ m. IsMadeText number root m text) same is;
+  fits = subst (λ m. AllFit root.kept.node m search'.nodes) same fits;
+}
+problem-text number search' root moves (Err fault) accepted same is fits = tt
 
 -- ---- the answer
 

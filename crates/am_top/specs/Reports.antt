@@ -38,9 +38,9 @@ abbrev pub made_moves : ℕ
 made_moves = 3
 
 -- the number, the kept layouts, the length of the front, the best count and the named card
-abbrev pub IsMadeText : ℕ → Root → List ℕ → Type 0
-IsMadeText number root text = (vectors : List (List Bool)) × (card count : ℕ) × IsFront bridge root.kept.node made_moves vectors
-    × IsNamedCard bridge root.kept.node made_moves card × IsBestCount bridge root.kept.node made_moves count
+abbrev pub IsMadeText : ℕ → Root → ℕ → List ℕ → Type 0
+IsMadeText number root moves text = (vectors : List (List Bool)) × (card count : ℕ) × IsFront bridge root.kept.node moves vectors
+    × IsNamedCard bridge root.kept.node moves card × IsBestCount bridge root.kept.node moves count
     × (text ≡ made_text (record { number = number; layouts = length root.kept.node.lefts; front = length vectors; best = count; card = card }))
 
 -- the text of a job
@@ -50,4 +50,4 @@ IsText (NamedCard root moves search) text = IsCardText root moves text
 IsText (Sample root) text = text ≡ fusion_text (card_vectors root.kept.node)
 IsText (Good plans) text = text ≡ check_text plans
 IsText (AllLayouts board layouts) text = text ≡ list_text board layouts
-IsText (Problem number root search) text = IsMadeText number root text
+IsText (Problem number root search) text = IsMadeText number root made_moves text

@@ -9,7 +9,7 @@ ghost use Rattle.root_workers.specs.Roots.{AllFit};
 ghost use Rattle.job_words.specs.Asks.{IsMoves};
 ghost use Rattle.am_top.specs.Answers.{has_choice, task_at, problem_of};
 ghost use Rattle.am_top.specs.Files.{IsWithin};
-ghost use Rattle.am_top.specs.Reports.{IsSolveText, IsCardText, IsMadeText, made_moves};
+ghost use Rattle.am_top.specs.Reports.{IsSolveText, IsCardText, IsMadeText};
 ghost use Rattle.am_top.specs.Stages.{IsSpentOr, IsTaskRefusal, IsTextFor};
 
 use crate::inputs::Work;
@@ -162,13 +162,14 @@ pub fn work<R: Threads + Sync>(
 }
 
 // The summary of a problem that was made from a number.
-fn summary(alloc: Global, number: u64, root: &Root, nodes: u64) -> Result<Text, Status>
+fn summary(alloc: Global, number: u64, root: &Root, moves: u8, nodes: u64) -> Result<Text, Status>
     requires turn { has_choice root.now.kept.node ≡ true }
-    ensures text { IfOk result (IsMadeText number root.now) }
-    ensures fits { IfOk result (λ _. AllFit root.now.kept.node made_moves nodes) }
-    ensures refused { IfErr result (IsSpentOr root.now.kept.node made_moves nodes) }
+    requires moves { IsMoves moves }
+    ensures text { IfOk result (IsMadeText number root.now moves) }
+    ensures fits { IfOk result (λ _. AllFit root.now.kept.node moves nodes) }
+    ensures refused { IfErr result (IsSpentOr root.now.kept.node moves nodes) }
 {
-    match root_front(alloc, &root.kept.node, 3, nodes) {
+    match root_front(alloc, &root.kept.node, moves, nodes) {
         Ok(found) => {
             let summary = MadeSummary {
                 number,
@@ -191,5 +192,5 @@ pub fn solve_made(alloc: Global, number: u64, search: &Search) -> Result<Text, S
 {
     let made = made_problem(alloc, number)?;
     let root = read_root(alloc, &made.deal, &made.layouts)?;
-    summary(alloc, number, &root, search.nodes)
+    summary(alloc, number, &root, made.moves, search.nodes)
 }
