@@ -3,4 +3,6 @@ pub mod Orders
 pub mod Members
 pub mod Insertion
 pub mod Reduction
-mod WordLemmas
+mod WordBits
+mod WordVectors
+mod Masks

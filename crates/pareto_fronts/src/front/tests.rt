@@ -9,16 +9,16 @@ use win_vectors::WinVector;
 fn vector(rt: &impl Abort, text: &str) -> WinVector {
     let bits = text.as_bytes();
     assert!(rt; !bits.is_empty() && bits.len() <= 64);
-    let mut vector = WinVector::none(bits.len() as u8);
+    let mut vector = WinVector::none(bits.len() as u16);
     for (place, bit) in bits.iter().enumerate() {
         assert!(rt; place < vector.width() as usize);
-        vector = vector.set(place as u8, *bit == b'1');
+        vector = vector.set(place as u16, *bit == b'1');
     }
     vector
 }
 
 // The front of the vectors of a text, in which blanks divide them.
-fn front_of(rt: &impl Abort, alloc: Global, width: u8, text: &str) -> Result<Front, AllocError> {
+fn front_of(rt: &impl Abort, alloc: Global, width: u16, text: &str) -> Result<Front, AllocError> {
     assert!(rt; width > 0 && width <= 64);
     let mut front = Front::new(alloc, width);
     for word in text.split(' ') {
@@ -43,7 +43,7 @@ fn has_vectors(rt: &impl Abort, front: &Front, text: &str) -> bool {
 
 #[derive(Drop)]
 struct Row {
-    width: u8,
+    width: u16,
     first: &'static str,
     second: &'static str,
     first_front: &'static str,

@@ -7,11 +7,11 @@ use std::process::Abort;
 // A vector by its bits, the first layout first.
 fn vector(rt: &impl Abort, text: &str) -> WinVector {
     let bits = text.as_bytes();
-    assert!(rt; !bits.is_empty() && bits.len() <= 64);
-    let mut vector = WinVector::none(bits.len() as u8);
+    assert!(rt; !bits.is_empty() && bits.len() <= 256);
+    let mut vector = WinVector::none(bits.len() as u16);
     for (place, bit) in bits.iter().enumerate() {
         assert!(rt; place < vector.width() as usize);
-        vector = vector.set(place as u8, *bit == b'1');
+        vector = vector.set(place as u16, *bit == b'1');
     }
     vector
 }
@@ -23,7 +23,7 @@ struct Row {
     mask: &'static str,
     meet: &'static str,
     either: &'static str,
-    count: u8,
+    count: u16,
     dominates: bool,
     order: Ordering,
     restricted: &'static str,

@@ -1,42 +1,49 @@
-use Rattle.std.proofs.Common.{◌<◌, ◌^◌}
-use Rattle.std.proofs.lemmas.Bool.{eq-eqb, ne_eqb}
-use Rattle.std.proofs.lemmas.Nat.Bits.{shr_and_one}
-use Rattle.win_vectors.proofs.WordLemmas.{widths-same, word_of, order-by_count, order-same, order-less, order-greater, trailing_zeros-within}
+use Rattle.std.proofs.Common.{◌≡◌, ◌<◌, ◌∙◌, sym, ap, length, true, false, refl}
+use Rattle.bit_lists.specs.Words.{bit_of, bits_of}
+use Rattle.bit_lists.proofs.Words.{length-bits_of}
+use Rattle.win_vectors.specs.Vectors.{ones_of}
+use Rattle.win_vectors.specs.Words.{AreVectorWords}
+use Rattle.win_vectors.proofs.VectorLemmas.{vector_order-same, order-by_count}
+use Rattle.win_vectors.proofs.WordVectors.{widths-same, first_difference-within, order-first_one, order-first_zero, bit_of-got}
 use Rattle.win_vectors.proofs.win_vector.WinVector.order.Goals as goal
 
 pub returns-then-ours-theirs : goal.returns-then-ours-theirs
 returns-then-ours-theirs c =
-    let same = widths-same c.self.inside.width c.self.inside.bits c.other.inside.width c.other.inside.bits c.args.self c.args.other c.self.view_is c.other.view_is c.requires in
-    let fits : c.other.inside.bits < 2 ^ c.self.inside.width = rw same c.other.invariant.fits in
-    rw (c.cmp.ensures, ← c.self.view_is, ← c.other.view_is, ← same)
-    (order-by_count c.self.inside.width c.self.inside.bits c.other.inside.bits c.self.invariant.fits fits c.if-ours-theirs.true)
+    rw (c.cmp.ensures, c.count-ours.ensures, c.count-theirs.ensures)
+    (order-by_count c.args.self c.args.other (rw (c.count-ours.ensures, c.count-theirs.ensures) at c.if-ours-theirs.true))
 
-pub returns-then-apart-eq0 : goal.returns-then-apart-eq0
-returns-then-apart-eq0 c =
-    let same = widths-same c.self.inside.width c.self.inside.bits c.other.inside.width c.other.inside.bits c.args.self c.args.other c.self.view_is c.other.view_is c.requires in
-    let fits : c.other.inside.bits < 2 ^ c.self.inside.width = rw same c.other.invariant.fits in
+pub returns-in_default : goal.returns-in_default
+returns-in_default c =
+    let same = widths-same c.self.inside.width c.other.inside.width c.self.inside.words c.other.inside.words c.args.self c.args.other c.self.view_is c.other.view_is c.requires in
+    rw (← c.self.view_is, ← c.other.view_is, ← same, c.in_default.ensures.none refl) (sym (vector_order-same (bits_of c.self.inside.width c.other.inside.words)))
+
+pub get-requires : goal.get-requires
+get-requires c =
+    let same = widths-same c.self.inside.width c.other.inside.width c.self.inside.words c.other.inside.words c.args.self c.args.other c.self.view_is c.other.view_is c.requires in
+    let other : AreVectorWords c.self.inside.width c.other.inside.words = rw same c.other.invariant in
+    rw (← c.self.view_is, length-bits_of c.self.inside.width c.self.inside.words)
+    (first_difference-within c.self.inside.width c.self.inside.words c.other.inside.words c.in-Some.place c.self.invariant other c.in-Some.ensures.some)
+
+pub returns-then-get : goal.returns-then-get
+returns-then-get c =
+    let same = widths-same c.self.inside.width c.other.inside.width c.self.inside.words c.other.inside.words c.args.self c.args.other c.self.view_is c.other.view_is c.requires in
+    let other : AreVectorWords c.self.inside.width c.other.inside.words = rw same c.other.invariant in
+    let within = first_difference-within c.self.inside.width c.self.inside.words c.other.inside.words c.in-Some.place c.self.invariant other c.in-Some.ensures.some in
+    let one : bit_of c.self.inside.words c.in-Some.place ≡ true = bit_of-got c.self.inside.width c.self.inside.words c.args.self c.in-Some.place true c.self.view_is within c.if-get.ensures in
+    let count : ones_of c.args.self ≡ ones_of c.args.other = sym c.count-ours.ensures ∙ c.if-ours-theirs.false ∙ c.count-theirs.ensures in
+    let counts : ones_of (bits_of c.self.inside.width c.self.inside.words) ≡ ones_of (bits_of c.self.inside.width c.other.inside.words) =
+    ap ones_of c.self.view_is ∙ count ∙ sym (ap (λ w. ones_of (bits_of w c.other.inside.words)) same ∙ ap ones_of c.other.view_is) in
     rw (← c.self.view_is, ← c.other.view_is, ← same)
-    (order-same c.self.inside.width c.self.inside.bits c.other.inside.bits c.self.invariant.fits fits c.if-apart-eq0.true)
+    (order-first_one c.self.inside.width c.self.inside.words c.other.inside.words c.in-Some.place c.self.invariant other c.in-Some.ensures.some counts one)
 
-pub overflow_shr-self-inside : goal.overflow_shr-self-inside
-overflow_shr-self-inside c =
-    trailing_zeros-within c.self.inside.bits c.other.inside.bits
-    (word_of c.self.inside.bits c.self.inside.width c.self.invariant.high c.self.invariant.fits)
-    (word_of c.other.inside.bits c.other.inside.width c.other.invariant.high c.other.invariant.fits)
-    c.if-apart-eq0.false
-
-pub returns-then-self-apart-eq1 : goal.returns-then-self-apart-eq1
-returns-then-self-apart-eq1 c =
-    let same = widths-same c.self.inside.width c.self.inside.bits c.other.inside.width c.other.inside.bits c.args.self c.args.other c.self.view_is c.other.view_is c.requires in
-    let fits : c.other.inside.bits < 2 ^ c.self.inside.width = rw same c.other.invariant.fits in
-    let one = eq-eqb _ _ (rw shr_and_one at c.if-self-apart-eq1.true) in
+pub returns-else-get : goal.returns-else-get
+returns-else-get c =
+    let same = widths-same c.self.inside.width c.other.inside.width c.self.inside.words c.other.inside.words c.args.self c.args.other c.self.view_is c.other.view_is c.requires in
+    let other : AreVectorWords c.self.inside.width c.other.inside.words = rw same c.other.invariant in
+    let within = first_difference-within c.self.inside.width c.self.inside.words c.other.inside.words c.in-Some.place c.self.invariant other c.in-Some.ensures.some in
+    let none : bit_of c.self.inside.words c.in-Some.place ≡ false = bit_of-got c.self.inside.width c.self.inside.words c.args.self c.in-Some.place false c.self.view_is within c.if-get.ensures in
+    let count : ones_of c.args.self ≡ ones_of c.args.other = sym c.count-ours.ensures ∙ c.if-ours-theirs.false ∙ c.count-theirs.ensures in
+    let counts : ones_of (bits_of c.self.inside.width c.self.inside.words) ≡ ones_of (bits_of c.self.inside.width c.other.inside.words) =
+    ap ones_of c.self.view_is ∙ count ∙ sym (ap (λ w. ones_of (bits_of w c.other.inside.words)) same ∙ ap ones_of c.other.view_is) in
     rw (← c.self.view_is, ← c.other.view_is, ← same)
-    (order-less c.self.inside.width c.self.inside.bits c.other.inside.bits c.self.invariant.high c.self.invariant.fits fits c.if-ours-theirs.false c.if-apart-eq0.false one)
-
-pub returns-else-self-apart-eq1 : goal.returns-else-self-apart-eq1
-returns-else-self-apart-eq1 c =
-    let same = widths-same c.self.inside.width c.self.inside.bits c.other.inside.width c.other.inside.bits c.args.self c.args.other c.self.view_is c.other.view_is c.requires in
-    let fits : c.other.inside.bits < 2 ^ c.self.inside.width = rw same c.other.invariant.fits in
-    let none = ne_eqb _ _ (rw shr_and_one at c.if-self-apart-eq1.false) in
-    rw (← c.self.view_is, ← c.other.view_is, ← same)
-    (order-greater c.self.inside.width c.self.inside.bits c.other.inside.bits c.self.invariant.high c.self.invariant.fits fits c.if-ours-theirs.false c.if-apart-eq0.false none)
+    (order-first_zero c.self.inside.width c.self.inside.words c.other.inside.words c.in-Some.place c.self.invariant other c.in-Some.ensures.some counts none)
