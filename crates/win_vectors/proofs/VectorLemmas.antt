@@ -113,9 +113,15 @@ spread_of-append [] vs (true ∷ ms) ns e = absurd (omega arith)
 spread_of-append (u ∷ us) vs (true ∷ ms) ns e = ap (λ rest. u ∷ rest) (spread_of-append us vs ms ns (omega arith))
 
 -- a mask of ones
-ones_of-all : (n : ℕ) → ones_of (replicate n true) ≡ n
+pub ones_of-all : (n : ℕ) → ones_of (replicate n true) ≡ n
 ones_of-all zero = refl
 ones_of-all (suc n) = omega (arith, ones_of-all n)
+
+-- a vector with as many ones as bits
+pub all-from_ones : (vs : Vector) → ones_of vs ≡ length vs → vs ≡ replicate (length vs) true
+all-from_ones [] e = refl
+all-from_ones (true ∷ vs) e = ap (λ rest. true ∷ rest) (all-from_ones vs (omega arith))
+all-from_ones (false ∷ vs) e = absurd (omega (arith, ones_of-le vs))
 
 restrict_of-all : (vs : Vector) → restrict_of vs (replicate (length vs) true) ≡ vs
 restrict_of-all [] = refl
@@ -193,3 +199,16 @@ order-less us vs place same at = sym (order-same_count us vs same ∙ earlier_on
 
 pub order-greater : (us vs : Vector) (place : ℕ) → ones_of us ≡ ones_of vs → DifferAt vs us place → Greater ≡ vector_order us vs
 order-greater us vs place same at = sym (order-same_count us vs same ∙ earlier_one-greater us vs place at)
+
+-- equal bits behind two vectors of one width
+earlier_one-append : (us vs ws : Vector) → length us ≡ length vs → earlier_one (us ++ ws) (vs ++ ws) ≡ earlier_one us vs
+earlier_one-append [] [] ws e = earlier_one-same ws
+earlier_one-append [] (v ∷ vs) ws e = absurd (omega arith)
+earlier_one-append (u ∷ us) [] ws e = absurd (omega arith)
+earlier_one-append (true ∷ us) (false ∷ vs) ws e = refl
+earlier_one-append (false ∷ us) (true ∷ vs) ws e = refl
+earlier_one-append (true ∷ us) (true ∷ vs) ws e = earlier_one-append us vs ws (omega arith)
+earlier_one-append (false ∷ us) (false ∷ vs) ws e = earlier_one-append us vs ws (omega arith)
+
+pub vector_order-append : (us vs ws : Vector) → length us ≡ length vs → vector_order (us ++ ws) (vs ++ ws) ≡ vector_order us vs
+vector_order-append us vs ws e = rw (ones_of-append us ws, ones_of-append vs ws, earlier_one-append us vs ws e) (grind (arith, nat_tests))

@@ -9,11 +9,11 @@ use Rattle.std.proofs.lemmas.Nat.Bits.{bit_at_lowest, bit_at-lt, bit_at_not, sam
 use Rattle.std.specs.Int.{bit_at, trailing_zeros}
 use Rattle.std.specs.Int.Count.{ones, ones_step}
 use Rattle.bit_lists.specs.Bits.{has_bit, bools}
-use Rattle.bit_lists.proofs.Bools.{has_bit-and, has_bit-or, has_bit-zero, bools-zero, bools-suc, bools-more, bools-same, length-bools}
+use Rattle.bit_lists.proofs.Bools.{has_bit-and, has_bit-or, has_bit-zero, bools-zero, bools-suc, bools-more, bools-same, length-bools, get_or-bools}
 use Rattle.bit_lists.proofs.Words.{same_word}
 use Rattle.win_vectors.specs.Vectors.{ones_of, restrict_of, spread_of}
 use Rattle.win_vectors.specs.Words.{IsLowestDifference, IsOnesBelow, IsRestrictedWord, IsSpreadWord}
-use Rattle.win_vectors.proofs.VectorLemmas.{ones_of-append, ones_of-le, restrict_of-push, spread_of-push_one, spread_of-push_zero}
+use Rattle.win_vectors.proofs.VectorLemmas.{ones_of-append, ones_of-le, restrict_of-push, spread_of-push_one, spread_of-push_zero, DifferAt}
 
 -- ---- how many ones
 
@@ -157,6 +157,31 @@ IsLowestDifference-trailing a b a_fits b_fits apart =
       same = λ i low. same_when (has_bit a i) (has_bit b i) (sym (has_bit-xor a b i) ∙ rw (lowest.2 i low) refl);
       other = other_when (has_bit a place) (has_bit b place) (sym (has_bit-xor a b place) ∙ differs);
     }
+
+second_is : (x y : Bool) → x ≡ not y → x ≡ true → y ≡ false
+second_is x true e one = absurd (false≢true (sym e ∙ one))
+second_is x false e one = refl
+
+first_is : (x y : Bool) → x ≡ not y → x ≡ false → y ≡ true
+first_is x true e none = refl
+first_is x false e none = absurd (true≢false (sym e ∙ none))
+
+-- where one word has 1 at the lowest place at which two differ
+pub DifferAt-lowest : (a b place : ℕ) → IsLowestDifference a b place → has_bit a place ≡ true → DifferAt (bools 64 a) (bools 64 b) place
+DifferAt-lowest a b place h one = record {
+  in_first = rw (length-bools 64 a) h.within;
+  in_second = rw (length-bools 64 b) h.within;
+  agree = λ i low.
+      let within : i < 64 = omega (arith, h.within) in
+      rw (get_or-bools 64 a i true within, get_or-bools 64 b i true within) (h.same i low);
+  one = get_or-bools 64 a place true h.within ∙ one;
+  zero = get_or-bools 64 b place true h.within ∙ second_is (has_bit a place) (has_bit b place) h.other one;
+}
+
+pub IsLowestDifference-swap : (a b place : ℕ) → IsLowestDifference a b place → has_bit a place ≡ false → IsLowestDifference b a place × (has_bit b place ≡ true)
+IsLowestDifference-swap a b place h none =
+    let one : has_bit b place ≡ true = first_is (has_bit a place) (has_bit b place) h.other none in
+    (record { within = h.within; same = λ i low. sym (h.same i low); other = one ∙ sym (ap not none) }, one)
 
 -- ---- a word moved by some places
 

@@ -6,6 +6,7 @@ use Rattle.std.proofs.lemmas.Nat.{and_le_l, shr_le, or_lt, le_or_l, le_or_r, pow
 use Rattle.std.specs.Bool.{Decides}
 use Rattle.std.specs.declared.cmp.Ordering.TheVariants.{Less, Greater}
 use Rattle.std.specs.Cmp.Lexicographic.{pointwise, pointwise_decides}
+use Rattle.std.specs.Int.Bits.{or_zero_r}
 use Rattle.std.specs.Simd.Lanes.{zip2, fold_l}
 use Rattle.std.specs.Int.Count.{ones}
 use Rattle.std.proofs.lemmas.List.Elements.{AllZip-get_or}
@@ -17,7 +18,7 @@ use Rattle.bit_lists.proofs.Words.{bit_of-word, by_words, split_place, below_64,
 use Rattle.win_vectors.specs.Vectors.{ones_of, meet_of, either_of, dominates, vector_order}
 use Rattle.win_vectors.specs.Fronts.{Vector, IsAtLeast, Dominates}
 use Rattle.win_vectors.specs.Words.{AreVectorWords, IsFirstDifference, IsLowestDifference, IsOnesBelow, IsWordFrom, PutsBits}
-use Rattle.win_vectors.proofs.VectorLemmas.{length-meet_of, get_or-meet_of, length-either_of, get_or-either_of, Decides-dominates, Dominates-from_places, ones_of-append, DifferAt, order-less, order-greater}
+use Rattle.win_vectors.proofs.VectorLemmas.{length-meet_of, get_or-meet_of, length-either_of, get_or-either_of, Decides-dominates, Dominates-from_places, ones_of-append, DifferAt, order-less, order-greater, vector_order-append}
 use Rattle.win_vectors.proofs.WordBits.{SetsPlace, has_bit-shr, has_bit-shl_low, has_bit-shl_high, has_bit_past, has_bit-lacking, ones_of-lowest, ones_of-bools, ones-zero}
 
 -- two vectors of one width
@@ -429,7 +430,41 @@ pub dominates-words : (w : ℕ) (us vs : List ℕ) → AreVectorWords w us → A
 dominates-words w us vs h k =
     same_from_decides (fold_l bit_or 0 (lacks us vs) == 0) (dominates (bits_of w us) (bits_of w vs)) (Decides-lacks w us vs h k) (Decides-dominates (bits_of w us) (bits_of w vs))
 
+-- of a vector of at most 64 bits the other words are 0
+pub later_word-zero : (w : ℕ) (ws : List ℕ) (word : ℕ) → AreVectorWords w ws → w ≤ 64 → 0 < word → get_or ws word 0 ≡ 0
+later_word-zero w ws word h narrow later =
+    same_word (get_or ws word 0) 0 (h.fit word) (pow_pos 64) (λ i low. sym (bit_of-word ws word i low) ∙ h.past (64 * word + i) (omega arith) ∙ sym (has_bit-zero i))
+
+lacks-first : (us vs : List ℕ) → length us ≡ 4 → length vs ≡ 4 → ((k : ℕ) → 0 < k → get_or vs k 0 ≡ 0) → fold_l bit_or 0 (lacks us vs) ≡ bit_and (get_or vs 0 0) (18446744073709551615 - get_or us 0 0)
+lacks-first (u ∷ us) (v ∷ vs) first second none =
+    later_none (lacks us vs) (bit_and v (18446744073709551615 - u)) (λ k. get_or-lacks us vs k (omega arith) ∙ ap (λ n. bit_and n (18446744073709551615 - get_or us k 0)) (none (suc k) (omega arith)))
+  where
+    later_none : (xs : List ℕ) (a : ℕ) → ((k : ℕ) → get_or xs k 0 ≡ 0) → fold_l bit_or a xs ≡ a
+    later_none [] a h = refl
+    later_none (x ∷ xs) a h =
+        let here : x ≡ 0 = h 0 in
+        let kept : bit_or a x ≡ a = rw here (or_zero_r a) in
+        later_none xs (bit_or a x) (λ k. h (suc k)) ∙ kept
+lacks-first [] vs first second none = absurd (omega arith)
+lacks-first (u ∷ us) [] first second none = absurd (omega arith)
+
+-- so one word decides
+pub lacks-narrow : (w : ℕ) (us vs : List ℕ) → AreVectorWords w us → AreVectorWords w vs → w ≤ 64 → fold_l bit_or 0 (lacks us vs) ≡ bit_and (get_or vs 0 0) (18446744073709551615 - get_or us 0 0)
+lacks-narrow w us vs h k narrow = lacks-first us vs h.four k.four (λ word later. later_word-zero w vs word k narrow later)
+
 -- ---- equality, order
+
+-- the bits of the first word, and 0 past the width
+bits_of-first : (w : ℕ) (ws : List ℕ) → AreVectorWords w ws → w ≤ 64 → bools 64 (get_or ws 0 0) ≡ bits_of w ws ++ bools (64 - w) 0
+bits_of-first w ws h narrow =
+    let whole : w + (64 - w) ≡ 64 = omega arith in
+    sym (ap (λ bs. bs ++ bools 64 (get_or ws 0 0)) (bits_of-none ws)) ∙ sym (bits_of-word 0 64 ws (omega arith))
+    ∙ ap (λ n. bits_of n ws) (sym whole) ∙ bits_of-append w (64 - w) ws 0 (λ i low. h.past (w + i) (omega arith) ∙ sym (has_bit-zero i))
+
+pub vector_order-narrow : (w : ℕ) (us vs : List ℕ) → AreVectorWords w us → AreVectorWords w vs → w ≤ 64 → vector_order (bools 64 (get_or us 0 0)) (bools 64 (get_or vs 0 0)) ≡ vector_order (bits_of w us) (bits_of w vs)
+vector_order-narrow w us vs h k narrow =
+    rw (bits_of-first w us h narrow, bits_of-first w vs k narrow)
+    (vector_order-append (bits_of w us) (bits_of w vs) (bools (64 - w) 0) (length-bits_of w us ∙ sym (length-bits_of w vs)))
 
 pub Decides-same_words : (us vs : List ℕ) → Decides (pointwise eqb us vs) (us ≡ vs)
 Decides-same_words us vs = pointwise_decides (λ (x y : ℕ). (eqb-true x y, eq-eqb x y)) us vs
@@ -543,3 +578,8 @@ ones_of-words w ws h =
         ap ones_of (bits_of-word word 64 ws (omega arith))
         ∙ ones_of-append (bits_of (64 * word) ws) (bools 64 (get_or ws word 0))
         ∙ ap (λ n. ones_of (bits_of (64 * word) ws) + n) (ones_of-bools 64 (get_or ws word 0) (h.fit word))
+
+pub ones_of-narrow : (w : ℕ) (ws : List ℕ) → AreVectorWords w ws → w ≤ 64 → ones_of (bits_of w ws) ≡ ones (get_or ws 0 0)
+ones_of-narrow w ws h narrow =
+    ones_of-words w ws h
+    ∙ rw (later_word-zero w ws 1 h narrow (lit< tt), later_word-zero w ws 2 h narrow (lit< tt), later_word-zero w ws 3 h narrow (lit< tt), ones-zero) (omega arith)

@@ -8,7 +8,7 @@ ghost use Rattle.std.specs.Cmp.Rules.{comparing};
 ghost use Rattle.win_vectors.specs.Fronts.{Dominates};
 ghost use Rattle.win_vectors.specs.Vectors.{dominates as is_above, either_of, meet_of, most_layouts, ones_of, restrict_of, spread_of, vector_order};
 
-use crate::words::{WORD_PLACES, WORDS, bits_from, first_difference, ones_below, places_in, put_bits, restricted_word, spread_word, words_in_use};
+use crate::words::{WORD_PLACES, WORDS, bits_from, first_difference, ones_below, places_in, put_bits, restricted_word, spread_word, word_order, words_in_use};
 use std::cmp::Ordering;
 use std::marker::Model;
 use std::simd::prelude::*;
@@ -142,6 +142,9 @@ impl WinVector {
         ensures { result ≡ ones_of self }
     {
         let [first, second, third, fourth] = self.words;
+        if self.width <= WORD_PLACES {
+            return first.count_ones() as u16;
+        }
         let ones = first.count_ones()
             + second.count_ones()
             + third.count_ones()
@@ -179,6 +182,9 @@ impl WinVector {
         ensures value { result ≡ is_above self other }
         ensures meaning { IsTrue result ↔ Dominates self other }
     {
+        if other.width <= WORD_PLACES {
+            return other.words[0] & !self.words[0] == 0;
+        }
         let lacking = u64x4::from_array(other.words) & !u64x4::from_array(self.words);
         lacking.reduce_or() == 0
     }
@@ -196,18 +202,10 @@ impl WinVector {
         requires { length self ≡ length other }
         ensures { result ≡ vector_order self other }
     {
-        let (ours, theirs) = (self.count(), other.count());
-        if ours != theirs {
-            return theirs.cmp(&ours);
+        if other.width <= WORD_PLACES {
+            return word_order(self.words[0], other.words[0]);
         }
-        let Some(place) = first_difference(&self.words, &other.words) else {
-            return Ordering::Equal;
-        };
-        if self.get(place) {
-            Ordering::Less
-        } else {
-            Ordering::Greater
-        }
+        self.wide_order(other)
     }
 
     /// The bits at the ones of the mask, in order.
@@ -235,7 +233,7 @@ impl WinVector {
         requires { length self ≡ ones_of mask }
         ensures { result ≡ spread_of self mask }
     {
-        if mask.is_all() {
+        if self.width == mask.width {
             return self;
         }
         let mut words = [0u64; WORDS];
@@ -251,11 +249,30 @@ impl WinVector {
         }
     }
 
+    // The printing order at any width.
+    fn wide_order(self, other: WinVector) -> Ordering
+        requires { length self ≡ length other }
+        ensures { result ≡ vector_order self other }
+    {
+        let (ours, theirs) = (self.count(), other.count());
+        if ours != theirs {
+            return theirs.cmp(&ours);
+        }
+        let Some(place) = first_difference(&self.words, &other.words) else {
+            return Ordering::Equal;
+        };
+        if self.get(place) {
+            Ordering::Less
+        } else {
+            Ordering::Greater
+        }
+    }
+
     // Whether each layout is made.
     fn is_all(self) -> bool
         ensures { IsTrue result ↔ (self ≡ replicate (length self) true) }
     {
-        self.equals(WinVector::all(self.width))
+        self.count() == self.width
     }
 }
 

@@ -1,9 +1,12 @@
 //! Four words of 64 places each, the lowest bit of the first word first.
 
 ghost use Rattle.std.specs.Prelude.{◌≡◌, ◌≢◌, ◌≤◌, ◌<◌, ◌-◌, ◌+◌, ◌*◌, ◌/◌, ℕ, false, if◌then◌else◌, nat_lt, IsNone, IfSome};
+ghost use Rattle.bit_lists.specs.Bits.{bools};
 ghost use Rattle.bit_lists.specs.Words.{bit_of};
-ghost use Rattle.win_vectors.specs.Vectors.{most_layouts};
+ghost use Rattle.win_vectors.specs.Vectors.{most_layouts, vector_order};
 ghost use Rattle.win_vectors.specs.Words.{IsFirstDifference, IsLowestDifference, IsOnesBelow, IsRestrictedWord, IsSpreadWord, IsWordFrom, PutsBits};
+
+use std::cmp::Ordering;
 
 /// The places of a word.
 pub const WORD_PLACES: u16 = 64;
@@ -48,6 +51,24 @@ pub fn lowest_difference(ours: u64, theirs: u64) -> u16
     ensures { IsLowestDifference ours theirs result }
 {
     (ours ^ theirs).trailing_zeros() as u16
+}
+
+/// The order of vectors of 64 bits: more ones first, and among equal counts the one with a 1 at the first difference.
+pub fn word_order(ours: u64, theirs: u64) -> Ordering
+    ensures { result ≡ vector_order (bools 64 ours) (bools 64 theirs) }
+{
+    let (our_ones, their_ones) = (ours.count_ones(), theirs.count_ones());
+    if our_ones != their_ones {
+        return their_ones.cmp(&our_ones);
+    }
+    if ours == theirs {
+        return Ordering::Equal;
+    }
+    if (ours >> lowest_difference(ours, theirs)) & 1 == 1 {
+        Ordering::Less
+    } else {
+        Ordering::Greater
+    }
 }
 
 /// The first place at which the two differ.

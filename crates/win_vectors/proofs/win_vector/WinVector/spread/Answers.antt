@@ -3,12 +3,16 @@ use Rattle.bit_lists.specs.Words.{bits_of}
 use Rattle.bit_lists.proofs.Words.{length-bits_of}
 use Rattle.win_vectors.specs.Vectors.{ones_of}
 use Rattle.win_vectors.specs.Words.{AreVectorWords, IsSpreadWord}
-use Rattle.win_vectors.proofs.VectorLemmas.{spread_of-all_of}
+use Rattle.win_vectors.proofs.VectorLemmas.{all-from_ones, spread_of-all_of}
 use Rattle.win_vectors.proofs.Masks.{SpreadsWords-none, SpreadsWords-next, SpreadsWords-most, SpreadsWords-end, done_at-end, next_places, ones-most}
 use Rattle.win_vectors.proofs.win_vector.WinVector.spread.Goals as goal
 
-pub returns-then-is_all : goal.returns-then-is_all
-returns-then-is_all c = c.self.view_is ∙ sym (spread_of-all_of c.args.self c.args.mask c.requires (c.if-is_all.ensures.0 refl))
+pub returns-then-self-mask : goal.returns-then-self-mask
+returns-then-self-mask c =
+    let own : c.self.inside.width ≡ length c.args.self = sym (length-bits_of c.self.inside.width c.self.inside.words) ∙ ap length c.self.view_is in
+    let mask : c.mask.inside.width ≡ length c.args.mask = sym (length-bits_of c.mask.inside.width c.mask.inside.words) ∙ ap length c.mask.view_is in
+    let all = all-from_ones c.args.mask (sym c.requires ∙ sym own ∙ c.if-self-mask.true ∙ mask) in
+    c.self.view_is ∙ sym (spread_of-all_of c.args.self c.args.mask c.requires all)
 
 pub loop-word-init : goal.loop-word-init
 loop-word-init c = SpreadsWords-none c.mask.inside.width c.self.inside.words c.mask.inside.words
