@@ -21,8 +21,8 @@ pub const MOST_LAYOUTS: u16 = 256;
 /// The first layout has the lowest bit of the first word.
 #[derive(Clone, Copy, Debug)]
 pub struct WinVector {
-    width: u16,
     words: [u64; WORDS],
+    width: u16,
 }
 
 impl Model for WinVector {
