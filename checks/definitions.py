@@ -4,13 +4,14 @@
 Compares the pages in docs/definitions/ with the specs and sources below TOP, which is this repository where none is
 named. It needs no toolchain.
 
-Each definition that a public contract cites must stand in backticks on some page. A public contract is a clause of a
-`pub fn`, of a member of a trait or of its implementation, or the value of a model, in any crate but tests_* and bench_*.
-The `ghost use` lines of a source say which of the names in its contracts are the repository's definitions. A name that
-several of the cited definitions have stands with its crate or its module before it, as `crate::name`.
+Each definition that a public contract cites must stand in backticks on some page. A public contract is what a caller
+in another crate may read: a clause of a function, a method or a member of a trait, or the value of a model. The lines
+`ghost use` of a source say which of the names in it are the repository's definitions. Crates tests_* and bench_* have
+no such callers. A name that several of the cited definitions have stands with its crate or its module before it, as
+`crate::name`.
 
-Each name in backticks on a page must be there: as a definition, a part of one, an item of a source, a crate, a name that
-the repository takes from the kit, a case, a file, a card, or one of `OTHER_WORDS`.
+Each name in backticks on a page must be there: as a definition, a part of one, an item of a source, a crate, a name
+that the repository takes from the kit, a case, a file, a card, or one of `OTHER_WORDS`.
 
 Prints each missing and each foreign name with its place. The exit status is 0 only where there is none.
 """
@@ -32,15 +33,12 @@ NAME = r"[A-Za-z_][A-Za-z0-9_]*(?:-[A-Za-z0-9_]+)*"
 Definition = namedtuple("Definition", "crate module name")
 
 
-def files_in(top, folder, ending):
-    """The crates' files in a folder of theirs: the crate, and the path from the top."""
-    crates = os.path.join(top, "crates")
-    for crate in sorted(os.listdir(crates)):
-        for place, folders, names in os.walk(os.path.join(crates, crate, folder)):
-            folders.sort()
-            for name in sorted(names):
-                if name.endswith(ending):
-                    yield crate, os.path.relpath(os.path.join(place, name), top)
+def files_of(top, crate, folder, ending):
+    """The crate's files in a folder of its own, from the top."""
+    found = []
+    for place, _, names in os.walk(os.path.join(top, "crates", crate, folder)):
+        found += [os.path.relpath(os.path.join(place, name), top) for name in names if name.endswith(ending)]
+    return sorted(found)
 
 
 def text_of(top, path):
@@ -86,8 +84,8 @@ def read_spec(text):
 def read_specs(top):
     """The place of each definition, the names of all fields, and the names from the kit."""
     places, fields, kit = {}, set(), set()
-    crates = os.listdir(os.path.join(top, "crates"))
-    for crate, path in files_in(top, "specs", ".antt"):
+    crates = sorted(os.listdir(os.path.join(top, "crates")))
+    for crate, path in [(crate, path) for crate in crates for path in files_of(top, crate, "specs", ".antt")]:
         text = text_of(top, path)
         module = path.split(os.sep + "specs" + os.sep)[1][:-len(".antt")].replace(os.sep, ".")
         defined, more = read_spec(text)
@@ -164,20 +162,69 @@ def items_of(text, start, end):
         at += 1
 
 
-def read_items(text, start, end, within, contracts, names):
-    """Adds the places of what a caller may read in a part of a source to `contracts`, and the names of its items to `names`."""
+def members_of(text, start, end, outer=None):
+    """The items of a part of a source and those within them, each with the item around it."""
     for item in filter(None, items_of(text, start, end)):
-        if item.name and item.kind not in ("impl", "use"):
-            names.add(item.name)
-        if item.kind.endswith("fn") and (item.public or within):
-            contracts += item.clauses
-        elif item.kind == "ghost" and item.body and (item.name == "Value" or within == "trait"):
-            contracts.append(item.body)
-        elif item.kind in ("struct", "enum") and item.body:
-            names.update(MEMBER.findall(ATTRIBUTE.sub(" ", text[slice(*item.body)])))
-        elif item.kind in ("impl", "trait", "mod") and item.body:
-            of_trait = item.kind == "impl" and re.search(r"\bfor\b", item.head)
-            read_items(text, *item.body, "trait" if item.kind == "trait" else bool(of_trait), contracts, names)
+        yield item, outer
+        if item.kind in ("impl", "trait", "mod") and item.body:
+            yield from members_of(text, *item.body, None if item.kind == "mod" else item)
+
+
+def names_of(text, item):
+    """The names that an item brings, those of its fields and variants among them."""
+    own = [item.name] if item.name and item.kind not in ("impl", "use") else []
+    if item.kind in ("struct", "enum") and item.body:
+        own += MEMBER.findall(ATTRIBUTE.sub(" ", text[slice(*item.body)]))
+    return own
+
+
+def type_of(head):
+    """The name of the type that an impl is of."""
+    while "<" in head.replace("->", ""):
+        head = re.sub(r"<[^<>]*>", "", head.replace("->", ""))
+    return re.search(rf"\bimpl\s+(?:.*\bfor\s+)?(?:[&\s]|mut\b|\w+::)*({NAME})", head, re.DOTALL).group(1)
+
+
+class Crate:
+    """A crate's sources: its files as texts and items, and what of it is seen from outside."""
+
+    def __init__(self, top, paths):
+        self.texts = {path: UNREAD.sub(blank, text_of(top, path)) for path in paths}
+        self.items = {path: list(members_of(text, 0, len(text))) for path, text in self.texts.items()}
+        self.open = {path for path in paths if self.is_open(path)}
+        self.passed_on = {word for path in paths for item, _ in self.items[path] if item.public and item.kind == "use"
+                          for word in re.findall(NAME, item.head)}
+        types = [(path, item) for path in paths for item, _ in self.items[path] if item.kind in ("struct", "enum")]
+        self.types = {item.name for _, item in types}
+        self.seen_types = {item.name for path, item in types if self.is_seen(path, item)}
+
+    def is_open(self, path):
+        """Whether each module from the crate's root to this file is public."""
+        folder, module = os.path.split(path[:-len(".rt")])
+        if os.path.basename(folder) == "src" and module in ("lib", "main"):
+            return True
+        above = [folder + ".rt", os.path.join(folder, "lib.rt"), os.path.join(folder, "main.rt")]
+        return any(self.is_open(it) and re.search(rf"\bpub mod {module};", self.texts[it])
+                   for it in above if it in self.texts)
+
+    def is_seen(self, path, item):
+        return item.public and (path in self.open or item.name in self.passed_on)
+
+    def contracts_in(self, path):
+        """The places of what a caller outside may read in a file."""
+        for item, outer in self.items[path]:
+            if outer is None:
+                seen = item.kind.endswith("fn") and self.is_seen(path, item)
+            elif outer.kind == "trait":
+                seen = self.is_seen(path, outer)
+            else:
+                of_trait = re.search(r"\bfor\b", outer.head)
+                own = type_of(outer.head)
+                seen = (own in self.seen_types or own not in self.types) and (item.public or of_trait)
+            if seen and item.kind.endswith("fn"):
+                yield from item.clauses
+            elif seen and item.kind == "ghost" and item.body and (item.name == "Value" or outer.kind == "trait"):
+                yield item.body
 
 
 def definition_of(crate, module, name, places):
@@ -191,23 +238,22 @@ def definition_of(crate, module, name, places):
 def read_sources(top, places):
     """Where each definition is first cited, the names of all items, and the names from the kit."""
     cited, names, kit = {}, set(), set()
-    crates = os.listdir(os.path.join(top, "crates"))
-    for crate, path in files_in(top, "src", ".rt"):
-        if crate.startswith(APART) or os.path.basename(path) == "tests.rt":
-            continue
-        text = UNREAD.sub(blank, text_of(top, path))
-        own = {}
-        for here, origin, module, there in uses_of(text):
-            if origin not in crates:
-                kit.add(there)
-            elif module.startswith("specs") and not module.startswith("specs.declared"):
-                own[here] = definition_of(origin, module[len("specs."):], there, places)
-        contracts = []
-        read_items(text, 0, len(text), False, contracts, names)
-        for start, end in contracts:
-            for word in re.finditer(NAME, text[start:end]):
-                if word.group() in own:
-                    cited.setdefault(own[word.group()], place_of(path, text, start + word.start()))
+    crates = sorted(os.listdir(os.path.join(top, "crates")))
+    for crate in crates:
+        paths = [path for path in files_of(top, crate, "src", ".rt") if os.path.basename(path) != "tests.rt"]
+        source = Crate(top, paths) if not crate.startswith(APART) else None
+        for path in paths if source else []:
+            text, own = source.texts[path], {}
+            names.update(name for item, _ in source.items[path] for name in names_of(text, item))
+            for here, origin, module, there in uses_of(text):
+                if origin not in crates:
+                    kit.add(there)
+                elif module.startswith("specs") and not module.startswith("specs.declared"):
+                    own[here] = definition_of(origin, module[len("specs."):], there, places)
+            for start, end in source.contracts_in(path):
+                for word in re.finditer(NAME, text[start:end]):
+                    if word.group() in own:
+                        cited.setdefault(own[word.group()], place_of(path, text, start + word.start()))
     return cited, names, kit
 
 
@@ -222,7 +268,8 @@ def spans_of(text):
 def named_in(span):
     """The names in a span: its first word, and each other word that no parameter would have for a name."""
     words = re.finditer(rf"(?:{NAME}::)*{NAME}", span)
-    return [word.group() for word in words if word.start() == 0 or re.search("_|::|[a-z][A-Z]|^[A-Z][a-z]", word.group())]
+    return [word.group() for word in words
+            if word.start() == 0 or re.search("_|::|[a-z][A-Z]|^[A-Z][a-z]", word.group())]
 
 
 def read_pages(top):
@@ -276,7 +323,8 @@ def main():
     if missing or foreign or not cited or not named:
         print(f"definitions: {len(missing)} missing, {len(foreign)} foreign")
         return 1
-    print(f"definitions: {len(cited)} are cited and stand on the pages, which name {len(set(n for n, _, _ in named))} things")
+    pages = {name for name, _, _ in named}
+    print(f"definitions: {len(cited)} are cited and stand on the pages, which name {len(pages)} things")
     return 0
 
 
