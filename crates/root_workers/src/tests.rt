@@ -42,7 +42,7 @@ fn assert_root(
     alloc: Global,
     moves: u8,
     vectors: &[WinVector],
-    count: u8,
+    count: u16,
 ) -> Result<(), Fail> {
     let node = ending(rt, alloc)?;
     assert!(rt; node.is_ours() && !node.position().over());

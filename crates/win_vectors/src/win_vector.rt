@@ -14,7 +14,9 @@ use std::marker::Model;
 use std::simd::prelude::*;
 
 /// The most layouts of a vector.
-pub const MOST_LAYOUTS: u16 = 256;
+pub const MOST_LAYOUTS: usize = 256;
+
+const _: () = prove!(MOST_LAYOUTS == WORDS * WORD_PLACES as usize);
 
 /// One bit for each layout of a list, 1 where the layout is made: 1 to 256 bits.
 ///
