@@ -11,4 +11,3 @@ pub mod Counts
 pub mod Cuts
 pub mod Chosen
 pub mod Faults
-pub mod FinesseLemmas

@@ -93,6 +93,3 @@ pub fn cuts_hold<G: HiddenGame>()
 pub fn first_misfit_tells<G: HiddenGame>()
     ensures { HasFirstMisfit G.game G.same }
 {}
-
-#[cfg(test)]
-mod tests;

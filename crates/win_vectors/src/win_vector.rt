@@ -237,6 +237,3 @@ fn ones_below(width: u8) -> u64
         (1u64 << width) - 1
     }
 }
-
-#[cfg(test)]
-mod tests;
