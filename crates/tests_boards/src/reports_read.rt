@@ -1,7 +1,7 @@
 //! Reports of a worked ending read back, and texts that are refused.
 
-use crate::{Entry, ReadReport, ReportFault, ReportKind, read_report};
 use am_outside::Text;
+use am_report::{Entry, ReadReport, ReportFault, ReportKind, read_report};
 use card_letters::card_text;
 use std::alloc::{AllocError, Global};
 use std::test::Fail;

@@ -1,5 +1,6 @@
-use super::*;
+//! PBN text: the games of a file, and the first fault of a damaged one.
 use am_outside::Text;
+use pbn_text::{Game, TextFault, games};
 use std::alloc::Global;
 use std::test::Fail;
 

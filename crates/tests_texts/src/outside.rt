@@ -1,6 +1,10 @@
+//! Files and streams, in memory and real: told bytes, faults and their counts.
 ghost use Rattle.std.specs.Prelude.{Some};
 
-use super::*;
+use am_outside::{
+    FileShelf, Gate, MemoryShelf, MemorySink, OpenGate, Shelf, ShelfFault, Sink, SinkFailed,
+    StdSink, Text, write_whole,
+};
 use card_sets::{Card, Rank, Suit};
 use copy::{CopyFault, copy, join};
 use std::alloc::{AllocError, Global};
@@ -138,12 +142,12 @@ impl Sink for Narrow {
     ghost writes = { λ sink. sink.writes };
 
     fn write(&mut self, piece: &[u8]) -> Result<usize, SinkFailed> {
-        self.writes = counts::count_one(self.writes);
+        self.writes = self.writes.saturating_add(1);
         let Some(first) = piece.first() else {
             return Ok(0);
         };
         if self.content.push(*first).is_err() {
-            self.faults = counts::count_one(self.faults);
+            self.faults = self.faults.saturating_add(1);
             return Err(SinkFailed);
         }
         Ok(1)

@@ -1,26 +1,21 @@
 //! Reports of small endings and of a slam, and the other texts, byte for byte.
 ghost use Rattle.std.specs.Prelude.{◌≤◌};
 
-use crate::{
+use crate::endings::{
+    ENDING, ENDING_LAYOUTS, HIDDEN, SLAM, SLAM_LAYOUTS, board_of, ending, kept_of,
+};
+use am_report::{
     Entry, MadeSummary, SolveAnswer, card_text, check_text, fusion_text, head_text, list_text,
     made_text, solve_text,
 };
 use card_sets::{Card, Rank, Suit};
 use fusion_base::CardVector;
 use layout_list::line::{Defenders, read_lines};
-use layout_list::{Kept, layouts};
-use pbn_deal::{Board, read_board};
-use pbn_text::games;
+use pbn_deal::Board;
 use std::alloc::Global;
 use std::test::Fail;
 use strategy_tree::read_plan;
 use win_vectors::WinVector;
-
-// Two tricks in spades, of which one is needed, with North, dummy, to lead; and two layouts of them.
-const ENDING: &str =
-    "[Deal \"N:32... - KJ... -\"]\n[Declarer \"S\"]\n[Contract \"1NT\"]\n[EndNeed \"1\"]\n[EndLead \"N\"]\n";
-
-const ENDING_LAYOUTS: &str = "N:32... A7... KJ... Q5...\nN:32... Q7... KJ... A5...\n";
 
 // The seven goes to the jack or to the king, which of them is the one difference of two plans.
 const JACK_ON_SEVEN: &str =
@@ -36,43 +31,13 @@ const ENDING_REPORT: &str =
 const ENDING_LIST: &str =
     "% alphamu layouts 1\nN:32... AQ... KJ... 75...\nN:32... A7... KJ... Q5...\nN:32... Q7... KJ... A5...\nN:32... A5... KJ... Q7...\nN:32... Q5... KJ... A7...\nN:32... 75... KJ... AQ...\n";
 
-// The same ending with hearts as trumps, after the first two cards.
-const TRICK: &str =
-    "[Deal \"N:32... - KJ... -\"]\n[Declarer \"S\"]\n[Contract \"1H\"]\n[EndNeed \"1\"]\n[EndLead \"N\"]\n[Play \"N\"]\nS2 S7 - -\n*\n";
-
+// The head of the same ending with hearts as trumps, after the first two cards.
 const TRICK_HEAD: &str =
     "alphamu report 1\ndeclarer S\ntrump H\nneed 1\nhand S KJ...\nhand N 3...\ntrick N S2 S7\nturn S\nmoves 26\nkept 1 2\n";
 
-// Seven tricks of a slam, and fourteen layouts of it, of which the play rules out two.
-const SLAM: &str =
-    "% PBN 2.1\n[Event \"Club evening\"]\n[Date \"2019.11.18\"]\n[Board \"1\"]\n[Dealer \"N\"]\n[Vulnerable \"None\"]\n[Deal \"N:32.AKQJ.JT98.432 K98764.5.A76.T76 AQ.T987.KQ5.AKQ5 JT5.6432.432.J98\"]\n[Declarer \"S\"]\n[Contract \"6NT\"]\n[Result \"?\"]\n{ Seven tricks have been played. }\n[Auction \"N\"]\n1D Pass 2C Pass\n2D =1= Pass 6NT Pass\nPass Pass\n[Note \"1:natural\"]\n[Play \"W\"]\nCJ C2 C6 CA\nD2 D8 DA DK\nC8 C3 C7 CK ; East led\nC9 C4 CT CQ\nD3 D9 S4 C5\nD4 DT D6 DQ\nH2 DJ D7 D5\n*\n";
-
-const SLAM_LAYOUTS: &str =
-    "N:32.AKQJ.JT98.432 T98764.5.A76.T76 AQ.T987.KQ5.AKQ5 KJ5.6432.432.J98\nN:32.AKQJ.JT98.432 K98764.5.A76.T76 AQ.T987.KQ5.AKQ5 JT5.6432.432.J98\nN:32.AKQJ.JT98.432 JT87654..A76.T76 AQ.T987.KQ5.AKQ5 K9.65432.432.J98\nN:32.AKQJ.JT98.432 KJT7654..A76.T76 AQ.T987.KQ5.AKQ5 98.65432.432.J98\nN:32.AKQJ.JT98.432 J9854.64.A76.T76 AQ.T987.KQ5.AKQ5 KT76.532.432.J98\nN:32.AKQJ.JT98.432 KJ854.64.A76.T76 AQ.T987.KQ5.AKQ5 T976.532.432.J98\nN:32.AKQJ.JT98.432 KT9654.6.A76.T76 AQ.T987.KQ5.AKQ5 J87.5432.432.J98\nN:32.AKQJ.JT98.432 7654.543.A76.T76 AQ.T987.KQ5.AKQ5 KJT98.62.432.J98\nN:32.AKQJ.JT98.432 KJT4.653.A76.T76 AQ.T987.KQ5.AKQ5 98765.42.432.J98\nN:32.AKQJ.JT98.432 654.6543.A76.T76 AQ.T987.KQ5.AKQ5 KJT987.2.432.J98\nN:32.AKQJ.JT98.432 KJ4.6543.A76.T76 AQ.T987.KQ5.AKQ5 T98765.2.432.J98\nN:32.AKQJ.JT98.432 K9874.54.A76.T76 AQ.T987.KQ5.AKQ5 JT65.632.432.J98\nN:32.AKQJ.JT98.432 K987654.5.A6.T76 AQ.T987.KQ5.AKQ5 JT.6432.7432.J98\nN:32.AKQJ.JT98.432 T98764.5.A76.J76 AQ.T987.KQ5.AKQ5 KJ5.6432.432.T98\n";
-
+// The head of a slam after seven tricks, of whose fourteen layouts the play rules out two.
 const SLAM_HEAD: &str =
     "alphamu report 1\ndeclarer S\ntrump NT\nneed 6\nhand S AQ.T987..\nhand N 32.AKQJ..\ntrick N -\nturn N\nmoves 3\nkept 1 2 3 4 5 6 7 8 9 10 11 12\ndropped 13 revoke 26\ndropped 14 notheld 1\n";
-
-// The board of a file's first game.
-fn board_of(alloc: Global, file: &[u8]) -> Result<Board, Fail> {
-    if file.len() > 10_000 {
-        return Err("the file is too long".into());
-    }
-    let games = games(alloc, file)?;
-    let game = games.first().ok_or("there is no game")?;
-    if game.tags.is_empty() {
-        return Err("the game has no tag".into());
-    }
-    Ok(read_board(alloc, game)?)
-}
-
-// What a layout file's layouts leave of it after the play of a board.
-fn kept_of(alloc: Global, board: &Board, list: &[u8]) -> Result<Kept, Fail> {
-    if list.len() > 10_000 {
-        return Err("the layouts are too long".into());
-    }
-    Ok(layouts(alloc, list, board)?)
-}
 
 // The layouts of a layout file.
 fn layouts_of(alloc: Global, board: &Board, list: &[u8]) -> Result<Vec<Defenders>, Fail> {
@@ -99,8 +64,8 @@ fn entry(alloc: Global, first: bool, text: &str) -> Result<Entry, Fail> {
 #[test]
 fn an_ending_is_reported_with_a_plan_for_each_vector(rt: HostRuntime) -> Result<(), Fail> {
     let alloc = rt.alloc();
-    let board = board_of(alloc, ENDING.as_bytes())?;
-    let kept = kept_of(alloc, &board, ENDING_LAYOUTS.as_bytes())?;
+    let board = board_of(alloc, ENDING)?;
+    let kept = kept_of(alloc, &board, ENDING_LAYOUTS)?;
     let mut entries = Vec::new(alloc);
     entries.push(entry(alloc, true, KING_ON_SEVEN)?)?;
     entries.push(entry(alloc, false, JACK_ON_SEVEN)?)?;
@@ -117,8 +82,8 @@ fn an_ending_is_reported_with_a_plan_for_each_vector(rt: HostRuntime) -> Result<
 #[test]
 fn the_head_names_each_dropped_layout(rt: HostRuntime) -> Result<(), Fail> {
     let alloc = rt.alloc();
-    let board = board_of(alloc, SLAM.as_bytes())?;
-    let kept = kept_of(alloc, &board, SLAM_LAYOUTS.as_bytes())?;
+    let board = board_of(alloc, SLAM)?;
+    let kept = kept_of(alloc, &board, SLAM_LAYOUTS)?;
     let text = head_text(alloc, &board, &kept, 3)?;
     assert_eq!(rt; text.bytes(), SLAM_HEAD.as_bytes());
     Ok(())
@@ -127,8 +92,8 @@ fn the_head_names_each_dropped_layout(rt: HostRuntime) -> Result<(), Fail> {
 #[test]
 fn a_present_trick_and_a_trump_suit_stand_in_the_head(rt: HostRuntime) -> Result<(), Fail> {
     let alloc = rt.alloc();
-    let board = board_of(alloc, TRICK.as_bytes())?;
-    let kept = kept_of(alloc, &board, ENDING_LAYOUTS.as_bytes())?;
+    let board = board_of(alloc, &ending(alloc, HIDDEN, "1H", "S2 S7 - -\n*\n")?)?;
+    let kept = kept_of(alloc, &board, ENDING_LAYOUTS)?;
     let text = head_text(alloc, &board, &kept, 26)?;
     assert_eq!(rt; text.bytes(), TRICK_HEAD.as_bytes());
     Ok(())
@@ -195,7 +160,7 @@ fn the_first_of_two_equal_cards_is_named(rt: HostRuntime) -> Result<(), Fail> {
 #[test]
 fn layouts_are_listed_as_a_layout_file_has_them(rt: HostRuntime) -> Result<(), Fail> {
     let alloc = rt.alloc();
-    let board = board_of(alloc, ENDING.as_bytes())?;
+    let board = board_of(alloc, ENDING)?;
     let layouts = layouts_of(alloc, &board, ENDING_LIST.as_bytes())?;
     let text = list_text(alloc, &board, &layouts)?;
     assert_eq!(rt; text.bytes(), ENDING_LIST.as_bytes());

@@ -1,6 +1,5 @@
-//! Problems whose texts are known, and the numbers that are drawn for them.
-use super::made_problem;
-use crate::generator::Generator;
+//! Problems whose texts are known.
+use layout_maker::made_problem;
 use std::test::Fail;
 
 const DEAL_OF_0: &str =
@@ -13,22 +12,6 @@ const DEAL_OF_12345: &str =
 
 const LAYOUTS_OF_12345: &str =
     "N:.Q.AK.JT QT.KJ.J. AK...AKQ J.AT.QT.\nN:.Q.AK.JT JT.KT.J. AK...AKQ Q.AJ.QT.\nN:.Q.AK.JT J.KJ.QT. AK...AKQ QT.AT.J.\nN:.Q.AK.JT J.JT.QT. AK...AKQ QT.AK.J.\nN:.Q.AK.JT J.KJT.T. AK...AKQ QT.A.QJ.\nN:.Q.AK.JT Q.AK.QJ. AK...AKQ JT.JT.T.\nN:.Q.AK.JT QJ.K.QT. AK...AKQ T.AJT.J.\nN:.Q.AK.JT QJT.J.Q. AK...AKQ .AKT.JT.\nN:.Q.AK.JT T.KJT.J. AK...AKQ QJ.A.QT.\nN:.Q.AK.JT .AKJ.QT. AK...AKQ QJT.T.J.\nN:.Q.AK.JT .AKJ.QJ. AK...AKQ QJT.T.T.\nN:.Q.AK.JT QT.K.QJ. AK...AKQ J.AJT.T.\nN:.Q.AK.JT QT.K.JT. AK...AKQ J.AJT.Q.\nN:.Q.AK.JT J.KT.JT. AK...AKQ QT.AJ.Q.\nN:.Q.AK.JT QJT.KJ.. AK...AKQ .AT.QJT.\nN:.Q.AK.JT QJ.JT.Q. AK...AKQ T.AK.JT.\nN:.Q.AK.JT J.AKJ.J. AK...AKQ QT.T.QT.\nN:.Q.AK.JT Q.KT.QJ. AK...AKQ JT.AJ.T.\nN:.Q.AK.JT JT.J.JT. AK...AKQ Q.AKT.Q.\nN:.Q.AK.JT Q.AJ.JT. AK...AKQ JT.KT.Q.\nN:.Q.AK.JT T.KJT.J. AK...AKQ QJ.A.QT.\nN:.Q.AK.JT QT.K.QJ. AK...AKQ J.AJT.T.\nN:.Q.AK.JT Q.A.QJT. AK...AKQ JT.KJT..\nN:.Q.AK.JT T.JT.JT. AK...AKQ QJ.AK.Q.\nN:.Q.AK.JT JT.AKJ.. AK...AKQ Q.T.QJT.\nN:.Q.AK.JT Q.AK.JT. AK...AKQ JT.JT.Q.\nN:.Q.AK.JT J.T.QJT. AK...AKQ QT.AKJ..\nN:.Q.AK.JT JT.KJ.Q. AK...AKQ Q.AT.JT.\nN:.Q.AK.JT J.AJT.T. AK...AKQ QT.K.QJ.\nN:.Q.AK.JT QT.A.JT. AK...AKQ J.KJT.Q.\nN:.Q.AK.JT QJ.AT.T. AK...AKQ T.KJ.QJ.\nN:.Q.AK.JT J.AKJT.. AK...AKQ QT..QJT.\nN:.Q.AK.JT JT.AJT.. AK...AKQ Q.K.QJT.\nN:.Q.AK.JT QT.JT.T. AK...AKQ J.AK.QJ.\nN:.Q.AK.JT J.K.QJT. AK...AKQ QT.AJT..\nN:.Q.AK.JT QJ.AKT.. AK...AKQ T.J.QJT.\nN:.Q.AK.JT JT.AJT.. AK...AKQ Q.K.QJT.\nN:.Q.AK.JT .KJ.QJT. AK...AKQ QJT.AT..\nN:.Q.AK.JT J.AJ.JT. AK...AKQ QT.KT.Q.\nN:.Q.AK.JT QJT.A.J. AK...AKQ .KJT.QT.\n";
-
-// The numbers drawn for the shuffle of twenty cards, and then for that of ten.
-const SHUFFLE_OF_0: [usize; 19] = [14, 0, 14, 8, 9, 4, 1, 10, 0, 0, 9, 0, 6, 5, 1, 0, 0, 2, 1];
-
-const LAYOUT_OF_0: [usize; 9] = [2, 0, 4, 5, 1, 0, 2, 2, 0];
-
-#[test]
-fn the_first_numbers_drawn_from_0(rt: HostRuntime) {
-    let mut generator = Generator::new(0);
-    for (place, drawn) in SHUFFLE_OF_0.iter().enumerate() {
-        assert_eq!(rt; generator.draw(20 - place), *drawn);
-    }
-    for (place, drawn) in LAYOUT_OF_0.iter().enumerate() {
-        assert_eq!(rt; generator.draw(10 - place), *drawn);
-    }
-}
 
 #[test]
 fn the_problem_of_0(rt: HostRuntime) -> Result<(), Fail> {

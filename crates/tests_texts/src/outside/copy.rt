@@ -1,4 +1,4 @@
-// Files written whole, over any shelf and sink: what the traits say is enough to say what came out.
+//! Files written whole, over any shelf and sink: what the traits say is enough to say what came out.
 ghost use Rattle.std.specs.Prelude.{◌≡◌, ◌≢◌, ◌++◌, ◌⊎◌, Some, IfSome, IsSomeAnd, OnOk, OnErr, IsErrOf};
 ghost use Rattle.std.specs.FinMap.{get};
 ghost use Rattle.std.specs.Io.KnownBytes.{append_known};
@@ -6,7 +6,7 @@ ghost use Rattle.am_outside.specs.Faults.{Rose};
 ghost use Rattle.am_outside.specs.Shelf.{IsLonger, KeepsOthers};
 ghost use Rattle.am_outside.specs.Sink.{AppendsPart};
 
-use crate::{Shelf, ShelfFault, Sink, SinkFailed, write_whole};
+use am_outside::{Shelf, ShelfFault, Sink, SinkFailed, write_whole};
 use std::alloc::Global;
 
 #[derive(Clone, Copy, Debug, PartialEq, Eq)]
@@ -81,7 +81,7 @@ pub fn join<S: Shelf, O: Sink>(
 }
 
 /// Writes one piece after another.
-#[tactic(auto, using(crate::proofs::Written::one_after_another))]
+#[tactic(auto, using(am_outside::proofs::Written::one_after_another))]
 pub fn write_both<O: Sink>(out: &mut O, first: &[u8], second: &[u8]) -> Result<(), SinkFailed>
     ensures whole { OnOk result (O.told out.new ≡ append_known (O.told out.old) (first.now ++ second.now)) }
     ensures part { OnErr result (AppendsPart (O.told out.old) (first.now ++ second.now) (O.told out.new)) }

@@ -1,4 +1,5 @@
-use super::{Ask, LayoutsJob, Search, read_words};
+//! Words of the command line: what each job takes, and what is refused.
+use job_words::{Ask, LayoutsJob, Search, read_words};
 use std::alloc::{AllocError, Global};
 
 const PLAIN: Search = Search {
