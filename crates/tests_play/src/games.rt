@@ -51,6 +51,9 @@ fn laws_hold_for_a_finesse() {
     front_more_moves::<Finesse>();
     chosen_plan_wins::<Finesse>();
     tree_size_laws::<Finesse>();
+    best_measure_is_most::<Finesse>();
+    card_named_by_measure_wins::<Finesse>();
+    best_weight_is_most::<Finesse>();
     best_count_is_most::<Finesse>();
     named_card_wins::<Finesse>();
     cuts_hold::<Finesse>();

@@ -3,4 +3,5 @@ pub mod Orders
 pub mod Members
 pub mod Insertion
 pub mod Reduction
+pub mod WeightLemmas
 mod WordLemmas

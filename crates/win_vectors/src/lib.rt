@@ -4,6 +4,8 @@
 #![tactic(auto)]
 
 pub mod laws;
+mod weights;
 mod win_vector;
 
+pub use weights::{MAX_WEIGHT, Weights};
 pub use win_vector::{MAX_WIDTH, WinVector};
