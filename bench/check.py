@@ -20,7 +20,7 @@ import subprocess
 import sys
 import tempfile
 
-from search import CLUBS, HEARTS, DIAMONDS, OURS, PROGRAM, RANKS, SPADES, Ending, output, random_ending
+from search import BUILD, CLUBS, HEARTS, DIAMONDS, PROGRAM, RANKS, SPADES, Ending, output, random_ending
 from timing import least_seconds, processor_seconds
 
 MOST_BYTES = 16_777_216
@@ -206,8 +206,7 @@ def deep_stacks(folder):
 
 def main():
     runs = int(sys.argv[1]) if len(sys.argv) > 1 else 5
-    example = PROGRAM.parent.parent / "data"
-    output([OURS, "--job", "card", "--deal", example / "k.pbn", "--layouts", example / "k.lay", "--moves", 1])
+    subprocess.run([BUILD], check=True)
     print("                      bytes   plans      bytes      bytes a second   16 MiB to 4 MiB,   KiB of stack:")
     print("ending               a plan       in 16 MiB      4 MiB     16 MiB     time a byte   one plan     16 MiB")
     with tempfile.TemporaryDirectory() as folder:

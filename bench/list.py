@@ -12,7 +12,7 @@ import sys
 import tempfile
 
 HERE = pathlib.Path(__file__).resolve().parent
-OURS = HERE.parent / "alphamu"
+BUILD = HERE.parent / "build"
 PROGRAM = HERE.parent / "crates" / "alphamu" / "out" / "alphamu"
 BATCHES = 5
 
@@ -42,7 +42,7 @@ def milliseconds(name, line, runs):
 
 def main():
     runs = int(sys.argv[1]) if len(sys.argv) > 1 else 200
-    subprocess.run([OURS], stdout=subprocess.DEVNULL, stderr=subprocess.DEVNULL)
+    subprocess.run([BUILD], check=True)
     with tempfile.TemporaryDirectory() as folder:
         print("                  milliseconds a run   to a run that counts nothing")
         alone = None

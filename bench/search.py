@@ -21,7 +21,7 @@ import tempfile
 from timing import processor_seconds
 
 HERE = pathlib.Path(__file__).resolve().parent
-OURS = HERE.parent / "alphamu"
+BUILD = HERE.parent / "build"
 PROGRAM = HERE.parent / "crates" / "alphamu" / "out" / "alphamu"
 THEIRS = HERE / "build" / "search_baseline"
 TIME = "/usr/bin/time"
@@ -132,8 +132,7 @@ def main():
     runs = int(sys.argv[1]) if len(sys.argv) > 1 else 5
     THEIRS.parent.mkdir(exist_ok=True)
     subprocess.run(["g++", "-O2", "-march=x86-64-v2", "-o", THEIRS, HERE / "search_baseline.cpp"], check=True)
-    example = HERE.parent / "crates" / "alphamu" / "data"
-    output([OURS, "--job", "card", "--deal", example / "k.pbn", "--layouts", example / "k.lay", "--moves", 1])
+    subprocess.run([BUILD], check=True)
     endings = [decided(64), top_tricks(64)] + [random_ending(7, 4, 4, seed) for seed in (1, 2, 3, 9)]
     print("                                   seconds of the processor       peak memory in MiB         time, ours to C++")
     print("ending              layouts moves     ours    every   equals     ours    every   equals      every   equals  found")

@@ -1,9 +1,10 @@
 #!/usr/bin/env python3
 """cases.py [--jobs N] [--seconds N] [--only PATTERN] [PROGRAM]
 
-Runs a program, ./alphamu at the top of the repository where none is named, on each case in cases/, and compares
-standard output, standard error and exit status with what the case expects. Prints what differs. The exit status is 0
-only where all agree; cases/README.md says what a case is.
+Runs a program on each case in cases/, and compares standard output, standard error and exit status with what the case
+expects. Where no program is named it is ./alphamu at the top of the repository, which must have a proved program that
+is current: ./build makes it. Prints what differs, and the faults of the cases themselves. The exit status is 0 only
+where there is nothing to print; cases/README.md says what a case is.
 """
 import argparse
 import fnmatch
@@ -17,9 +18,14 @@ from concurrent.futures import ThreadPoolExecutor
 TOP = os.path.dirname(os.path.dirname(os.path.abspath(__file__)))
 CASES = os.path.join(TOP, "cases")
 LAUNCHER = os.path.join(TOP, "alphamu")
-EXAMPLE = os.path.join(TOP, "crates", "alphamu", "data")
+# By exit status: why the launcher would not run a proved program that is current.
+STATES = {1: "the proved program is older than its sources", 2: "there is no proved program"}
 # The files of a case that aren't input.
 OWN = ("about", "args", "fill", "stdout", "stderr", "status", "stdout_to")
+# The case that has no words, so that a lost file of words isn't taken for none.
+WITHOUT_WORDS = "no-words"
+# How many cases there are at least, so that none is lost unseen. It is raised where cases are added.
+LEAST = 173
 
 
 def bytes_of(case, name):
@@ -29,6 +35,26 @@ def bytes_of(case, name):
         return b""
     with open(path, "rb") as file:
         return file.read()
+
+
+def names_of_cases():
+    return sorted(it for it in os.listdir(CASES) if os.path.isdir(os.path.join(CASES, it)))
+
+
+def lacks_program():
+    """Why there is no proved program that is current, and the command that makes it; nothing where there is one."""
+    status = subprocess.run([os.path.join(TOP, "checks", "program_state")], check=False).returncode
+    return status and f"{STATES.get(status, 'checks/program_state failed')}: run ./build"
+
+
+def faults(case):
+    """One line for each thing that is wrong with the case itself."""
+    args = bytes_of(case, "args")
+    if not args and case != WITHOUT_WORDS:
+        return ["it has no args, and isn't the case without words"]
+    if args and not args.endswith(b"\n"):
+        return ["the last line of its args has no end"]
+    return []
 
 
 def lay_out(case, room):
@@ -42,7 +68,7 @@ def lay_out(case, room):
             file.write(b"\n" * (int(size) - file.tell()))
 
 
-def run(program, case, seconds):
+def run(program, case, seconds, env=None):
     """What the program wrote to standard output and standard error, and its exit status."""
     words = bytes_of(case, "args").split(b"\n")[:-1]
     to = bytes_of(case, "stdout_to").decode().strip()
@@ -50,47 +76,62 @@ def run(program, case, seconds):
         lay_out(case, room)
         with open(os.open(to, os.O_WRONLY), "wb") if to else tempfile.TemporaryFile() as out:
             ran = subprocess.run([os.fsencode(program), *words], cwd=room, stdin=subprocess.DEVNULL, stdout=out,
-                                 stderr=subprocess.PIPE, timeout=seconds)
+                                 stderr=subprocess.PIPE, timeout=seconds, env=env)
             if to:
                 return b"", ran.stderr, ran.returncode
             out.seek(0)
             return out.read(), ran.stderr, ran.returncode
 
 
-def differences(program, case, seconds):
-    """One line for each thing in which the program differs from the case."""
-    try:
-        found = run(program, case, seconds)
-    except subprocess.TimeoutExpired:
-        return [f"no end after {seconds} seconds"]
-    except OSError as error:
-        return [f"not run: {error}"]
-    wanted = bytes_of(case, "stdout"), bytes_of(case, "stderr"), int(bytes_of(case, "status") or 0)
+def expected(case):
+    """What the case expects, as `run` returns it."""
+    return bytes_of(case, "stdout"), bytes_of(case, "stderr"), int(bytes_of(case, "status") or 0)
+
+
+def differences(found, wanted):
+    """One line for each thing in which what came of a run differs."""
     return [f"{what}: {found[at]!r}, and not {wanted[at]!r}"
             for at, what in enumerate(("standard output", "standard error", "exit status")) if found[at] != wanted[at]]
 
 
-def main():
-    parser = argparse.ArgumentParser(description="Runs alphamu on the repository's cases.", allow_abbrev=False)
-    parser.add_argument("program", nargs="?", default=LAUNCHER)
-    parser.add_argument("--jobs", type=int, default=os.cpu_count() or 1)
-    parser.add_argument("--seconds", type=float, default=300)
-    parser.add_argument("--only", default="*", metavar="PATTERN")
-    given = parser.parse_args()
-    program = os.path.abspath(given.program)
-    if given.program == LAUNCHER:
-        # What is missing is built now, where its messages can be seen.
-        words = ["--job", "card", "--deal", f"{EXAMPLE}/k.pbn", "--layouts", f"{EXAMPLE}/k.lay", "--moves", "2"]
-        subprocess.run([program, *words], stdout=subprocess.DEVNULL, check=False)
-    cases = sorted(it for it in os.listdir(CASES) if os.path.isdir(os.path.join(CASES, it)) and fnmatch.fnmatch(it, given.only))
-    with ThreadPoolExecutor(given.jobs) as pool:
-        told = list(pool.map(lambda case: differences(program, case, given.seconds), cases))
+def judge(program, case, seconds):
+    """One line for each fault of the case, or else for each thing in which the program differs from it."""
+    try:
+        return faults(case) or differences(run(program, case, seconds), expected(case))
+    except subprocess.TimeoutExpired:
+        return [f"no end after {seconds} seconds"]
+    except OSError as error:
+        return [f"not run: {error}"]
+
+
+def report(cases, told):
+    """Prints the lines told of each case, and returns how many cases have any."""
     for case, lines in zip(cases, told):
         if lines:
             print(f"{case}: {bytes_of(case, 'about').decode().strip()}")
         for line in lines:
             print(f"    {line}")
-    failed = sum(bool(lines) for lines in told)
+    return sum(bool(lines) for lines in told)
+
+
+def main():
+    parser = argparse.ArgumentParser(description="Runs alphamu on the repository's cases.", allow_abbrev=False)
+    parser.add_argument("program", nargs="?", default=LAUNCHER)
+    parser.add_argument("--jobs", type=int, default=len(os.sched_getaffinity(0)))
+    parser.add_argument("--seconds", type=float, default=300)
+    parser.add_argument("--only", default="*", metavar="PATTERN")
+    given = parser.parse_args()
+    every = names_of_cases()
+    lacking = lacks_program() if given.program == LAUNCHER else None
+    if not lacking and len(every) < LEAST:
+        lacking = f"there are {len(every)} cases, and not {LEAST} or more"
+    if lacking:
+        print(f"cases: {lacking}")
+        return 1
+    program, cases = os.path.abspath(given.program), fnmatch.filter(every, given.only)
+    with ThreadPoolExecutor(given.jobs) as pool:
+        told = list(pool.map(lambda case: judge(program, case, given.seconds), cases))
+    failed = report(cases, told)
     print(f"cases: {len(cases) - failed} agree, {failed} differ")
     return 0 if cases and not failed else 1
 

@@ -7,8 +7,6 @@ mod answers;
 mod budget;
 mod node_search;
 mod plain;
-#[cfg(test)]
-mod tests;
 
 pub use answers::{Found, RootFault, SearchFault};
 pub use budget::Budget;

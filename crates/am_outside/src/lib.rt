@@ -21,6 +21,3 @@ pub use shelf::{Shelf, ShelfFault};
 pub use sink::{Sink, SinkFailed, write_whole};
 pub use std_sink::StdSink;
 pub use text::Text;
-
-#[cfg(test)]
-mod tests;

@@ -27,6 +27,3 @@ pub use list::list_text;
 pub use made::{MadeSummary, made_text};
 pub use reading::{ReadReport, read_report};
 pub use solve::solve_text;
-
-#[cfg(test)]
-mod tests;

@@ -305,6 +305,3 @@ fn read_end(bytes: &[u8], at: usize) -> Result<(), ReportFault>
         Some(_) => Err(fault_at(bytes, at + 4, ReportKind::End)),
     }
 }
-
-#[cfg(test)]
-mod tests;

@@ -1,22 +1,19 @@
 -- A run that is accepted, and meets no fault, is done or out of memory.
-use Rattle.std.proofs.Common.{◌≡◌, inr, ℕ, List, Option, Some, None, Result, Ok, Err, refl, sym, subst, ◌∙◌, rules, arith}
+use Rattle.std.proofs.Common.{◌≡◌, inr, ℕ, List, Option, Some, None, Result, Ok, Err, refl, sym, subst, ◌∙◌, rules}
 use Rattle.std.specs.Prelude.{IfSome, IsSomeAnd}
-use Rattle.strategy_games.proofs.Lists.{first_is_member}
-use Rattle.trick_rules.specs.Nodes.{Layouts as LayoutsNode, choices}
 use Rattle.am_outside.specs.Faults.{Rose}
 use Rattle.am_outside.specs.Shelf.{Files}
 use Rattle.job_words.specs.Asks.{AskValue}
 use Rattle.job_words.specs.Words.{words_read}
-use Rattle.root_workers.specs.Roots.{IsTooLarge, IsSpentAt, AllFit}
-use Rattle.am_top.specs.declared.status.FileWord.{FileWord}
-use Rattle.am_top.specs.declared.status.Status.{Status}
-use Rattle.am_top.specs.declared.status.Status.TheVariants.{Done, Refuted, BadWords, Unread, BadPbn, BadLayouts, NoTurn, Spent, Unwritten, Memory, TooLong, BadReport, BadMake}
-use Rattle.am_top.specs.Answers.{TaskValue, Report, NamedCard, Sample, Good, AllLayouts, Problem, answer}
-use Rattle.am_top.specs.Files.{name_of}
-use Rattle.am_top.specs.Refusals.{IsUnread}
-use Rattle.am_top.specs.Endings.{IsSpentOn, IsWithinNodes, HasNoFault, IsDoneOrMemory}
-use Rattle.am_top.specs.Reports.{made_moves}
-use Rattle.am_top.specs.Stages.{IsRefusal}
+use Rattle.am_answer.specs.declared.status.FileWord.{FileWord}
+use Rattle.am_answer.specs.declared.status.Status.{Status}
+use Rattle.am_answer.specs.declared.status.Status.TheVariants.{Done, Refuted, BadWords, Unread, BadPbn, BadLayouts, NoTurn, Spent, Unwritten, Memory, TooLong, BadReport, BadMake}
+use Rattle.am_answer.specs.Answers.{TaskValue, answer}
+use Rattle.am_answer.specs.Files.{name_of}
+use Rattle.am_answer.specs.Refusals.{IsUnread}
+use Rattle.am_answer.specs.Endings.{IsSpentOn, IsWithinNodes, HasNoFault, IsDoneOrMemory}
+use Rattle.am_answer.specs.Stages.{IsRefusal}
+use Rattle.am_answer.proofs.Endings.{not_spent}
 
 ok-err : {A : Type 0} (result : Result A Status) (value : A) (status : Status) → result ≡ Ok value → result ≡ Err status → ⊥
 ok-err result value status ok err = search (rules, sym ok ∙ err)
@@ -37,19 +34,6 @@ not_unread : (words : List (List ℕ)) (ask : AskValue) (before now : List ℕ �
 not_unread words ask before now file asked none (other, is, rose) =
     let same = some-same (words_read words) other ask is asked in
     both-not (name_of ask file) (λ name. Rose (before name) (now name)) (subst (λ a. IsSomeAnd (name_of a file) (λ name. Rose (before name) (now name))) same rose) (none file)
-
-fits-not_spent : (node : LayoutsNode) (moves nodes card : ℕ) → AllFit node moves nodes → IsSpentAt node moves nodes card → ⊥
-fits-not_spent node moves nodes card fits spent =
-    let member = first_is_member (IsTooLarge node moves nodes) (choices node) card spent in
-    omega (arith, fits card member, spent.3)
-
-not_spent : (task : TaskValue) (card : ℕ) → IsWithinNodes task → IsSpentOn task card → ⊥
-not_spent (Report root moves search) card fits spent = fits-not_spent root.kept.node moves search.nodes card fits spent
-not_spent (NamedCard root moves search) card fits spent = fits-not_spent root.kept.node moves search.nodes card fits spent
-not_spent (Sample root) card fits spent = spent
-not_spent (Good plans) card fits spent = spent
-not_spent (AllLayouts board layouts) card fits spent = spent
-not_spent (Problem number root search) card fits spent = fits-not_spent root.kept.node made_moves search.nodes card fits spent
 
 module _ (words : List (List ℕ)) (files : Files) (before now : List ℕ → ℕ) (ask : AskValue) (task : TaskValue) (asked : words_read words ≡ Some ask) (accepted : answer words files ≡ Ok task) (fits : IsWithinNodes task)
     (none : HasNoFault ask before now) where

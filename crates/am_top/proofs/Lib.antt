@@ -1,11 +1,5 @@
-pub mod Answered
 pub mod Completes
-pub mod Entries
-pub mod Files
-pub mod Judged
 pub mod MadeAccepted
-pub mod Pieces
-pub mod ReadEntries
 pub mod Reporting
 pub mod SolvedGood
 pub mod Steps

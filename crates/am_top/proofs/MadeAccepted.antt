@@ -6,9 +6,9 @@ use Rattle.job_words.specs.Asks.{Made}
 use Rattle.job_words.specs.Words.{words_read}
 use Rattle.layout_maker.specs.MadeProblem.{made_deal, made_layouts, IsAcceptedProblem}
 use Rattle.layout_maker.proofs.MadeAccepted.{accepted}
-use Rattle.am_top.specs.declared.root.Root.{Root}
-use Rattle.am_top.specs.Answers.{Problem, answer, task_in, problem_of, root_in, board_in, kept_in}
-use Rattle.am_top.specs.Files.{inputs_read, named_read}
+use Rattle.am_answer.specs.declared.root.Root.{Root}
+use Rattle.am_answer.specs.Answers.{Problem, answer, task_in, problem_of, root_in, board_in, kept_in}
+use Rattle.am_answer.specs.Files.{inputs_read, named_read}
 
 abbrev root_made : (number : ℕ) → IsAcceptedProblem number → Root
 root_made number is = record { board = is.board; kept = is.kept }

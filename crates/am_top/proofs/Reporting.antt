@@ -16,9 +16,9 @@ use Rattle.am_report.specs.Answers.{AnswerValue, EntryValue}
 use Rattle.am_report.specs.Solve.{solve_text}
 use Rattle.am_report.specs.Card.{card_text}
 use Rattle.am_report.specs.Made.{made_text}
-use Rattle.am_top.specs.declared.root.Root.{Root}
-use Rattle.am_top.specs.Answers.{Report, NamedCard, Problem}
-use Rattle.am_top.specs.Reports.{IsSolveAnswer, IsText, made_moves}
+use Rattle.am_answer.specs.declared.root.Root.{Root}
+use Rattle.am_answer.specs.Answers.{Report, NamedCard, Problem}
+use Rattle.am_answer.specs.Reports.{IsSolveAnswer, IsText, made_moves}
 
 -- ---- what is printed
 

@@ -21,10 +21,10 @@ use Rattle.am_report.specs.Solve.{solve_text}
 use Rattle.am_report.specs.Reading.{report_read}
 use Rattle.am_report.specs.ReadBack.{IsPrintableEntry, IsPrintable, printed_report}
 use Rattle.am_report.proofs.ReportReadBack.{solve_text-read}
-use Rattle.am_top.specs.declared.root.Root.{Root}
-use Rattle.am_top.specs.Judging.{entry_fault, first_fault, judged, plans_in}
-use Rattle.am_top.specs.Reports.{IsSolveAnswer}
-use Rattle.am_top.proofs.Judged.{entry_fault-verdict}
+use Rattle.am_answer.specs.declared.root.Root.{Root}
+use Rattle.am_answer.specs.Judging.{entry_fault, first_fault, judged, plans_in}
+use Rattle.am_answer.specs.Reports.{IsSolveAnswer}
+use Rattle.job_check.proofs.Judged.{entry_fault-verdict}
 use Rattle.am_top.proofs.Reporting.{plan-wins}
 
 -- ---- the card and the count

@@ -1,4 +1,4 @@
-//! What a report says, in the words of the game. A call does nothing: its contract is the law, for every root.
+//! What a report says, in the words of the game. A call does nothing: its contract is the law.
 ghost use Rattle.std.specs.Prelude.{◌≡◌, ◌≤◌, ◌<◌, ◌^◌, ℕ, List, Some, Ok, length, map, Contains};
 ghost use Rattle.win_vectors.specs.Vectors.{ones_of};
 ghost use Rattle.win_vectors.specs.Fronts.{Covers};
@@ -11,40 +11,49 @@ ghost use Rattle.job_words.specs.Asks.{Made};
 ghost use Rattle.job_words.specs.Words.{words_read};
 ghost use Rattle.am_report.specs.Answers.{AnswerValue, EntryValue};
 ghost use Rattle.am_report.specs.Solve.{solve_text};
-ghost use Rattle.am_top.specs.declared.root.Root.{Root};
-ghost use Rattle.am_top.specs.Answers.{Report, NamedCard, Problem, answer};
-ghost use Rattle.am_top.specs.Judging.{plans_in};
-ghost use Rattle.am_top.specs.Reports.{IsSolveAnswer, IsText};
+ghost use Rattle.am_answer.specs.declared.root.Root.{Root};
+ghost use Rattle.am_answer.specs.Answers.{Report, NamedCard, Problem, answer};
+ghost use Rattle.am_answer.specs.Judging.{plans_in};
+ghost use Rattle.am_answer.specs.Reports.{IsSolveAnswer, IsText};
 
-/// The plan that is printed below a vector is a strategy, and wins exactly that vector: in each layout it is made against
-/// every line of legal defence, by defenders who know the layout and the plan, or else it isn't.
+/// The plan that is printed below a vector is a strategy, and wins exactly that vector: in each
+/// layout it is made against every line of legal defence, by defenders who know the layout and the
+/// plan, or else it isn't.
 pub fn printed_plan_wins()
     ensures { (n : Layouts) (moves : ℕ) (found : AnswerValue) (entry : EntryValue) → IsNode n
         → IsSolveAnswer n moves found → Contains found.entries entry
         → Fits bridge entry.plan n moves × (wins_vector bridge entry.plan n ≡ entry.vector) }
 {}
 
-/// Every strategy with that many moves of declarer's side, followed by double dummy, wins a vector that a printed one
-/// dominates, and no more layouts than the count that is printed.
+/// Every strategy with that many moves of declarer's side, followed by double dummy, wins a vector
+/// that a printed one dominates, and no more layouts than the count that is printed.
 pub fn printed_vectors_cover()
-    ensures covers { (n : Layouts) (moves : ℕ) (found : AnswerValue) (plan : Plan ℕ) → IsSolveAnswer n moves found
-        → Fits bridge plan n moves → Covers (map (λ e. e.vector) found.entries) (wins_vector bridge plan n) }
-    ensures most { (n : Layouts) (moves : ℕ) (found : AnswerValue) (plan : Plan ℕ) → IsSolveAnswer n moves found
+    ensures covers { (n : Layouts) (moves : ℕ) (found : AnswerValue) (plan : Plan ℕ)
+        → IsSolveAnswer n moves found
+        → Fits bridge plan n moves
+        → Covers (map (λ e. e.vector) found.entries) (wins_vector bridge plan n) }
+    ensures most { (n : Layouts) (moves : ℕ) (found : AnswerValue) (plan : Plan ℕ)
+        → IsSolveAnswer n moves found
         → Fits bridge plan n moves → ones_of (wins_vector bridge plan n) ≤ found.count }
 {}
 
-/// A root and a number of moves have one report and one card, and a number one summary of its problem: no number of
-/// workers, size of the table, rule of cuts or number of nodes changes a byte.
+/// A root and a number of moves have one report and one card, and a number one summary of its
+/// problem: no number of workers, size of the table, rule of cuts or number of nodes changes a
+/// byte.
 pub fn one_text()
     ensures report { (root : Root) (moves : ℕ) (search other : Search) (text more : List ℕ)
-        → IsText (Report root moves search) text → IsText (Report root moves other) more → text ≡ more }
+        → IsText (Report root moves search) text → IsText (Report root moves other) more
+        → text ≡ more }
     ensures card { (root : Root) (moves : ℕ) (search other : Search) (text more : List ℕ)
-        → IsText (NamedCard root moves search) text → IsText (NamedCard root moves other) more → text ≡ more }
+        → IsText (NamedCard root moves search) text → IsText (NamedCard root moves other) more
+        → text ≡ more }
     ensures problem { (number : ℕ) (root : Root) (search other : Search) (text more : List ℕ)
-        → IsText (Problem number root search) text → IsText (Problem number root other) more → text ≡ more }
+        → IsText (Problem number root search) text → IsText (Problem number root other) more
+        → text ≡ more }
 {}
 
-/// Words that ask for the problem of a number are never refused: its texts are read as files are, and lead to a root.
+/// Words that ask for the problem of a number are never refused: its texts are read as files are,
+/// and lead to a root.
 pub fn made_problems_are_accepted()
     ensures { (words : List (List ℕ)) (files : Files) (number : ℕ) (search : Search)
         → words_read words ≡ Some (Made number search)
@@ -53,7 +62,8 @@ pub fn made_problems_are_accepted()
 
 /// What is written for `solve` is found good by `check`, for every root and number of moves.
 pub fn solved_reports_are_good()
-    ensures { (root : Root) (moves : ℕ) (found : AnswerValue) → IsNode root.kept.node → 1 ≤ moves → moves ≤ 26
+    ensures { (root : Root) (moves : ℕ) (found : AnswerValue) → IsNode root.kept.node → 1 ≤ moves
+        → moves ≤ 26
         → IsSolveAnswer root.kept.node moves found → length found.entries < 2 ^ 32
         → plans_in root (solve_text root.board root.kept moves found) ≡ Ok (length found.entries) }
 {}

@@ -1,46 +1,25 @@
 //! The call that the program makes.
-ghost use Rattle.std.specs.Prelude.{◌≡◌, ◌≢◌, ◌≤◌, ◌⊎◌, Ok, None, Some, IfOk, IfErr, IfSome, IsErrOf};
+ghost use Rattle.std.specs.Prelude.{◌≡◌, ◌≢◌, ◌≤◌, ◌⊎◌, Ok, None, Some, IfOk, IfErr, IfSome};
+ghost use Rattle.std.specs.Prelude.{IsErrOf};
 ghost use Rattle.std.specs.Io.KnownBytes.{append_known};
 ghost use Rattle.am_outside.specs.Faults.{Rose};
 ghost use Rattle.am_outside.specs.Sink.{AppendsPart};
 ghost use Rattle.job_words.specs.Asks.{AskValue, texts_of};
 ghost use Rattle.job_words.specs.Words.{words_read};
-ghost use Rattle.am_top.specs.Answers.{TaskValue, answer, task_in};
-ghost use Rattle.am_top.specs.Files.{AreWithin};
-ghost use Rattle.am_top.specs.Stages.{IsRefusal, IsTaskRefusal, IsTextFor};
-ghost use Rattle.am_top.specs.Lines.{line_of, IsSaid};
-ghost use Rattle.am_top.specs.Refusals.{IsUnread};
-ghost use Rattle.am_top.specs.Endings.{IsStatusFor, IsReported, IsReportedInPart, IsWithinNodes, IsDoneOrMemory, HasNoFault};
+ghost use Rattle.am_answer.specs.Answers.{TaskValue, answer};
+ghost use Rattle.am_answer.specs.Stages.{IsRefusal, IsTextFor};
+ghost use Rattle.am_line.specs.Lines.{line_of, IsSaid};
+ghost use Rattle.am_answer.specs.Refusals.{IsUnread};
+ghost use Rattle.am_answer.specs.Endings.{IsStatusFor, IsReported, IsReportedInPart, IsWithinNodes};
+ghost use Rattle.am_answer.specs.Endings.{IsDoneOrMemory, HasNoFault};
 
-use crate::inputs::{Inputs, read_inputs};
-use crate::line::refuse;
-use crate::root::{list, read_root};
-use crate::status::{FileWord, Status};
-use crate::work::{solve_made, work};
+use crate::jobs::text_in;
+use am_answer::{FileWord, Status};
+use am_inputs::read_inputs;
+use am_line::refuse;
 use am_outside::{Gate, Shelf, Sink, Text, write_whole};
 use std::alloc::Global;
 use std::thread::Threads;
-
-// The text of the job that the files lead to, or why there is none.
-#[tactic(auto, unfolding(crate::specs::Answers::task_in))]
-fn text_in<R: Threads + Sync>(rt: &R, alloc: Global, inputs: &Inputs) -> Result<Text, Status>
-    requires { AreWithin inputs.now }
-    ensures text { IfOk result (IsTextFor (task_in inputs.now)) }
-    ensures refused { IfErr result (IsTaskRefusal (task_in inputs.now)) }
-{
-    match inputs {
-        Inputs::OnLayouts {
-            deal,
-            layouts,
-            work: job,
-        } => {
-            let root = read_root(alloc, deal, layouts)?;
-            work(rt, alloc, &root, job)
-        }
-        Inputs::List { deal } => list(alloc, deal),
-        Inputs::Made { number, search } => solve_made(alloc, *number, search),
-    }
-}
 
 // The whole text of the job, or why there is none.
 fn text_for<R: Threads + Sync, S: Shelf>(
@@ -49,14 +28,18 @@ fn text_for<R: Threads + Sync, S: Shelf>(
     words: &[String],
     shelf: &mut S,
 ) -> Result<Text, Status>
-    ensures text { IfSome (S.told shelf.old) (λ files. IfOk result (IsTextFor (answer (texts_of words.now) files))) }
-    ensures refused { IfSome (S.told shelf.old) (λ files. IfErr result (IsRefusal (answer (texts_of words.now) files))) }
+    ensures text { IfSome (S.told shelf.old) (λ files.
+        IfOk result (IsTextFor (answer (texts_of words.now) files))) }
+    ensures refused { IfSome (S.told shelf.old) (λ files.
+        IfErr result (IsRefusal (answer (texts_of words.now) files))) }
     ensures bad_words { IsErrOf result Status.BadWords → words_read (texts_of words.now) ≡ None }
-    ensures only_bad_words { words_read (texts_of words.now) ≡ None → IfErr result (λ status. (status ≡ Status.BadWords) ⊎ (status ≡ Status.Memory)) }
+    ensures only_bad_words { words_read (texts_of words.now) ≡ None
+        → IfErr result (λ status. (status ≡ Status.BadWords) ⊎ (status ≡ Status.Memory)) }
     ensures asked { IfOk result (λ _. words_read (texts_of words.now) ≢ None) }
     ensures unread { (file : FileWord) → IsErrOf result (Status.Unread file)
         → IsUnread (texts_of words.now) (S.faults shelf.old) (S.faults shelf.new) file }
-    ensures nothing_written { IfErr result (λ status. (status ≢ Status.Done) × (status ≢ Status.Unwritten)) }
+    ensures nothing_written { IfErr result (λ status.
+        (status ≢ Status.Done) × (status ≢ Status.Unwritten)) }
     ensures same_files { S.told shelf.new ≡ S.told shelf.old }
 {
     match read_inputs(alloc, words, shelf) {
@@ -69,10 +52,13 @@ fn text_for<R: Threads + Sync, S: Shelf>(
 fn deliver<O: Sink, E: Sink>(text: &Text, out: &mut O, err: &mut E) -> Status
     ensures ends { (result ≡ Status.Done) ⊎ (result ≡ Status.Unwritten) }
     ensures whole { result ≡ Status.Done → O.told out.new ≡ append_known (O.told out.old) text.now }
-    ensures part { result ≡ Status.Unwritten → AppendsPart (O.told out.old) text.now (O.told out.new) }
+    ensures part { result ≡ Status.Unwritten
+        → AppendsPart (O.told out.old) text.now (O.told out.new) }
     ensures failed { result ≡ Status.Unwritten → Rose (O.faults out.old) (O.faults out.new) }
     ensures quiet { result ≡ Status.Done → err.new ≡ err.old }
-    ensures said { result ≡ Status.Unwritten → IsSaid (line_of result) (E.told err.old) (E.told err.new) (E.faults err.old) (E.faults err.new) }
+    ensures said { result ≡ Status.Unwritten
+        → IsSaid (line_of result) (E.told err.old) (E.told err.new)
+        (E.faults err.old) (E.faults err.new) }
 {
     match write_whole(out, text.bytes()) {
         Ok(()) => Status::Done,
@@ -80,12 +66,13 @@ fn deliver<O: Sink, E: Sink>(text: &Text, out: &mut O, err: &mut E) -> Status
     }
 }
 
-/// Does what the words ask for: reads the files that they name, and writes the text of the job to `out`, or a line that says
-/// why not to `err`. The words don't include the program's name.
+/// Does what the words ask for: reads the files that they name, and writes the text of the job to
+/// `out`, or a line that says why not to `err`. The words don't include the program's name.
 ///
-/// The whole text is made before its first byte is written. The first refusal ends the run, in the order: words, the deal
-/// file, the layout file, the report, the board, the layouts, whose turn it is, the report's grammar, the work of the job,
-/// the output. A step that the job doesn't need is left out.
+/// The whole text is made before its first byte is written. The first refusal ends the run, in the
+/// order: words, the deal file, the layout file, the report, the board, the layouts, whose turn it
+/// is, the report's grammar, the work of the job, the output. A step that the job doesn't need is
+/// left out.
 pub fn run<R: Threads + Sync, S: Shelf, O: Sink, E: Sink, G: Gate>(
     rt: &R,
     alloc: Global,
@@ -95,10 +82,12 @@ pub fn run<R: Threads + Sync, S: Shelf, O: Sink, E: Sink, G: Gate>(
     err: &mut E,
     _gate: &G,
 ) -> Status
-    // The bytes written are the report that the definitions give for the files read, and so is the status.
+    // The bytes written are the report that the definitions give for the files read, and so is the
+    // status.
     ensures report { IfSome (S.told shelf.old) (λ files. result ≡ Status.Done
         → IsReported (answer (texts_of words.now) files) (O.told out.old) (O.told out.new)) }
-    ensures status { IfSome (S.told shelf.old) (λ files. IsStatusFor (answer (texts_of words.now) files) result) }
+    ensures status { IfSome (S.told shelf.old) (λ files.
+        IsStatusFor (answer (texts_of words.now) files) result) }
     ensures complete { IfSome (S.told shelf.old) (λ files. (ask : AskValue) (task : TaskValue)
         → words_read (texts_of words.now) ≡ Some ask → answer (texts_of words.now) files ≡ Ok task
         → IsWithinNodes task → HasNoFault ask (S.faults shelf.old) (S.faults shelf.new)
@@ -106,7 +95,8 @@ pub fn run<R: Threads + Sync, S: Shelf, O: Sink, E: Sink, G: Gate>(
 
     // What shows each cause.
     ensures bad_words { result ≡ Status.BadWords → words_read (texts_of words.now) ≡ None }
-    ensures only_bad_words { words_read (texts_of words.now) ≡ None → (result ≡ Status.BadWords) ⊎ (result ≡ Status.Memory) }
+    ensures only_bad_words { words_read (texts_of words.now) ≡ None
+        → (result ≡ Status.BadWords) ⊎ (result ≡ Status.Memory) }
     ensures unread { (file : FileWord) → result ≡ Status.Unread file
         → IsUnread (texts_of words.now) (S.faults shelf.old) (S.faults shelf.new) file }
     ensures unwritten { result ≡ Status.Unwritten → Rose (O.faults out.old) (O.faults out.new) }
@@ -116,7 +106,9 @@ pub fn run<R: Threads + Sync, S: Shelf, O: Sink, E: Sink, G: Gate>(
     ensures part { IfSome (S.told shelf.old) (λ files. result ≡ Status.Unwritten
         → IsReportedInPart (answer (texts_of words.now) files) (O.told out.old) (O.told out.new)) }
     ensures quiet { result ≡ Status.Done → err.new ≡ err.old }
-    ensures said { (result ≢ Status.Done) → IsSaid (line_of result) (E.told err.old) (E.told err.new) (E.faults err.old) (E.faults err.new) }
+    ensures said { (result ≢ Status.Done)
+        → IsSaid (line_of result) (E.told err.old) (E.told err.new)
+        (E.faults err.old) (E.faults err.new) }
 
     ensures same_files { S.told shelf.new ≡ S.told shelf.old }
 {

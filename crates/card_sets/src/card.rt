@@ -132,20 +132,3 @@ impl Card {
         }
     }
 }
-
-#[cfg(test)]
-mod tests {
-    use super::*;
-
-    #[test]
-    fn the_places_of_known_cards(rt: HostRuntime) {
-        assert_eq!(rt; Card::new(Suit::Spades, Rank::new(2)).number(), 0);
-        assert_eq!(rt; Card::new(Suit::Spades, Rank::new(14)).number(), 12);
-        assert_eq!(rt; Card::new(Suit::Hearts, Rank::new(2)).number(), 13);
-        assert_eq!(rt; Card::new(Suit::Diamonds, Rank::new(10)).number(), 34);
-        assert_eq!(rt; Card::new(Suit::Clubs, Rank::new(14)).number(), 51);
-        let queen = Card::from_number(49);
-        assert_eq!(rt; queen.suit(), Suit::Clubs);
-        assert_eq!(rt; queen.rank().number(), 12);
-    }
-}

@@ -47,18 +47,3 @@ impl Compass {
         }
     }
 }
-
-#[cfg(test)]
-mod tests {
-    use super::*;
-
-    #[test]
-    fn play_goes_round_clockwise(rt: HostRuntime) {
-        assert_eq!(rt; Seat::Declarer.next().next(), Seat::Dummy);
-        assert_eq!(rt; Seat::Dummy.next(), Seat::Right);
-        assert_eq!(rt; Seat::Right.next(), Seat::Declarer);
-        assert_eq!(rt; Compass::N.next(), Compass::E);
-        assert_eq!(rt; Compass::S.next(), Compass::W);
-        assert_eq!(rt; Compass::W.next(), Compass::N);
-    }
-}

@@ -67,6 +67,3 @@ pub fn cut(upper: &Front, alpha: &Front) -> bool
 {
     upper.covered_by(alpha)
 }
-
-#[cfg(test)]
-mod tests;

@@ -10,8 +10,6 @@ mod order;
 mod plain;
 mod search;
 mod solver;
-#[cfg(test)]
-mod tests;
 
 pub use plain::makes_plain;
 pub use solver::Solver;

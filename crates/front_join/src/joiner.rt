@@ -140,6 +140,3 @@ fn insert_meets(
     }
     Ok(())
 }
-
-#[cfg(test)]
-mod tests;

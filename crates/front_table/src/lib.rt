@@ -5,8 +5,6 @@
 
 mod proven;
 mod store;
-#[cfg(test)]
-mod tests;
 
 pub use proven::ProvenFront;
 pub use store::{FrontStore, Look, NoStore, Put};

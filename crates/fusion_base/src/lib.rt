@@ -4,7 +4,5 @@
 #![tactic(auto)]
 
 mod table;
-#[cfg(test)]
-mod tests;
 
 pub use table::{CardVector, per_card};

@@ -13,8 +13,6 @@ mod asks;
 mod by_job;
 mod options;
 mod table;
-#[cfg(test)]
-mod tests;
 mod values;
 
 pub use asks::{Ask, LayoutsJob, Search};

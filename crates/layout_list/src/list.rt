@@ -160,6 +160,3 @@ pub fn layouts(alloc: Global, bytes: &[u8], board: &Board) -> Result<Kept, Layou
     let found = read_lines(alloc, bytes, board)?;
     keep(alloc, board, &found)
 }
-
-#[cfg(test)]
-mod tests;

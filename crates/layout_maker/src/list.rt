@@ -54,6 +54,3 @@ pub fn all_layouts(alloc: Global, board: &Board) -> Result<Vec<Defenders>, MakeF
     };
     listed(alloc, unseen, &choices)
 }
-
-#[cfg(test)]
-mod tests;

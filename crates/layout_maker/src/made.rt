@@ -142,6 +142,3 @@ pub fn made_problem(alloc: Global, number: u64) -> Result<Made, AllocError>
 pub fn made_problems_are_accepted()
     ensures { (number : ℕ) → IsAcceptedProblem number }
 {}
-
-#[cfg(test)]
-mod tests;

@@ -270,6 +270,3 @@ fn place_for(vectors: &[WinVector], vector: WinVector) -> Option<usize>
     }
     Some(vectors.len())
 }
-
-#[cfg(test)]
-mod tests;

@@ -20,6 +20,3 @@ pub use deal::{DealFault, DealValue, read_deal};
 pub use fault::{BoardFault, BoardRefusal};
 pub use read::read_board;
 pub use writing::{deal_text, hand_text};
-
-#[cfg(test)]
-mod tests;

@@ -201,6 +201,3 @@ pub fn read_board(alloc: Global, game: &Game) -> Result<Board, BoardRefusal>
     let plays = read_plays(alloc, game, &board)?;
     Ok(board.with_plays(plays))
 }
-
-#[cfg(test)]
-mod tests;

@@ -16,6 +16,3 @@ pub use blanks::{first_word, is_blank, skip_blanks};
 pub use fault::{Syntax, TextFault};
 pub use game::{Game, Tag, Token};
 pub use reading::games;
-
-#[cfg(test)]
-mod tests;

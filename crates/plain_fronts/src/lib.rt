@@ -3,10 +3,6 @@
 //! What a call gives is the front of the definition, so that a run of it computes the definitions.
 #![tactic(auto)]
 
-#[cfg(test)]
-mod endings;
 mod plain;
-#[cfg(test)]
-mod tests;
 
 pub use plain::plain_front;

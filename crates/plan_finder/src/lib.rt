@@ -5,7 +5,5 @@
 
 mod choice;
 mod finder;
-#[cfg(test)]
-mod tests;
 
 pub use finder::plan_for;

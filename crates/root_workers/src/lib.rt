@@ -4,7 +4,5 @@
 #![tactic(auto)]
 
 mod root;
-#[cfg(test)]
-mod tests;
 
 pub use root::{RootFront, root_front};

@@ -6,8 +6,6 @@
 mod fitting;
 mod inline_node;
 pub mod laws;
-#[cfg(test)]
-mod tests;
 mod verdict;
 mod winning;
 

@@ -3,19 +3,20 @@ use Rattle.std.proofs.Common.{◌≡◌, ◌++◌, ◌∙◌, ◌≤◌, ℕ, su
 use Rattle.std.proofs.lemmas.Bool.{and_parts, and_from}
 use Rattle.win_vectors.specs.Vectors.{ones_of}
 use Rattle.win_vectors.specs.Fronts.{Vector, Covers, CoversAll, IsFrontOf}
+use Rattle.win_vectors.specs.Weights.{IsMonotone}
 use Rattle.strategy_games.specs.Games.{Game, IsLawful, IsDoubleDummy, IsSettled}
 use Rattle.strategy_games.specs.Plans.{Replies, Stop, Play, Hear, NoReply, Reply, cards_of, FitEach, wins, wins_vector, CanWin, IsFront, IsBelow}
 use Rattle.strategy_games.specs.Joins.{WinsByCard, WinsByReply}
-use Rattle.strategy_games.specs.Choosing.{IsBestCount}
-use Rattle.strategy_games.specs.Laws.{HasCuts, HasMoreMoves}
+use Rattle.strategy_games.specs.Choosing.{IsBestBy}
+use Rattle.strategy_games.specs.Laws.{HasCuts, HasMoreMoves, IsEnoughBy}
 use Rattle.strategy_games.proofs.Lists.{Contains-nil}
-use Rattle.strategy_games.proofs.Vectors.{Dominates-trans}
+use Rattle.strategy_games.proofs.Vectors.{Dominates-trans, Dominates-ones}
 use Rattle.strategy_games.proofs.Fronts.{covers_set, front_grows}
 use Rattle.strategy_games.proofs.Masks.{Dominates-map}
 use Rattle.strategy_games.proofs.Wins.{wins-first, lets, wins_vector-play}
 use Rattle.strategy_games.proofs.Nodes.{front_exists, plan_exists, card_wins}
 use Rattle.strategy_games.proofs.Moves.{more_moves}
-use Rattle.strategy_games.proofs.Counts.{best_exists, best_most, counts_fall}
+use Rattle.strategy_games.proofs.Measures.{best_exists, best_most, never_rises}
 
 module _ {N S C : Type 0} (g : Game N S C) where
   -- the first of the replies, without the later ones
@@ -51,7 +52,11 @@ module _ {N S C : Type 0} (g : Game N S C) where
         (u.0, u.1, Dominates-trans u.0 (wins_vector g (Hear r.0) n) (wins_vector g (Hear rs) n) u.2 (Dominates-map (λ s. wins g (Hear r.0) s) (λ s. wins g (Hear rs) s) (g.states n) (λ s k h. r.3 s h)))
 
     pub more_moves_law : IsDoubleDummy g Sound → HasMoreMoves g Sound
-    more_moves_law double = record { vectors = more_moves g Sound law double; counts = counts_fall g Sound law double }
+    more_moves_law double = record {
+      vectors = more_moves g Sound law double;
+      best = λ measure monotone. never_rises g measure Sound law monotone double;
+      counts = never_rises g ones_of Sound law Dominates-ones double;
+    }
 
     module _ (double : IsDoubleDummy g Sound) (settled : IsSettled g Sound) where
       cards_win : (n : N) (m : ℕ) (cs : List C) (v : Vector) → Sound n → g.is_ours n ≡ true → ((c : C) → Contains cs c → Contains (g.choices n) c) → WinsByCard g n m cs v → CanWin g n (suc m) v
@@ -67,16 +72,15 @@ module _ {N S C : Type 0} (g : Game N S C) where
           let z = c y.0 y.1 in
           (z.0, a.reached z.0 z.1, Dominates-trans z.0 x.0 v (Dominates-trans z.0 y.0 x.0 z.2 y.2) x.2)) a
 
-      same_count : (n : N) (m b : ℕ) (cs : List C) (v : Vector) → Sound n → g.is_over n ≡ false → g.is_ours n ≡ true → ((c : C) → Contains cs c → Contains (g.choices n) c)
-          → WinsByCard g n m cs v → ones_of v ≡ b → IsBestCount g n m b → IsBestCount g n (suc m) b
-      same_count n m b cs v sound on ours within w is best =
+      same_best : (measure : Vector → ℕ) → IsMonotone measure → IsEnoughBy g Sound measure
+      same_best measure monotone n m b cs v sound on ours within w is best =
           let p = cards_win n m cs v sound ours within w in
-          let more = best_exists g Sound law n (suc m) sound in
-          let most : ones_of (wins_vector g p.0 n) ≤ more.0 = best_most g n (suc m) more.0 p.0 more.1 p.1 in
-          let won : ones_of (wins_vector g p.0 n) ≡ ones_of v = ap ones_of p.2 in
-          let fewer : more.0 ≤ b = counts_fall g Sound law double n m more.0 b sound more.1 best in
+          let more = best_exists g measure Sound law n (suc m) sound in
+          let most : measure (wins_vector g p.0 n) ≤ more.0 = best_most g measure monotone n (suc m) more.0 p.0 more.1 p.1 in
+          let won : measure (wins_vector g p.0 n) ≡ measure v = ap measure p.2 in
+          let fewer : more.0 ≤ b = never_rises g measure Sound law monotone double n m more.0 b sound more.1 best in
           let same : more.0 ≡ b = omega arith in
-          subst (IsBestCount g n (suc m)) same more.1
+          subst (IsBestBy g measure n (suc m)) same more.1
 
       pub cuts : HasCuts g Sound
       cuts = record {
@@ -94,5 +98,6 @@ module _ {N S C : Type 0} (g : Game N S C) where
         at_declarer = below_ours;
         at_defender = below_theirs;
         same_front = same_front;
-        same_count = same_count;
+        same_best = same_best;
+        same_count = same_best ones_of Dominates-ones;
       }

@@ -7,8 +7,9 @@ pub mod Recursion
 pub mod Nodes
 pub mod Moves
 pub mod Sizes
+pub mod Measures
 pub mod Counts
+pub mod WeightedChoice
 pub mod Cuts
 pub mod Chosen
 pub mod Faults
-pub mod FinesseLemmas

@@ -2,6 +2,7 @@
 use Rattle.std.specs.Prelude.{◌≡◌, ◌≤◌, ℕ, zero, suc, true, false, ⊤, List, ◌∷◌, ◌++◌, Contains}
 use Rattle.win_vectors.specs.Vectors.{ones_of, restrict_of}
 use Rattle.win_vectors.specs.Fronts.{Vector, Covers, IsFirstAbove}
+use Rattle.win_vectors.specs.Weights.{weight_of}
 use Rattle.strategy_games.specs.Games.{Game, mask}
 use Rattle.strategy_games.specs.Plans.{Plan, Replies, Stop, Play, Hear, NoReply, Reply, cards_of, stops, IsFront}
 
@@ -33,15 +34,37 @@ module _ {N S C : Type 0} (g : Game N S C) where
     AreChosenReplies NoReply n m u = ⊤
     AreChosenReplies (Reply c q rs) n m u = IsChosenPlan q (g.child n c) m (restrict_of u (mask g n c)) × AreChosenReplies rs n m u
 
+  -- by a measure of vectors: some vector of the node's front measures this much
+  abbrev pub HasMeasure : (Vector → ℕ) → N → ℕ → ℕ → Type 0
+  HasMeasure measure n m b = (f : List Vector) × IsFront g n m f
+      × (v : Vector) × Contains f v × (measure v ≡ b)
+
+  -- the greatest measure of a vector of the front
+  abbrev pub IsBestBy : (Vector → ℕ) → N → ℕ → ℕ → Type 0
+  IsBestBy measure n m b = HasMeasure measure n m b × ((c : ℕ) → HasMeasure measure n m c → c ≤ b)
+
+  -- the first of the choices after which the greatest measure is kept
+  abbrev pub IsNamedBy : (Vector → ℕ) → N → ℕ → C → Type 0
+  IsNamedBy measure n zero c = ⊥
+  IsNamedBy measure n (suc m) c = (b : ℕ) × IsBestBy measure n (suc m) b
+      × IsFirstOf (λ d. HasMeasure measure (g.child n d) m b) (g.choices n) c
+
   -- some vector of the node's front has this many ones
   abbrev pub HasCount : N → ℕ → ℕ → Type 0
-  HasCount n m b = (f : List Vector) × IsFront g n m f × (v : Vector) × Contains f v × (ones_of v ≡ b)
+  HasCount n m b = HasMeasure ones_of n m b
 
   -- the greatest number of layouts that one vector of the front wins
   abbrev pub IsBestCount : N → ℕ → ℕ → Type 0
-  IsBestCount n m b = HasCount n m b × ((c : ℕ) → HasCount n m c → c ≤ b)
+  IsBestCount n m b = IsBestBy ones_of n m b
 
   -- the first of the choices after which the best count is kept
   abbrev pub IsNamedCard : N → ℕ → C → Type 0
-  IsNamedCard n zero c = ⊥
-  IsNamedCard n (suc m) c = (b : ℕ) × IsBestCount n (suc m) b × IsFirstOf (λ d. HasCount (g.child n d) m b) (g.choices n) c
+  IsNamedCard n m c = IsNamedBy ones_of n m c
+
+  -- the greatest weight of the layouts that one vector of the front wins
+  abbrev pub IsBestWeight : List ℕ → N → ℕ → ℕ → Type 0
+  IsBestWeight ws n m b = IsBestBy (weight_of ws) n m b
+
+  -- the first of the choices after which the best weight is kept
+  abbrev pub IsNamedByWeight : List ℕ → N → ℕ → C → Type 0
+  IsNamedByWeight ws n m c = IsNamedBy (weight_of ws) n m c

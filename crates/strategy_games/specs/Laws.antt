@@ -1,11 +1,13 @@
 -- The laws of strategies and fronts, for any game whose rules hold at sound nodes.
-use Rattle.std.specs.Prelude.{◌≡◌, ◌⊎◌, ◌↔◌, ◌+◌, ◌<◌, ◌≤◌, ℕ, suc, Bool, true, false, List, [], ◌∷◌, ◌++◌, map, replicate, length, Contains, None, Some, sum_by}
+use Rattle.std.specs.Prelude.{◌≡◌, ◌⊎◌, ◌↔◌, ◌+◌, ◌<◌, ◌≤◌, ℕ, suc, Bool, true, false, List, [], ◌∷◌, ◌++◌, map, replicate, length, Contains, None, Some, sum, sum_by}
 use Rattle.win_vectors.specs.Vectors.{ones_of, restrict_of}
 use Rattle.win_vectors.specs.Fronts.{Vector, HaveWidth, Covers, CoversAll, IsFrontOf, IsFirstAbove, IsReduced, meets}
+use Rattle.win_vectors.specs.Weights.{weight_of, IsMonotone}
 use Rattle.strategy_games.specs.Games.{Game, mask}
 use Rattle.strategy_games.specs.Plans.{Plan, Play, stops, Fits, ends, wins_vector, IsFront, IsBelow, tree_size}
 use Rattle.strategy_games.specs.Joins.{unions, spreads, joins, AreFronts, WinsByCard, WinsByReply}
-use Rattle.strategy_games.specs.Choosing.{Keeps, IsChosenPlan, IsBestCount, IsNamedCard}
+use Rattle.strategy_games.specs.Choosing.{Keeps, IsChosenPlan, IsBestBy, IsNamedBy}
+use Rattle.strategy_games.specs.Choosing.{IsBestCount, IsNamedCard, IsBestWeight, IsNamedByWeight}
 use Rattle.strategy_games.specs.Misfits.{node_count, first_misfit}
 
 module _ {N S C : Type 0} (g : Game N S C) (Sound : N → Type 0) where
@@ -45,10 +47,16 @@ module _ {N S C : Type 0} (g : Game N S C) (Sound : N → Type 0) where
         → IsFrontOf (WinsByReply g n m cs) f → IsFront g (g.child n c) m h → IsReduced (meets f (spreads (mask g n c) h)) join → IsFrontOf (WinsByReply g n m (cs ++ c ∷ [])) join
     pub all_replies : (n : N) (m : ℕ) (f : List Vector) → Sound n → g.is_over n ≡ false → g.is_ours n ≡ false → IsFrontOf (WinsByReply g n (suc m) (g.choices n)) f → IsFront g n (suc m) f
 
-  -- with a move more no new vector is won, and the best count doesn't rise
+  -- the best by a measure doesn't rise with a move more
+  abbrev pub NeverRises : (Vector → ℕ) → Type 0
+  NeverRises measure = (n : N) (m more less : ℕ) → Sound n
+      → IsBestBy g measure n (suc m) more → IsBestBy g measure n m less → more ≤ less
+
+  -- with a move more no new vector is won, and the best by a monotone measure doesn't rise
   pub record HasMoreMoves : Type 0 where
     pub vectors : (n : N) (m : ℕ) (more less : List Vector) → Sound n → IsFront g n (suc m) more → IsFront g n m less → CoversAll less more
-    pub counts : (n : N) (m more less : ℕ) → Sound n → IsBestCount g n (suc m) more → IsBestCount g n m less → more ≤ less
+    pub best : (measure : Vector → ℕ) → IsMonotone measure → NeverRises measure
+    pub counts : NeverRises ones_of
 
   -- a vector that the front dominates has exactly one chosen plan; it is a strategy, and wins the first vector above the target
   pub record HasChosenPlan : Type 0 where
@@ -69,24 +77,68 @@ module _ {N S C : Type 0} (g : Game N S C) (Sound : N → Type 0) where
     pub declarers_child : (n : N) (m : ℕ) (c : C) → Sound n → g.is_decided n ≡ false → g.is_ours n ≡ true → Contains (g.choices n) c → tree_size g (g.child n c) m < tree_size g n (suc m)
     pub defenders_child : (n : N) (m : ℕ) (c : C) → Sound n → g.is_decided n ≡ false → g.is_ours n ≡ false → Contains (g.choices n) c → tree_size g (g.child n c) (suc m) < tree_size g n (suc m)
 
-  -- exactly one count is the best: no strategy wins more layouts, and the first vector of the front wins as many
-  pub record HasBestCount : Type 0 where
-    pub exists : (n : N) (m : ℕ) → Sound n → (b : ℕ) × IsBestCount g n m b
-    pub unique : (n : N) (m b c : ℕ) → IsBestCount g n m b → IsBestCount g n m c → b ≡ c
-    pub most : (n : N) (m b : ℕ) (p : Plan C) → IsBestCount g n m b → Fits g p n m → ones_of (wins_vector g p n) ≤ b
-    pub first : (n : N) (m : ℕ) (v : Vector) (rest : List Vector) → IsFront g n m (v ∷ rest) → IsBestCount g n m (ones_of v)
-    -- where the result is decided: no layout, or each
-    pub decided : (n : N) (m b : ℕ) → Sound n → g.is_decided n ≡ true → IsBestCount g n m b → (b ≡ 0) ⊎ (b ≡ length (g.states n))
+  -- exactly one measure is the best: no strategy wins more
+  pub record HasBestBy (measure : Vector → ℕ) : Type 0 where
+    pub exists : (n : N) (m : ℕ) → Sound n → (b : ℕ) × IsBestBy g measure n m b
+    pub unique : (n : N) (m b c : ℕ) → IsBestBy g measure n m b → IsBestBy g measure n m c → b ≡ c
+    pub most : (n : N) (m b : ℕ) (p : Plan C) → IsBestBy g measure n m b → Fits g p n m
+        → measure (wins_vector g p n) ≤ b
+    -- what measures most of the front has it
+    pub greatest : (n : N) (m : ℕ) (f : List Vector) (u : Vector) → IsFront g n m f → Contains f u
+        → ((w : Vector) → Contains f w → measure w ≤ measure u) → IsBestBy g measure n m (measure u)
+    -- where the result is decided: that of no layout, or of each
+    pub decided : (n : N) (m b : ℕ) → Sound n → g.is_decided n ≡ true → IsBestBy g measure n m b
+        → (b ≡ measure (replicate (length (g.states n)) false))
+        ⊎ (b ≡ measure (replicate (length (g.states n)) true))
 
   -- exactly one card is named where declarer's side is to play
-  pub record HasNamedCard : Type 0 where
-    pub exists : (n : N) (m : ℕ) → Sound n → g.is_over n ≡ false → g.is_ours n ≡ true → (c : C) × IsNamedCard g n (suc m) c
-    pub unique : (n : N) (m : ℕ) (c d : C) → IsNamedCard g n (suc m) c → IsNamedCard g n (suc m) d → c ≡ d
-    -- some strategy that begins with it wins the best count
-    pub wins : (n : N) (m : ℕ) (c : C) → Sound n → g.is_decided n ≡ false → g.is_ours n ≡ true → IsNamedCard g n (suc m) c
-        → (q : Plan C) × (b : ℕ) × Fits g (Play c q) n (suc m) × IsBestCount g n (suc m) b × (ones_of (wins_vector g (Play c q) n) ≡ b)
+  pub record HasNamedBy (measure : Vector → ℕ) : Type 0 where
+    pub exists : (n : N) (m : ℕ) → Sound n → g.is_over n ≡ false → g.is_ours n ≡ true
+        → (c : C) × IsNamedBy g measure n (suc m) c
+    pub unique : (n : N) (m : ℕ) (c d : C) → IsNamedBy g measure n (suc m) c
+        → IsNamedBy g measure n (suc m) d → c ≡ d
+    -- some strategy that begins with it wins the best measure
+    pub wins : (n : N) (m : ℕ) (c : C) → Sound n → g.is_decided n ≡ false → g.is_ours n ≡ true
+        → IsNamedBy g measure n (suc m) c → (q : Plan C) × (b : ℕ) × Fits g (Play c q) n (suc m)
+        × IsBestBy g measure n (suc m) b × (measure (wins_vector g (Play c q) n) ≡ b)
     -- where the result is decided it is the first of the choices
-    pub decided : (n : N) (m : ℕ) (c : C) (rest : List C) → Sound n → g.is_decided n ≡ true → g.is_ours n ≡ true → g.choices n ≡ c ∷ rest → IsNamedCard g n (suc m) c
+    pub decided : (n : N) (m : ℕ) (c : C) (rest : List C) → Sound n → g.is_decided n ≡ true
+        → g.is_ours n ≡ true → g.choices n ≡ c ∷ rest → IsNamedBy g measure n (suc m) c
+
+  -- by the count of ones: the first vector of the front has the best count
+  pub record HasBestCount : Type 0 where
+    pub by_ones : HasBestBy ones_of
+    pub open by_ones use {exists, unique, most}
+    pub first : (n : N) (m : ℕ) (v : Vector) (rest : List Vector) → IsFront g n m (v ∷ rest)
+        → IsBestCount g n m (ones_of v)
+    -- where the result is decided: no layout, or each
+    pub decided : (n : N) (m b : ℕ) → Sound n → g.is_decided n ≡ true → IsBestCount g n m b
+        → (b ≡ 0) ⊎ (b ≡ length (g.states n))
+
+  -- the card that is named by the count of ones
+  abbrev pub HasNamedCard : Type 0
+  HasNamedCard = HasNamedBy ones_of
+
+  -- by weights
+  pub record HasBestWeight : Type 0 where
+    pub best : (ws : List ℕ) → HasBestBy (weight_of ws)
+    pub named : (ws : List ℕ) → HasNamedBy (weight_of ws)
+    -- where the result is decided: nothing, or the sum of the weights
+    pub decided : (ws : List ℕ) (n : N) (m b : ℕ) → Sound n → g.is_decided n ≡ true
+        → length ws ≡ length (g.states n) → IsBestWeight g ws n m b → (b ≡ 0) ⊎ (b ≡ sum ws)
+    -- with weight 1 at each layout: the best count, and the card that is named by it
+    pub equal : (n : N) (m b : ℕ)
+        → IsBestWeight g (replicate (length (g.states n)) 1) n m b ↔ IsBestCount g n m b
+    pub equal_card : (n : N) (m : ℕ) (c : C) → Sound n → g.is_ours n ≡ true
+        → IsNamedByWeight g (replicate (length (g.states n)) 1) n m c ↔ IsNamedCard g n m c
+
+  -- some cards of declarer's side are enough for the best by a measure where one of their vectors has
+  -- the best with a move less
+  abbrev pub IsEnoughBy : (Vector → ℕ) → Type 0
+  IsEnoughBy measure = (n : N) (m b : ℕ) (cs : List C) (v : Vector) → Sound n → g.is_over n ≡ false
+      → g.is_ours n ≡ true → ((c : C) → Contains cs c → Contains (g.choices n) c)
+      → WinsByCard g n m cs v → measure v ≡ b
+      → IsBestBy g measure n m b → IsBestBy g measure n (suc m) b
 
   -- where a search may stop early
   pub record HasCuts : Type 0 where
@@ -106,9 +158,9 @@ module _ {N S C : Type 0} (g : Game N S C) (Sound : N → Type 0) where
     -- Some cards of declarer's side are enough where what they win covers the front with a move less,
     pub same_front : (n : N) (m : ℕ) (cs : List C) (f less : List Vector) → Sound n → g.is_over n ≡ false → g.is_ours n ≡ true → ((c : C) → Contains cs c → Contains (g.choices n) c)
         → IsFrontOf (WinsByCard g n m cs) f → IsFront g n m less → CoversAll f less → IsFront g n (suc m) f
-    -- and for the best count where one of their vectors has the best count with a move less.
-    pub same_count : (n : N) (m b : ℕ) (cs : List C) (v : Vector) → Sound n → g.is_over n ≡ false → g.is_ours n ≡ true → ((c : C) → Contains cs c → Contains (g.choices n) c)
-        → WinsByCard g n m cs v → ones_of v ≡ b → IsBestCount g n m b → IsBestCount g n (suc m) b
+    -- and for the best by a monotone measure where one of their vectors has the best with a move less.
+    pub same_best : (measure : Vector → ℕ) → IsMonotone measure → IsEnoughBy measure
+    pub same_count : IsEnoughBy ones_of
 
 -- by a test of equal cards: no node of a plan is at fault exactly where the plan fits, and a node at fault is one of its nodes
 pub record HasFirstMisfit {N S C : Type 0} (g : Game N S C) (same : C → C → Bool) : Type 0 where

@@ -3,9 +3,11 @@
 //! Each function's contract is a law that holds for every such game; the definitions stand in specs/.
 #![tactic(auto)]
 
-ghost use Rattle.std.specs.Prelude.{Bool, Decides, ◌≡◌};
+ghost use Rattle.std.specs.Prelude.{Bool, Decides, ◌≡◌, ℕ};
+ghost use Rattle.win_vectors.specs.Fronts.{Vector};
+ghost use Rattle.win_vectors.specs.Weights.{IsMonotone};
 ghost use Rattle.strategy_games.specs.Games.{Game, IsLawful, IsDoubleDummy, IsSettled};
-ghost use Rattle.strategy_games.specs.Laws.{EndsSomewhere, HasOneFront, HasRecursion, HasSteps, HasMoreMoves, HasChosenPlan, HasSizes, HasBestCount, HasNamedCard, HasCuts, HasFirstMisfit};
+ghost use Rattle.strategy_games.specs.Laws.{EndsSomewhere, HasOneFront, HasRecursion, HasSteps, HasMoreMoves, HasChosenPlan, HasSizes, HasBestBy, HasNamedBy, HasBestCount, HasNamedCard, HasBestWeight, HasCuts, HasFirstMisfit};
 
 /// A game of hidden layouts: a node is what everybody sees, with the layouts that are still possible.
 ///
@@ -55,7 +57,8 @@ pub fn front_steps<G: HiddenGame>()
     ensures { HasSteps G.game G.Sound }
 {}
 
-/// Each vector of the front with a move more is dominated by one with fewer, and the best count never rises with the moves.
+/// Each vector of the front with a move more is dominated by one with fewer, and the best by a
+/// monotone measure, as the best count, never rises with the moves.
 pub fn front_more_moves<G: HiddenGame>()
     ensures { HasMoreMoves G.game G.Sound }
 {}
@@ -70,6 +73,24 @@ pub fn chosen_plan_wins<G: HiddenGame>()
 /// it never falls as the moves rise, and a child's size is below its node's.
 pub fn tree_size_laws<G: HiddenGame>()
     ensures { HasSizes G.game G.Sound }
+{}
+
+/// By a measure that is monotone under dominance exactly one number is the best, and no strategy
+/// wins more.
+pub fn best_measure_is_most<G: HiddenGame>()
+    ensures { (measure : Vector → ℕ) → IsMonotone measure → HasBestBy G.game G.Sound measure }
+{}
+
+/// Where declarer's side is to play and play isn't over exactly one card is named by a monotone
+/// measure, and some strategy that begins with it wins the best.
+pub fn card_named_by_measure_wins<G: HiddenGame>()
+    ensures { (measure : Vector → ℕ) → IsMonotone measure → HasNamedBy G.game G.Sound measure }
+{}
+
+/// By any weights exactly one weight is the best and exactly one card is named; with equal weights
+/// they are the best count and the card that it names.
+pub fn best_weight_is_most<G: HiddenGame>()
+    ensures { HasBestWeight G.game G.Sound }
 {}
 
 /// No strategy wins more layouts than the best count, and the first vector of the front has that count.
@@ -93,6 +114,3 @@ pub fn cuts_hold<G: HiddenGame>()
 pub fn first_misfit_tells<G: HiddenGame>()
     ensures { HasFirstMisfit G.game G.same }
 {}
-
-#[cfg(test)]
-mod tests;

@@ -10,6 +10,3 @@ pub mod plan_text;
 
 pub use plan::{Plan, Reply};
 pub use plan_reader::{PlanFault, plan_text_reads_back, read_plan};
-
-#[cfg(test)]
-mod tests;

@@ -6,8 +6,6 @@
 pub mod laws;
 pub mod node;
 pub mod position;
-#[cfg(test)]
-mod tests;
 pub mod trick;
 pub mod trump;
 

@@ -6,3 +6,4 @@ pub mod Reduction
 mod WordBits
 mod WordVectors
 mod Masks
+pub mod WeightLemmas

@@ -133,7 +133,6 @@ same_when true false e = absurd (true≢false e)
 same_when false true e = absurd (true≢false e)
 same_when false false e = refl
 
-
 other_when : (x y : Bool) → differ x y ≡ true → x ≡ not y
 unfolding differ
 other_when true true e = absurd (false≢true e)

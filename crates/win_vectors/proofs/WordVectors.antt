@@ -422,8 +422,8 @@ Decides-lacks w us vs h k =
           rw (get_or-bits_of w us i true i_below, get_or-bits_of w vs i true i_below)
           (at_least_when (bit_of us i) (bit_of vs i) (sym (bit_of-lacks us vs i long h.fit) ∙ bit_of-no_word (lacks us vs) i none))),
       λ d. eq-eqb (fold_l bit_or 0 (lacks us vs)) 0 (all_or-zeros (lacks us vs) (λ word.
-      same_word (get_or (lacks us vs) word 0) 0 (lacks-fits us vs word long (k.fit word)) (pow_pos 64) (λ i low.
-      sym (bit_of-word (lacks us vs) word i low) ∙ none_lacking d (64 * word + i) ∙ sym (has_bit-zero i)))),
+          same_word (get_or (lacks us vs) word 0) 0 (lacks-fits us vs word long (k.fit word)) (pow_pos 64) (λ i low.
+          sym (bit_of-word (lacks us vs) word i low) ∙ none_lacking d (64 * word + i) ∙ sym (has_bit-zero i)))),
     )
 
 pub dominates-words : (w : ℕ) (us vs : List ℕ) → AreVectorWords w us → AreVectorWords w vs → (fold_l bit_or 0 (lacks us vs) == 0) ≡ dominates (bits_of w us) (bits_of w vs)
@@ -471,15 +471,17 @@ Decides-same_words us vs = pointwise_decides (λ (x y : ℕ). (eqb-true x y, eq-
 
 pub equal-words : (w v : ℕ) (us vs : List ℕ) → AreVectorWords w us → AreVectorWords v vs → bits_of w us ≡ bits_of v vs → (w ≡ v) × (us ≡ vs)
 equal-words w v us vs h k e =
-    let same = widths-same w v us vs (bits_of w us) (bits_of v vs) refl refl (ap length e) in
-    (same, same_words us vs (same_long w v us vs h k) h.fit k.fit (λ i. elim (cases_lt i w) [
-      | inl within ↦
-          let within_other : i < v = omega arith in
-          sym (get_or-bits_of w us i true within) ∙ ap (λ bs. get_or bs i true) e ∙ get_or-bits_of v vs i true within_other
-      | inr past ↦
-          let past_other : v ≤ i = omega arith in
-          h.past i past ∙ sym (k.past i past_other)
-    ]))
+    let same = widths-same w v us vs (bits_of w us) (bits_of v vs) refl refl (ap length e) in (
+      same,
+      same_words us vs (same_long w v us vs h k) h.fit k.fit (λ i. elim (cases_lt i w) [
+        | inl within ↦
+            let within_other : i < v = omega arith in
+            sym (get_or-bits_of w us i true within) ∙ ap (λ bs. get_or bs i true) e ∙ get_or-bits_of v vs i true within_other
+        | inr past ↦
+            let past_other : v ≤ i = omega arith in
+            h.past i past ∙ sym (k.past i past_other)
+      ]),
+    )
 
 -- where one vector has 1 at the first place at which two differ
 pub DifferAt-first : (w : ℕ) (us vs : List ℕ) (place : ℕ) → place < w → IsFirstDifference us vs place → bit_of us place ≡ true → DifferAt (bits_of w us) (bits_of w vs) place

@@ -2,6 +2,8 @@
 
 ghost use Rattle.win_vectors.specs.VectorLaws.{DominanceIsPartialOrder, MeetIsGreatest, PrintingOrderIsTotal, SpreadUndoesRestrict};
 ghost use Rattle.win_vectors.specs.Laws.{ReducedExists, ReducedIsUnique, ReducedListsTheBest, ReducedIsTheCover, ReducedIgnoresOrder, ReducedOfReducedPart, ReducedOfMeets, ReducedIsItsOwn};
+ghost use Rattle.win_vectors.specs.WeightLaws.{EqualWeightsCount, ReportOrderIsTotal};
+ghost use Rattle.win_vectors.specs.WeightLaws.{WeightIsMonotone};
 
 /// Dominance is a partial order.
 pub fn dominance_is_partial_order()
@@ -63,4 +65,20 @@ pub fn reduced_of_meets()
 /// A reduced list is its own reduced list.
 pub fn reduced_is_its_own()
     ensures { ReducedIsItsOwn }
+{}
+
+/// By any weights the report order is a strict total order, in which a vector stands before those
+/// that it dominates.
+pub fn report_order_is_total()
+    ensures { ReportOrderIsTotal }
+{}
+
+/// A vector weighs at least as much as those that it dominates, and counts at least as many ones.
+pub fn weight_is_monotone()
+    ensures { WeightIsMonotone }
+{}
+
+/// With equal weights the weight is the count of ones, and report order is the printing order.
+pub fn equal_weights_count()
+    ensures { EqualWeightsCount }
 {}

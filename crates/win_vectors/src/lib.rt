@@ -4,7 +4,9 @@
 #![tactic(auto)]
 
 pub mod laws;
+mod weights;
 mod win_vector;
 mod words;
 
+pub use weights::{MAX_WEIGHT, Weights};
 pub use win_vector::{MOST_LAYOUTS, WinVector};

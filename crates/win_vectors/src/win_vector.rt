@@ -8,7 +8,10 @@ ghost use Rattle.std.specs.Cmp.Rules.{comparing};
 ghost use Rattle.win_vectors.specs.Fronts.{Dominates};
 ghost use Rattle.win_vectors.specs.Vectors.{dominates as is_above, either_of, meet_of, most_layouts, ones_of, restrict_of, spread_of, vector_order};
 
-use crate::words::{WORD_PLACES, WORDS, bits_from, first_difference, ones_below, places_in, put_bits, restricted_word, spread_word, word_order, words_in_use};
+use crate::words::{
+    WORD_PLACES, WORDS, bits_from, first_difference, ones_below, places_in, put_bits,
+    restricted_word, spread_word, word_order, words_in_use,
+};
 use std::cmp::Ordering;
 use std::marker::Model;
 use std::simd::prelude::*;
@@ -277,6 +280,3 @@ impl WinVector {
         self.count() == self.width
     }
 }
-
-#[cfg(test)]
-mod tests;

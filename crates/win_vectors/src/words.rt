@@ -42,7 +42,11 @@ pub fn places_in(width: u16, word: usize) -> u16
     ensures { result ≡ (if nat_lt (64 * word + 64) width then 64 else width - 64 * word) }
 {
     let left = width - WORD_PLACES * word as u16;
-    if WORD_PLACES < left { WORD_PLACES } else { left }
+    if WORD_PLACES < left {
+        WORD_PLACES
+    } else {
+        left
+    }
 }
 
 /// The lowest place at which two words differ.

@@ -1,0 +1,129 @@
+-- What the words and the files lead to, step by step.
+use Rattle.std.specs.Prelude.{ℕ, Bool, not, ◌&&◌, List, [], ◌∷◌, Result, Ok, Err, if◌then◌else◌}
+use Rattle.am_outside.specs.Shelf.{Files}
+use Rattle.job_words.specs.declared.asks.Search.{Search}
+use Rattle.pbn_text.specs.declared.fault.Syntax.{Syntax as TextSyntax}
+use Rattle.pbn_text.specs.Games.{GameValue}
+use Rattle.pbn_text.specs.Grammar.{games_read}
+use Rattle.pbn_deal.specs.declared.fault.BoardRefusal.{BoardRefusal}
+use Rattle.pbn_deal.specs.Boards.{BoardValue}
+use Rattle.pbn_deal.specs.BoardRead.{board_read}
+use Rattle.layout_list.specs.declared.fault.LayoutFault.{LayoutFault}
+use Rattle.layout_list.specs.declared.line.Defenders.{Defenders}
+use Rattle.layout_list.specs.Kept.{KeptValue}
+use Rattle.layout_list.specs.Layouts.{layouts_read}
+use Rattle.layout_maker.specs.declared.fault.MakeFault.{MakeFault}
+use Rattle.layout_maker.specs.Divisions.{layouts_made}
+use Rattle.layout_maker.specs.MadeProblem.{made_deal, made_layouts}
+use Rattle.trick_rules.specs.Table.{to_play}
+use Rattle.trick_rules.specs.Play.{is_declarers, is_over}
+use Rattle.trick_rules.specs.Nodes.{Layouts as LayoutsNode}
+use Rattle.am_answer.specs.declared.inputs.Inputs.{Inputs}
+use Rattle.am_answer.specs.declared.inputs.Inputs.TheVariants as inputs
+use Rattle.am_answer.specs.declared.inputs.Work.{Work}
+use Rattle.am_answer.specs.declared.inputs.Work.TheVariants as works
+use Rattle.am_answer.specs.declared.root.Root.{Root}
+use Rattle.am_answer.specs.declared.status.PbnKind.TheVariants.{Syntax, NoGame}
+use Rattle.am_answer.specs.declared.status.Status.{Status}
+use Rattle.am_answer.specs.declared.status.Status.TheVariants.{BadPbn, NoTurn}
+use Rattle.am_answer.specs.Files.{inputs_read}
+use Rattle.am_answer.specs.Judging.{plans_in}
+use Rattle.am_answer.specs.Refusals.{board_status, layout_status, make_status}
+use Rattle.am_answer.specs.Steps.{◌>>=◌}
+
+-- ---- the board and the layouts
+
+-- what a board's reader gives, or the status of its refusal
+abbrev pub board_or : Result BoardValue BoardRefusal → Result BoardValue Status
+board_or (Ok board) = Ok board
+board_or (Err refusal) = Err (board_status refusal)
+
+-- the board of the first game
+abbrev pub first_board : Result (List GameValue) (ℕ × TextSyntax) → Result BoardValue Status
+first_board (Err fault) = Err (BadPbn fault.0 (Syntax fault.1))
+first_board (Ok []) = Err (BadPbn 1 NoGame)
+first_board (Ok (game ∷ later)) = board_or (board_read game)
+
+-- the board of a deal file
+unfoldable pub board_in : List ℕ → Result BoardValue Status
+board_in bytes = first_board (games_read bytes)
+
+abbrev pub kept_or : Result KeptValue LayoutFault → Result KeptValue Status
+kept_or (Ok kept) = Ok kept
+kept_or (Err fault) = Err (layout_status fault)
+
+-- the layouts of a file that the play of a board allows
+unfoldable pub kept_in : List ℕ → BoardValue → Result KeptValue Status
+kept_in bytes board = kept_or (layouts_read bytes board)
+
+-- whether the play goes on and declarer's side is to play
+abbrev pub has_choice : LayoutsNode → Bool
+has_choice node = not (is_over node.table) && is_declarers (to_play node.table)
+
+abbrev pub with_turn : Root → Result Root Status
+with_turn root = if has_choice root.kept.node then Ok root else Err NoTurn
+
+-- the board, then the layouts, then whose turn it is
+unfoldable pub root_in : List ℕ → List ℕ → Result Root Status
+root_in deal layouts = do
+  board ← board_in deal
+  kept ← kept_in layouts board
+  with_turn (record { board = board; kept = kept })
+
+-- ---- what is to be done
+
+-- a job that the words and the files lead to
+pub data TaskValue : Type 0 where
+  -- the report of a root, by so many moves and a search
+  Report : Root → ℕ → Search → TaskValue
+  -- the card to play at a root, by so many moves and a search
+  NamedCard : Root → ℕ → Search → TaskValue
+  -- what plain sampling believes at a root
+  Sample : Root → TaskValue
+  -- a report with so many plans, all of which are good
+  Good : ℕ → TaskValue
+  -- all layouts of a board
+  AllLayouts : BoardValue → List Defenders → TaskValue
+  -- the root of the problem made from a number, and a search
+  Problem : ℕ → Root → Search → TaskValue
+
+-- a job at a root
+unfoldable pub task_at : Root → Work → Result TaskValue Status
+task_at root (works.Solve moves search) = Ok (Report root moves search)
+task_at root (works.Card moves search) = Ok (NamedCard root moves search)
+task_at root works.Fusion = Ok (Sample root)
+task_at root (works.Check report) = do
+  plans ← plans_in root report
+  Ok (Good plans)
+
+abbrev pub listed_or : BoardValue → Result (List Defenders) MakeFault → Result TaskValue Status
+listed_or board (Ok layouts) = Ok (AllLayouts board layouts)
+listed_or board (Err fault) = Err (make_status fault)
+
+-- all layouts of the board of a deal file
+unfoldable pub listed_in : List ℕ → Result TaskValue Status
+listed_in deal = do
+  board ← board_in deal
+  listed_or board (layouts_made board)
+
+-- the problem made from a number: its texts are read as files are
+unfoldable pub problem_of : ℕ → Search → Result TaskValue Status
+problem_of number search = do
+  root ← root_in (made_deal number) (made_layouts number)
+  Ok (Problem number root search)
+
+-- the job that the files lead to
+unfoldable pub task_in : Inputs → Result TaskValue Status
+task_in (inputs.OnLayouts deal layouts work) = do
+  root ← root_in deal layouts
+  task_at root work
+task_in (inputs.List deal) = listed_in deal
+task_in (inputs.Made number search) = problem_of number search
+
+-- ---- the whole
+
+-- the job that the words and the files lead to, or the first refusal
+unfoldable pub answer : List (List ℕ) → Files → Result TaskValue Status
+answer words files = do
+  inputs ← inputs_read words files
+  task_in inputs

@@ -1,0 +1,86 @@
+-- The files that the words name, read one after another.
+use Rattle.std.specs.Prelude.{ℕ, ◌<◌, ◌≤◌, ◌^◌, nat_lt, List, length, Option, Some, None, Result, Ok, Err, ok_or, ⊤, if◌then◌else◌}
+use Rattle.std.specs.FinMap.{get}
+use Rattle.am_outside.specs.Shelf.{Files}
+use Rattle.job_words.specs.Asks as asks
+use Rattle.job_words.specs.Words.{words_read}
+use Rattle.am_answer.specs.declared.inputs.Work.{Work}
+use Rattle.am_answer.specs.declared.inputs.Work.TheVariants as works
+use Rattle.am_answer.specs.declared.inputs.Inputs.{Inputs}
+use Rattle.am_answer.specs.declared.inputs.Inputs.TheVariants as inputs
+use Rattle.am_answer.specs.declared.status.FileWord.{FileWord}
+use Rattle.am_answer.specs.declared.status.FileWord.TheVariants.{Deal, Layouts, Report}
+use Rattle.am_answer.specs.declared.status.Status.{Status}
+use Rattle.am_answer.specs.declared.status.Status.TheVariants.{BadWords, Unread, TooLong}
+use Rattle.am_answer.specs.Steps.{◌>>=◌}
+
+-- the most bytes that a file may have
+abbrev pub limit_of : FileWord → ℕ
+limit_of Deal = 1048576
+limit_of Layouts = 1048576
+limit_of Report = 16777216
+
+abbrev pub within_limit : FileWord → Option (List ℕ) → Result (List ℕ) Status
+within_limit file None = Err (Unread file)
+within_limit file (Some bytes) = if nat_lt (limit_of file) (length bytes) then Err (TooLong file) else Ok bytes
+
+-- the bytes of a file of that name
+unfoldable pub file_read : Files → FileWord → List ℕ → Result (List ℕ) Status
+file_read files file name = within_limit file (get files name)
+
+-- a job on layouts, with the bytes of the report that it judges
+unfoldable pub work_read : Files → asks.JobValue → Result Work Status
+work_read files (asks.Solve moves search) = Ok (works.Solve moves search)
+work_read files (asks.Card moves search) = Ok (works.Card moves search)
+work_read files asks.Fusion = Ok works.Fusion
+work_read files (asks.Check name) = do
+  report ← file_read files Report name
+  Ok (works.Check report)
+
+-- what the words ask for, with the bytes of the files that they name: the deal, then the layouts, then the report
+unfoldable pub named_read : Files → asks.AskValue → Result Inputs Status
+named_read files (asks.OnLayouts deal layouts job) = do
+  deal ← file_read files Deal deal
+  layouts ← file_read files Layouts layouts
+  work ← work_read files job
+  Ok (inputs.OnLayouts deal layouts work)
+named_read files (asks.ListOf name) = do
+  deal ← file_read files Deal name
+  Ok (inputs.List deal)
+named_read files (asks.Made number search) = Ok (inputs.Made number search)
+
+-- the words, then the files
+unfoldable pub inputs_read : List (List ℕ) → Files → Result Inputs Status
+inputs_read words files = do
+  ask ← ok_or (words_read words) BadWords
+  named_read files ask
+
+-- ---- the names of files
+
+-- the report that a job names
+abbrev pub report_of : asks.JobValue → Option (List ℕ)
+report_of (asks.Check name) = Some name
+report_of _ = None
+
+-- the name that the words give a file
+abbrev pub name_of : asks.AskValue → FileWord → Option (List ℕ)
+name_of (asks.OnLayouts deal layouts job) Deal = Some deal
+name_of (asks.OnLayouts deal layouts job) Layouts = Some layouts
+name_of (asks.OnLayouts deal layouts job) Report = report_of job
+name_of (asks.ListOf deal) Deal = Some deal
+name_of _ _ = None
+
+-- ---- what is read keeps limits
+
+-- a search keeps to the moves that it may have, and a report to its limit
+abbrev pub IsWithin : Work → Type 0
+IsWithin (works.Solve moves search) = asks.IsMoves moves
+IsWithin (works.Card moves search) = asks.IsMoves moves
+IsWithin works.Fusion = ⊤
+IsWithin (works.Check report) = length report ≤ limit_of Report
+
+-- each file keeps to its limit
+abbrev pub AreWithin : Inputs → Type 0
+AreWithin (inputs.OnLayouts deal layouts work) = (length deal ≤ limit_of Deal) × (length layouts ≤ limit_of Layouts) × IsWithin work
+AreWithin (inputs.List deal) = length deal ≤ limit_of Deal
+AreWithin (inputs.Made number search) = number < 2 ^ 64

@@ -1,0 +1,71 @@
+-- A report that is judged: its head, then each plan with its vector.
+use Rattle.std.specs.Prelude.{ℕ, ◌+◌, ◌==◌, List, [], ◌∷◌, length, Option, None, Some, Result, Ok, Err, bytes_eq, if◌then◌else◌}
+use Rattle.win_vectors.specs.Fronts.{Vector}
+use Rattle.trick_rules.specs.Nodes.{Layouts}
+use Rattle.strategy_games.specs.Plans.{wins_vector}
+use Rattle.strategy_games.specs.Misfits.{first_misfit}
+use Rattle.strategy_tree.specs.Bridge.{bridge}
+use Rattle.am_report.specs.declared.fault.ReportKind.{ReportKind}
+use Rattle.am_report.specs.Answers.{EntryValue}
+use Rattle.am_report.specs.Head.{head_text}
+use Rattle.am_report.specs.Reading.{ReportValue, report_read}
+use Rattle.am_answer.specs.declared.root.Root.{Root}
+use Rattle.am_answer.specs.declared.status.Place.{Place}
+use Rattle.am_answer.specs.declared.status.Place.TheVariants.{Head, Width, Node, Layout}
+use Rattle.am_answer.specs.declared.status.Status.{Status}
+use Rattle.am_answer.specs.declared.status.Status.TheVariants.{BadReport, Refuted}
+use Rattle.am_answer.specs.Steps.{◌>>=◌}
+
+-- the first layout, counted from this number, where two vectors differ, with the first vector's bit
+abbrev pub first_difference : ℕ → Vector → Vector → Option Place
+first_difference number (own ∷ rest) (given ∷ others) =
+    if own then (if given then first_difference (number + 1) rest others else Some (Layout number own))
+    else if given then Some (Layout number own) else first_difference (number + 1) rest others
+first_difference number _ _ = None
+
+-- the first node of the plan that doesn't fit; where it is a strategy, the first layout that it wins and the vector
+-- doesn't, or the other way round
+abbrev pub plan_fault : Option ℕ → Vector → Vector → Option Place
+plan_fault (Some node) won vector = Some (Node node)
+plan_fault None won vector = first_difference 1 won vector
+
+-- a vector that isn't as wide as there are kept layouts, or a fault of its plan
+unfoldable pub entry_fault : Layouts → ℕ → EntryValue → Option Place
+entry_fault node moves entry =
+    if length entry.vector == length node.lefts
+    then plan_fault (first_misfit bridge ◌==◌ entry.plan node moves) (wins_vector bridge entry.plan node) entry.vector
+    else Some Width
+
+-- what is found at this plan, or else at the later ones
+abbrev pub or_later : ℕ → Option Place → Option (ℕ × Place) → Option (ℕ × Place)
+or_later number None later = later
+or_later number (Some place) later = Some (number, place)
+
+-- the first plan at fault, counted from this number, and where
+abbrev pub first_fault : Layouts → ℕ → ℕ → List EntryValue → Option (ℕ × Place)
+first_fault node moves number [] = None
+first_fault node moves number (entry ∷ entries) =
+    or_later number (entry_fault node moves entry) (first_fault node moves (number + 1) entries)
+
+-- so many plans, where none is at fault
+abbrev pub unless_fault : ℕ → Option (ℕ × Place) → Result ℕ Status
+unless_fault plans None = Ok plans
+unless_fault plans (Some found) = Err (Refuted found.0 found.1)
+
+-- the number of plans of a report on these layouts, where its head is that of the files and each plan wins its vector
+unfoldable pub judged : Root → ReportValue → Result ℕ Status
+judged root report =
+    if bytes_eq report.head (head_text root.board root.kept report.moves)
+    then unless_fault (length report.entries) (first_fault root.kept.node report.moves 1 report.entries)
+    else Err (Refuted 0 Head)
+
+-- a report that was read, or the status of its fault
+abbrev pub report_or : Result ReportValue (ℕ × ReportKind) → Result ReportValue Status
+report_or (Ok report) = Ok report
+report_or (Err fault) = Err (BadReport fault.0 fault.1)
+
+-- the number of plans of a report, all of which are good
+unfoldable pub plans_in : Root → List ℕ → Result ℕ Status
+plans_in root bytes = do
+  report ← report_or (report_read bytes)
+  judged root report

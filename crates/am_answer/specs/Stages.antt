@@ -1,0 +1,59 @@
+-- How each stage of a run may end without its result: reading the words and the files, understanding them, and the work.
+use Rattle.std.specs.Prelude.{◌≡◌, ⊤, ℕ, List, Result, Ok, Err}
+use Rattle.am_answer.specs.declared.status.Status.{Status}
+use Rattle.am_answer.specs.declared.status.Status.TheVariants.{Done, BadWords, Unread, Spent, Unwritten, Memory, TooLong}
+use Rattle.am_answer.specs.Answers.{TaskValue}
+use Rattle.am_answer.specs.Reports.{IsText}
+use Rattle.am_answer.specs.Endings.{IsSpentOn, IsWithinNodes}
+
+-- a status of reading a file
+abbrev pub IsOfFiles : Status → Type 0
+IsOfFiles (Unread file) = ⊤
+IsOfFiles Memory = ⊤
+IsOfFiles (TooLong file) = ⊤
+IsOfFiles _ = ⊥
+
+-- a status of reading the words and the files
+abbrev pub IsOfReading : Status → Type 0
+IsOfReading BadWords = ⊤
+IsOfReading status = IsOfFiles status
+
+-- the words or a file that is too long, or else a file that couldn't be read, or no memory
+abbrev pub IsReadRefusal : {A : Type 0} → Result A Status → Status → Type 0
+IsReadRefusal expected BadWords = expected ≡ Err BadWords
+IsReadRefusal expected (Unread file) = ⊤
+IsReadRefusal expected Memory = ⊤
+IsReadRefusal expected (TooLong file) = expected ≡ Err (TooLong file)
+IsReadRefusal expected _ = ⊥
+
+-- what the files say, or else no memory
+abbrev pub IsFileRefusal : {A : Type 0} → Result A Status → Status → Type 0
+IsFileRefusal expected Done = ⊥
+IsFileRefusal expected BadWords = ⊥
+IsFileRefusal expected (Unread file) = ⊥
+IsFileRefusal expected (Spent card) = ⊥
+IsFileRefusal expected Unwritten = ⊥
+IsFileRefusal expected Memory = ⊤
+IsFileRefusal expected (TooLong file) = ⊥
+IsFileRefusal expected status = expected ≡ Err status
+
+-- what the files say, or a search that is too large, or else no memory
+abbrev pub IsTaskRefusal : Result TaskValue Status → Status → Type 0
+IsTaskRefusal answer (Spent card) = (task : TaskValue) × (answer ≡ Ok task) × IsSpentOn task card
+IsTaskRefusal answer status = IsFileRefusal answer status
+
+-- the answer is a job without too large a search, and this is its text
+pub record IsTextFor (answer : Result TaskValue Status) (text : List ℕ) : Type 0 where
+  pub task : TaskValue
+  pub accepted : answer ≡ Ok task
+  pub is_text : IsText task text
+  pub fits : IsWithinNodes task
+
+-- the status of a run that wrote nothing
+abbrev pub IsRefusal : Result TaskValue Status → Status → Type 0
+IsRefusal answer Done = ⊥
+IsRefusal answer (Unread file) = ⊤
+IsRefusal answer (Spent card) = (task : TaskValue) × (answer ≡ Ok task) × IsSpentOn task card
+IsRefusal answer Unwritten = ⊥
+IsRefusal answer Memory = ⊤
+IsRefusal answer status = answer ≡ Err status

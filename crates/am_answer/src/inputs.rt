@@ -1,0 +1,36 @@
+//! What the words ask for, once the files that they name are read.
+use am_outside::Text;
+use job_words::Search;
+
+/// A job on layouts, with the report that it judges.
+#[derive(Drop)]
+pub enum Work {
+    /// The report of the root, by so many moves of declarer's side.
+    Solve { moves: u8, search: Search },
+    /// The card to play, by so many moves of declarer's side.
+    Card { moves: u8, search: Search },
+    /// What plain sampling believes of each card.
+    Fusion,
+    /// Whether each plan of the report wins exactly its vector.
+    Check { report: Text },
+}
+
+/// What the words ask for, with the files that they name.
+#[derive(Drop)]
+pub enum Inputs {
+    /// A job on a deal and its layouts.
+    OnLayouts {
+        deal: Text,
+        layouts: Text,
+        work: Work,
+    },
+    /// All layouts of a deal.
+    List {
+        deal: Text,
+    },
+    /// The problem made from a number, solved.
+    Made {
+        number: u64,
+        search: Search,
+    },
+}

@@ -1,0 +1,152 @@
+//! The words, and the files that they name.
+ghost use Rattle.std.specs.Prelude.{◌≡◌, ◌≢◌, ◌≤◌, ◌⊎◌, ℕ, List, Ok, Err, Some, None, length, IfOk};
+ghost use Rattle.std.specs.Prelude.{IfErr, IfSome, IsErrOf, IsSomeAnd};
+ghost use Rattle.am_outside.specs.Faults.{Rose};
+ghost use Rattle.job_words.specs.Asks.{ask_of, job_of, texts_of, IsWithinLimits, IsJobWithinLimits};
+ghost use Rattle.job_words.specs.Words.{words_read};
+ghost use Rattle.am_answer.specs.Files.{file_read, inputs_read, limit_of, name_of, named_read};
+ghost use Rattle.am_answer.specs.Files.{report_of, work_read, AreWithin, IsWithin};
+ghost use Rattle.am_answer.specs.Refusals.{IsUnread};
+ghost use Rattle.am_answer.specs.Stages.{IsOfFiles, IsOfReading, IsReadRefusal};
+
+use am_answer::{FileWord, Inputs, Status, Work};
+use am_outside::{Shelf, ShelfFault, Text};
+use job_words::{Ask, LayoutsJob, read_words};
+use std::alloc::Global;
+
+// The most bytes that a file may have.
+fn limit_of(file: FileWord) -> u64
+    ensures { result ≡ limit_of file }
+{
+    match file {
+        FileWord::Deal | FileWord::Layouts => 1_048_576,
+        FileWord::Report => 16_777_216,
+    }
+}
+
+// The bytes of a file.
+#[tactic(auto, unfolding(am_answer::specs::Files::file_read))]
+fn read_file<S: Shelf>(
+    alloc: Global,
+    shelf: &mut S,
+    file: FileWord,
+    name: &str,
+) -> Result<Text, Status>
+    ensures within { IfOk result (λ text. length text ≤ limit_of file) }
+    ensures read { IfSome (S.told shelf.old) (λ files.
+        IfOk result (λ text. file_read files file name.now ≡ Ok text)) }
+    ensures refused { IfSome (S.told shelf.old) (λ files.
+        IfErr result (IsReadRefusal (file_read files file name.now))) }
+    ensures only { IfErr result IsOfFiles }
+    ensures unread { (other : FileWord) → IsErrOf result (Status.Unread other)
+        → (other ≡ file) × Rose (S.faults shelf.old name.now) (S.faults shelf.new name.now) }
+    ensures never_falls { (other : List ℕ) → S.faults shelf.old other ≤ S.faults shelf.new other }
+    ensures same_files { S.told shelf.new ≡ S.told shelf.old }
+{
+    match shelf.read(alloc, name, limit_of(file)) {
+        Ok(text) => Ok(text),
+        Err(ShelfFault::Failed) => Err(Status::Unread(file)),
+        Err(ShelfFault::TooLong) => Err(Status::TooLong(file)),
+        Err(ShelfFault::Memory) => Err(Status::Memory),
+    }
+}
+
+// What a job on layouts is to do, with the report where it judges one.
+#[tactic(auto, unfolding(am_answer::specs::Files::work_read))]
+fn read_work<S: Shelf>(alloc: Global, shelf: &mut S, job: LayoutsJob<'_>) -> Result<Work, Status>
+    requires { IsJobWithinLimits (job_of job) }
+    ensures within { IfOk result IsWithin }
+    ensures read { IfSome (S.told shelf.old) (λ files.
+        IfOk result (λ work. work_read files (job_of job.entry) ≡ Ok work)) }
+    ensures refused { IfSome (S.told shelf.old) (λ files.
+        IfErr result (IsReadRefusal (work_read files (job_of job.entry)))) }
+    ensures only { IfErr result IsOfFiles }
+    ensures unread { (file : FileWord) → IsErrOf result (Status.Unread file)
+        → (file ≡ FileWord.Report)
+        × IsSomeAnd (report_of (job_of job.entry)) (λ name.
+        Rose (S.faults shelf.old name) (S.faults shelf.new name)) }
+    ensures never_falls { (other : List ℕ) → S.faults shelf.old other ≤ S.faults shelf.new other }
+    ensures same_files { S.told shelf.new ≡ S.told shelf.old }
+{
+    match job {
+        LayoutsJob::Solve { moves, search } => Ok(Work::Solve { moves, search }),
+        LayoutsJob::Card { moves, search } => Ok(Work::Card { moves, search }),
+        LayoutsJob::Fusion => Ok(Work::Fusion),
+        LayoutsJob::Check { report } => {
+            let report = read_file(alloc, shelf, FileWord::Report, report)?;
+            Ok(Work::Check { report })
+        }
+    }
+}
+
+// The files that an ask names: the deal, then the layouts, then the report.
+#[tactic(auto, unfolding(am_answer::specs::Files::named_read))]
+fn read_named<S: Shelf>(alloc: Global, shelf: &mut S, ask: Ask<'_>) -> Result<Inputs, Status>
+    requires { IsWithinLimits (ask_of ask) }
+    ensures within { IfOk result AreWithin }
+    ensures read { IfSome (S.told shelf.old) (λ files.
+        IfOk result (λ inputs. named_read files (ask_of ask.entry) ≡ Ok inputs)) }
+    ensures refused { IfSome (S.told shelf.old) (λ files.
+        IfErr result (IsReadRefusal (named_read files (ask_of ask.entry)))) }
+    ensures only { IfErr result IsOfFiles }
+    ensures unread { (file : FileWord) → IsErrOf result (Status.Unread file)
+        → IsSomeAnd (name_of (ask_of ask.entry) file) (λ name.
+        Rose (S.faults shelf.old name) (S.faults shelf.new name)) }
+    ensures same_files { S.told shelf.new ≡ S.told shelf.old }
+{
+    match ask {
+        Ask::OnLayouts { deal, layouts, job } => {
+            let deal = read_file(alloc, shelf, FileWord::Deal, deal)?;
+            let layouts = read_file(alloc, shelf, FileWord::Layouts, layouts)?;
+            let work = read_work(alloc, shelf, job)?;
+            Ok(Inputs::OnLayouts {
+                deal,
+                layouts,
+                work,
+            })
+        }
+        Ask::List { deal } => {
+            let deal = read_file(alloc, shelf, FileWord::Deal, deal)?;
+            Ok(Inputs::List { deal })
+        }
+        Ask::Made { number, search } => Ok(Inputs::Made { number, search }),
+    }
+}
+
+// What the words ask for.
+fn read_ask(alloc: Global, words: &[String]) -> Result<Ask<'_>, Status>
+    ensures ask { IfOk result (λ ask. words_read (texts_of words.now) ≡ Some (ask_of ask)) }
+    ensures limits { IfOk result (λ ask. IsWithinLimits (ask_of ask)) }
+    ensures refused { IfErr result (λ status. (status ≡ Status.Memory)
+        ⊎ ((status ≡ Status.BadWords) × (words_read (texts_of words.now) ≡ None))) }
+{
+    match read_words(alloc, words)? {
+        Some(ask) => Ok(ask),
+        None => Err(Status::BadWords),
+    }
+}
+
+/// Reads the words, then the files that they name: the deal, then the layouts, then the report.
+#[tactic(auto, unfolding(am_answer::specs::Files::inputs_read))]
+pub fn read_inputs<S: Shelf>(
+    alloc: Global,
+    words: &[String],
+    shelf: &mut S,
+) -> Result<Inputs, Status>
+    ensures asked { IfOk result (λ _. words_read (texts_of words.now) ≢ None) }
+    ensures within { IfOk result AreWithin }
+    ensures read { IfSome (S.told shelf.old) (λ files.
+        IfOk result (λ inputs. inputs_read (texts_of words.now) files ≡ Ok inputs)) }
+    ensures refused { IfSome (S.told shelf.old) (λ files.
+        IfErr result (IsReadRefusal (inputs_read (texts_of words.now) files))) }
+    ensures bad_words { IsErrOf result Status.BadWords → words_read (texts_of words.now) ≡ None }
+    ensures only_bad_words { words_read (texts_of words.now) ≡ None
+        → IfErr result (λ status. (status ≡ Status.BadWords) ⊎ (status ≡ Status.Memory)) }
+    ensures only { IfErr result IsOfReading }
+    ensures unread { (file : FileWord) → IsErrOf result (Status.Unread file)
+        → IsUnread (texts_of words.now) (S.faults shelf.old) (S.faults shelf.new) file }
+    ensures same_files { S.told shelf.new ≡ S.told shelf.old }
+{
+    let ask = read_ask(alloc, words)?;
+    read_named(alloc, shelf, ask)
+}

@@ -1,0 +1,74 @@
+-- The line to standard error that says why a run was refused.
+use Rattle.std.specs.Prelude.{◌≡◌, ◌⊎◌, ℕ, if◌then◌else◌, List, [], ◌∷◌, Option, Result, Ok, Err, codes}
+use Rattle.std.specs.Io.KnownBytes.{append_known}
+use Rattle.am_outside.specs.Faults.{Rose}
+use Rattle.am_outside.specs.Sink.{AppendsPart}
+use Rattle.am_outside.specs.declared.sink.SinkFailed.{SinkFailed}
+use Rattle.std.specs.List.{concat}
+use Rattle.std.specs.Fmt.{decimal}
+use Rattle.card_letters.specs.Letters.{card_text}
+use Rattle.layout_list.specs.declared.fault.LayoutFault as layouts
+use Rattle.layout_maker.specs.declared.fault.MakeFault as make
+use Rattle.am_answer.specs.declared.status.Place as place
+use Rattle.am_answer.specs.declared.status.Status.{Status}
+use Rattle.am_answer.specs.declared.status.Status.TheVariants.{Done, Refuted, BadWords, Unread, BadPbn, BadLayouts, NoTurn, Spent, Unwritten, Memory, TooLong, BadReport, BadMake}
+use Rattle.am_line.specs.Names.{file_name, deal_name, kind_name, report_name}
+
+-- pieces of a line, one after another
+abbrev pub joined : List (List ℕ) → List ℕ
+joined pieces = concat pieces
+
+-- the layout file and why it is refused
+abbrev pub layouts_line : layouts.LayoutFault → List (List ℕ)
+layouts_line (layouts.TheVariants.BadLine line fault) = codes "alphamu: layouts line " ∷ decimal line ∷ codes ": BadLine " ∷ deal_name fault ∷ codes "\n" ∷ []
+layouts_line (layouts.TheVariants.OtherHands line) = codes "alphamu: layouts line " ∷ decimal line ∷ codes ": OtherHands\n" ∷ []
+layouts_line (layouts.TheVariants.TooMany line) = codes "alphamu: layouts line " ∷ decimal line ∷ codes ": TooMany\n" ∷ []
+layouts_line layouts.TheVariants.NoneLeft = codes "alphamu: layouts: NoneLeft\n" ∷ []
+layouts_line layouts.TheVariants.Memory = codes "alphamu: out of memory\n" ∷ []
+
+-- the root card whose tree is too large
+abbrev pub spent_line : ℕ → List (List ℕ)
+spent_line card = codes "alphamu: nodes spent at " ∷ card_text card ∷ codes "\n" ∷ []
+
+-- the plan of a report that is at fault, by its number, and where
+abbrev pub refuted_line : ℕ → place.Place → List (List ℕ)
+refuted_line plan place.TheVariants.Head = codes "alphamu: plan " ∷ decimal plan ∷ codes ": head differs\n" ∷ []
+refuted_line plan place.TheVariants.Width = codes "alphamu: plan " ∷ decimal plan ∷ codes ": width differs\n" ∷ []
+refuted_line plan (place.TheVariants.Node node) = codes "alphamu: plan " ∷ decimal plan ∷ codes ": not a strategy at node " ∷ decimal node ∷ codes "\n" ∷ []
+refuted_line plan (place.TheVariants.Layout layout bit) = codes "alphamu: plan " ∷ decimal plan ∷ codes ": layout " ∷ decimal layout ∷ (if bit then codes " is 1\n" else codes " is 0\n") ∷ []
+
+-- how many layouts fit, where they aren't listed
+abbrev pub make_line : make.MakeFault → List (List ℕ)
+make_line (make.TheVariants.MoreThan64 count) = codes "alphamu: " ∷ decimal count ∷ codes " layouts fit\n" ∷ []
+make_line make.TheVariants.NoneFit = codes "alphamu: 0 layouts fit\n" ∷ []
+make_line make.TheVariants.NotShown = codes "alphamu: defenders not shown\n" ∷ []
+make_line make.TheVariants.Memory = codes "alphamu: out of memory\n" ∷ []
+
+-- what is written to standard error, piece by piece; nothing where the run is done
+abbrev pub pieces_of : Status → List (List ℕ)
+pieces_of Done = []
+pieces_of (Refuted plan place) = refuted_line plan place
+pieces_of BadWords = codes "alphamu: usage: --job JOB [OPTIONS]\n" ∷ []
+pieces_of (Unread file) = codes "alphamu: cannot read " ∷ file_name file ∷ codes "\n" ∷ []
+pieces_of (BadPbn line kind) = codes "alphamu: deal line " ∷ decimal line ∷ codes ": " ∷ kind_name kind ∷ codes "\n" ∷ []
+pieces_of (BadLayouts fault) = layouts_line fault
+pieces_of NoTurn = codes "alphamu: no card to choose\n" ∷ []
+pieces_of (Spent card) = spent_line card
+pieces_of Unwritten = codes "alphamu: cannot write\n" ∷ []
+pieces_of Memory = codes "alphamu: out of memory\n" ∷ []
+pieces_of (TooLong file) = codes "alphamu: " ∷ file_name file ∷ codes " too long\n" ∷ []
+pieces_of (BadReport line kind) = codes "alphamu: report line " ∷ decimal line ∷ codes ": " ∷ report_name kind ∷ codes "\n" ∷ []
+pieces_of (BadMake fault) = make_line fault
+
+-- the line of a status
+unfoldable pub line_of : Status → List ℕ
+line_of status = joined (pieces_of status)
+
+-- the whole text came after what was told before; or, where a write failed, a proper prefix of it
+abbrev pub IsWritten : Option (List ℕ) → List ℕ → Option (List ℕ) → Result (Unit {0}) SinkFailed → Type 0
+IsWritten before text now (Ok done) = now ≡ append_known before text
+IsWritten before text now (Err failed) = AppendsPart before text now
+
+-- the whole line came after what was told before, or a fault came in between and a proper prefix of it was written
+abbrev pub IsSaid : List ℕ → Option (List ℕ) → Option (List ℕ) → ℕ → ℕ → Type 0
+IsSaid line before now faults_before faults_now = (now ≡ append_known before line) ⊎ (Rose faults_before faults_now × AppendsPart before line now)

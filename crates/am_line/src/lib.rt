@@ -1,0 +1,9 @@
+//! The one line to standard error that says why a run was refused.
+//! It stands on `am_answer` for the statuses, and on itoa for digits that take no memory.
+//! Its contract promises the whole line, or a proper prefix of it where writing fails.
+#![tactic(auto)]
+
+mod line;
+mod names;
+
+pub use line::refuse;

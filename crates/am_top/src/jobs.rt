@@ -1,0 +1,76 @@
+//! The work of each job, by what was read.
+ghost use Rattle.std.specs.Prelude.{◌≡◌, ◌<◌, ◌-◌, ◌^◌, true, length, IfOk, IfErr};
+ghost use Rattle.am_answer.specs.Answers.{has_choice, listed_in, problem_of, task_at, task_in};
+ghost use Rattle.am_answer.specs.Files.{AreWithin, IsWithin};
+ghost use Rattle.am_answer.specs.Stages.{IsFileRefusal, IsTaskRefusal, IsTextFor};
+
+use am_answer::{Inputs, Root, Status, Work};
+use am_inputs::{read_deal, read_root};
+use am_outside::Text;
+use job_check::check_report;
+use job_fusion::sample_text;
+use job_list::list_layouts;
+use job_search::{name_card, solve, summarize};
+use job_words::Search;
+use layout_maker::made_problem;
+use std::alloc::Global;
+use std::thread::Threads;
+
+// The text of a job at a root, or why there is none.
+#[tactic(auto, unfolding(am_answer::specs::Answers::task_at))]
+fn work<R: Threads + Sync>(rt: &R, alloc: Global, root: &Root, work: &Work) -> Result<Text, Status>
+    requires turn { has_choice root.now.kept.node ≡ true }
+    requires within { IsWithin work.now }
+    ensures text { IfOk result (IsTextFor (task_at root.now work.now)) }
+    ensures refused { IfErr result (IsTaskRefusal (task_at root.now work.now)) }
+{
+    match work {
+        Work::Solve { moves, search } => solve(alloc, root, *moves, search),
+        Work::Card { moves, search } => name_card(alloc, root, *moves, search),
+        Work::Fusion => Ok(sample_text(rt, alloc, root)?),
+        Work::Check { report } => check_report(alloc, root, report),
+    }
+}
+
+// All layouts of the board of a deal file, as a layout file.
+#[tactic(auto, unfolding(am_answer::specs::Answers::listed_in))]
+fn list(alloc: Global, deal: &Text) -> Result<Text, Status>
+    requires { length deal.now < 2 ^ 32 - 1 }
+    ensures text { IfOk result (IsTextFor (listed_in deal.now)) }
+    ensures refused { IfErr result (IsFileRefusal (listed_in deal.now)) }
+{
+    let board = read_deal(alloc, deal)?;
+    list_layouts(alloc, &board)
+}
+
+// Makes a problem from a number, reads it as files are read, and solves it.
+#[tactic(auto, unfolding(am_answer::specs::Answers::problem_of))]
+fn solve_made(alloc: Global, number: u64, search: &Search) -> Result<Text, Status>
+    ensures text { IfOk result (IsTextFor (problem_of number search.now)) }
+    ensures refused { IfErr result (IsTaskRefusal (problem_of number search.now)) }
+{
+    let made = made_problem(alloc, number)?;
+    let root = read_root(alloc, &made.deal, &made.layouts)?;
+    summarize(alloc, number, &root, made.moves, search)
+}
+
+/// The text of the job that the files lead to, or why there is none.
+#[tactic(auto, unfolding(am_answer::specs::Answers::task_in))]
+pub fn text_in<R: Threads + Sync>(rt: &R, alloc: Global, inputs: &Inputs) -> Result<Text, Status>
+    requires { AreWithin inputs.now }
+    ensures text { IfOk result (IsTextFor (task_in inputs.now)) }
+    ensures refused { IfErr result (IsTaskRefusal (task_in inputs.now)) }
+{
+    match inputs {
+        Inputs::OnLayouts {
+            deal,
+            layouts,
+            work: job,
+        } => {
+            let root = read_root(alloc, deal, layouts)?;
+            work(rt, alloc, &root, job)
+        }
+        Inputs::List { deal } => list(alloc, deal),
+        Inputs::Made { number, search } => solve_made(alloc, *number, search),
+    }
+}

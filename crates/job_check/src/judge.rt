@@ -1,0 +1,89 @@
+//! A report that is judged without any search: its head, then each plan with its vector.
+ghost use Rattle.std.specs.Prelude.{◌≡◌, ◌<◌, ◌-◌, ◌^◌, Ok, length, All, IfOk, IfErr};
+ghost use Rattle.strategy_games.specs.Misfits.{node_count};
+ghost use Rattle.am_report.specs.Reading.{report_of};
+ghost use Rattle.am_answer.specs.declared.inputs.Work.TheVariants as works;
+ghost use Rattle.am_answer.specs.Answers.{task_at};
+ghost use Rattle.am_answer.specs.Judging.{entry_fault, first_fault, judged, plans_in};
+ghost use Rattle.am_answer.specs.Stages.{IsFileRefusal, IsTextFor};
+
+use am_answer::{Place, Root, Status, report_status};
+use am_outside::Text;
+use am_report::{Entry, ReadReport, check_text, head_text, read_report};
+use std::alloc::Global;
+use strategy_check::{Verdict, check};
+use trick_rules::Node;
+
+// Where a plan with its vector is at fault.
+#[tactic(auto, unfolding(am_answer::specs::Judging::entry_fault))]
+fn entry_fault(node: &Node, moves: u8, entry: &Entry) -> Option<Place>
+    requires { node_count entry.now.plan < 2 ^ 32 }
+    ensures { result ≡ entry_fault node.now moves entry.now }
+{
+    if entry.vector.width() != node.width() {
+        return Some(Place::Width);
+    }
+    match check(node, moves, &entry.plan, &entry.vector) {
+        Verdict::Good => None,
+        Verdict::NotAStrategy(number) => Some(Place::Node(number)),
+        Verdict::OtherVector(layout, bit) => Some(Place::Layout(layout, bit)),
+    }
+}
+
+// The first plan at fault, from 1, and where.
+fn first_fault(node: &Node, moves: u8, entries: &[Entry]) -> Option<(u32, Place)>
+    requires few { length entries.now < 2 ^ 32 }
+    requires countable { All (λ entry. node_count entry.plan < 2 ^ 32) entries.now }
+    ensures { result ≡ first_fault node.now moves 1 entries.now }
+{
+    for (index, entry) in entries.iter().enumerate() {
+        if let Some(place) = entry_fault(node, moves, entry) {
+            return Some((index as u32 + 1, place));
+        }
+    }
+    None
+}
+
+// The number of plans of a report whose head is that of the files and whose plans are good.
+#[tactic(auto, unfolding(am_answer::specs::Judging::judged))]
+fn judged(alloc: Global, root: &Root, report: &ReadReport) -> Result<u32, Status>
+    requires few { length report.now.entries.items < 2 ^ 32 }
+    requires countable { All (λ entry. node_count entry.plan < 2 ^ 32) report.now.entries.items }
+    ensures plans { IfOk result (λ plans. judged root.now (report_of report.now) ≡ Ok plans) }
+    ensures refused { IfErr result (IsFileRefusal (judged root.now (report_of report.now))) }
+{
+    let head = head_text(alloc, &root.board, &root.kept, report.moves)?;
+    if report.head.bytes() != head.bytes() {
+        return Err(Status::Refuted(0, Place::Head));
+    }
+    match first_fault(&root.kept.node, report.moves, &report.entries) {
+        Some((plan, place)) => Err(Status::Refuted(plan, place)),
+        None => Ok(report.entries.len() as u32),
+    }
+}
+
+// The number of plans of a report, where each of them is good.
+#[tactic(auto, unfolding(am_answer::specs::Judging::plans_in))]
+fn count_good_plans(alloc: Global, root: &Root, bytes: &[u8]) -> Result<u32, Status>
+    requires { length bytes.now < 2 ^ 32 - 1 }
+    ensures plans { IfOk result (λ plans. plans_in root.now bytes.now ≡ Ok plans) }
+    ensures refused { IfErr result (IsFileRefusal (plans_in root.now bytes.now)) }
+{
+    match read_report(alloc, bytes) {
+        Ok(report) => judged(alloc, root, &report),
+        Err(fault) => Err(report_status(fault)),
+    }
+}
+
+/// What `check` says of a report at a root: that each of its plans is good. It searches nothing.
+/// The first fault is its status: of the report's grammar with its line, or else `Refuted` with the
+/// plan and the place.
+#[tactic(auto, unfolding(am_answer::specs::Answers::task_at))]
+pub fn check_report(alloc: Global, root: &Root, report: &Text) -> Result<Text, Status>
+    requires { length report.now < 2 ^ 32 - 1 }
+    ensures text { IfOk result (IsTextFor (task_at root.now (works.Check report.now))) }
+    ensures refused { IfErr result (IsFileRefusal (task_at root.now (works.Check report.now))) }
+{
+    let plans = count_good_plans(alloc, root, report.bytes())?;
+    Ok(check_text(alloc, plans)?)
+}

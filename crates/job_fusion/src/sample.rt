@@ -1,0 +1,25 @@
+//! What plain sampling believes, as text.
+ghost use Rattle.std.specs.Prelude.{◌≡◌, true, IfOk};
+ghost use Rattle.am_answer.specs.Answers.{Sample, has_choice};
+ghost use Rattle.am_answer.specs.Reports.{IsText};
+
+use am_answer::Root;
+use am_outside::Text;
+use am_report::fusion_text;
+use fusion_base::per_card;
+use std::alloc::{AllocError, Global};
+use std::thread::Threads;
+
+/// The table of what plain sampling believes of each card at a root. It fails where memory is
+/// refused, and only there.
+pub fn sample_text<R: Threads + Sync>(
+    rt: &R,
+    alloc: Global,
+    root: &Root,
+) -> Result<Text, AllocError>
+    requires { has_choice root.now.kept.node ≡ true }
+    ensures { IfOk result (IsText (Sample root.now)) }
+{
+    let table = per_card(rt, alloc, &root.kept.node)?;
+    fusion_text(alloc, &table)
+}

@@ -1,0 +1,23 @@
+//! All layouts of a board, as text.
+ghost use Rattle.std.specs.Prelude.{IfOk, IfErr};
+ghost use Rattle.layout_maker.specs.Divisions.{layouts_made};
+ghost use Rattle.am_answer.specs.Answers.{listed_or};
+ghost use Rattle.am_answer.specs.Stages.{IsFileRefusal, IsTextFor};
+
+use am_answer::{Status, make_status};
+use am_outside::Text;
+use am_report::list_text;
+use layout_maker::all_layouts;
+use pbn_deal::Board;
+use std::alloc::Global;
+
+/// All layouts of a board that the play allows, as a layout file.
+pub fn list_layouts(alloc: Global, board: &Board) -> Result<Text, Status>
+    ensures text { IfOk result (IsTextFor (listed_or board.now (layouts_made board.now))) }
+    ensures refused { IfErr result (IsFileRefusal (listed_or board.now (layouts_made board.now))) }
+{
+    match all_layouts(alloc, board) {
+        Ok(layouts) => Ok(list_text(alloc, board, &layouts)?),
+        Err(fault) => Err(make_status(fault)),
+    }
+}

@@ -1,0 +1,41 @@
+//! The summary of a problem that was made from a number.
+ghost use Rattle.std.specs.Prelude.{◌≡◌, true, Ok, IfOk, IfErr};
+ghost use Rattle.am_answer.specs.Answers.{has_choice, Problem};
+ghost use Rattle.am_answer.specs.Reports.{made_moves};
+ghost use Rattle.am_answer.specs.Stages.{IsTaskRefusal, IsTextFor};
+
+use am_answer::{Root, Status, root_status};
+use am_outside::Text;
+use am_report::{MadeSummary, made_text};
+use job_words::Search;
+use root_workers::root_front;
+use std::alloc::Global;
+
+/// The summary of a problem at its root, under its number: how many layouts, how long the front,
+/// the best count and the card to play. Refused as `solve` is.
+pub fn summarize(
+    alloc: Global,
+    number: u64,
+    root: &Root,
+    moves: u8,
+    search: &Search,
+) -> Result<Text, Status>
+    requires turn { has_choice root.now.kept.node ≡ true }
+    requires moves { moves ≡ made_moves }
+    ensures text { IfOk result (IsTextFor (Ok (Problem number root.now search.now))) }
+    ensures refused { IfErr result (IsTaskRefusal (Ok (Problem number root.now search.now))) }
+{
+    match root_front(alloc, &root.kept.node, moves, search.nodes) {
+        Ok(found) => {
+            let summary = MadeSummary {
+                number,
+                layouts: root.kept.node.width(),
+                front: found.front.len() as u64,
+                best: found.count,
+                card: found.card,
+            };
+            Ok(made_text(alloc, &summary)?)
+        }
+        Err(fault) => Err(root_status(fault)),
+    }
+}

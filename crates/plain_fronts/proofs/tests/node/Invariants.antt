@@ -1,6 +1,0 @@
-use Rattle.std.proofs.Common.{◌≤◌, All, vec_len}
-use Rattle.trick_rules.specs.Table.{FitsLeft}
-use Rattle.plain_fronts.proofs.tests.node.Given as goal
-
-abbrev pub invariant-loop-hand : goal.invariant-loop-hand
-invariant-loop-hand l = All (FitsLeft l.position) l.lefts.items × (vec_len l.lefts ≤ 64)

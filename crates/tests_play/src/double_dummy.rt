@@ -1,0 +1,167 @@
+//! Endings whose answers were worked out apart from the program, and random endings on which the two solvers agree.
+use crate::given::{GUESS, node_of};
+use card_sets::{CardSet, Seat, Suit};
+use dd_solver::{Solver, makes_plain};
+use std::alloc::AllocError;
+use std::process::Abort;
+use trick_rules::{Node, Position, Trump};
+
+/// Endings whose need is the tricks that declarer's side takes: by another program, which agrees with Bo Haglund's double
+/// dummy solver.
+const ENDINGS: [&'static str; 12] = [
+    "SKH6CQ/H5HAC6/STD3CJSJD8DT/3/1/S/STD3CJ",
+    "S6HKHA/S5H6D3/HQDKCAS8C6C7/2/2/N/HQDKCA",
+    "S9H3H7/S6DKCT/S5SADASKHQD8/3/1/H/S5SADA",
+    "SAH4C9/H9C5CJ/S4DJC6S9HKDA/3/2/C/S4DJC6",
+    "HKC3C7/S2D9C9/D6DTC5S3H3D3/2/1/D/D6DTC5",
+    "H5H6HK/S6D2C7/S2S5HAHJDKC3/2/2/N/S2S5HA",
+    "S4H2C3C5/D2C8CQCK/S8SKD5CJS2STHQC7/2/1/S/S8SKD5CJ",
+    "SQH5D7CA/S5S9SJD8/S8H9D5D6H2H7DJC7/0/2/N/S8H9D5D6",
+    "S6SAHJDK/S5H3HACA/S3HKD4C2S4H4C6CT/1/3/H/S3HKD4C2",
+    "SQH8D7C9/STSJH3CQ/S7DKDAC3S4HAD4C7/3/1/D/S7DKDAC3",
+    "S9SADJCT/D7D9C9CA/S8H3H5C4D5C2CQCK/0/2/C/S8H3H5C4",
+    "SQHAD4C7/H2HTHQC8/S6H3D9C2S4STH8DK/1/3/N/S6H3D9C2",
+];
+
+/// Whether declarer's side makes the need of a layout.
+fn makes(rt: &impl Abort, solver: &mut Solver, node: &Node, layout: u16) -> bool {
+    assert!(rt; layout < node.width());
+    let (position, left) = (node.position(), node.left(layout));
+    let made = solver.makes(position, left);
+    assert_eq!(rt; makes_plain(position, left), made);
+    made
+}
+
+/// Whether declarer's side takes a trick more than the need of the first layout.
+fn takes_one_more(rt: &impl Abort, solver: &mut Solver, node: &Node) -> bool {
+    let position = node.position();
+    let start = Position::between_tricks(
+        position.declarer,
+        position.dummy,
+        position.unseen,
+        position.to_play(),
+        position.need.saturating_add(1),
+        position.trump,
+    );
+    let higher = start.expect(rt, "the ending is sound");
+    let left = node.left(0);
+    assert!(rt; higher.fits(left));
+    let made = solver.makes(&higher, left);
+    assert_eq!(rt; makes_plain(&higher, left), made);
+    made
+}
+
+#[test]
+fn just_the_tricks_of_each_ending(rt: HostRuntime) -> Result<(), AllocError> {
+    let mut solver = Solver::new(rt.alloc());
+    for ending in ENDINGS {
+        let node = node_of(&rt, rt.alloc(), ending)?;
+        assert!(rt; makes(&rt, &mut solver, &node, 0), "{ending}");
+        assert!(rt; !takes_one_more(&rt, &mut solver, &node), "{ending}");
+    }
+    Ok(())
+}
+
+/// With the ace and the queen on either side one trick is made: the king goes on low cards, and the jack where Right plays
+/// the queen or Left has to play the ace.
+#[test]
+fn one_trick_in_both_layouts(rt: HostRuntime) -> Result<(), AllocError> {
+    let mut solver = Solver::new(rt.alloc());
+    let node = node_of(&rt, rt.alloc(), GUESS)?;
+    assert!(rt; makes(&rt, &mut solver, &node, 0));
+    assert!(rt; makes(&rt, &mut solver, &node, 1));
+    Ok(())
+}
+
+/// Numbers that follow one another without an order that shows.
+#[derive(Drop)]
+struct Draws {
+    state: u64,
+}
+
+impl Draws {
+    // A number below `bound`, which isn't 0.
+    fn below(&mut self, bound: u8) -> u8 {
+        self.state = self
+            .state
+            .wrapping_mul(6_364_136_223_846_793_005)
+            .wrapping_add(1_442_695_040_888_963_407);
+        ((self.state >> 33) % 251) as u8 % bound.max(1)
+    }
+
+    fn trump(&mut self) -> Trump {
+        match self.below(5) {
+            0 => Trump::Suit(Suit::Spades),
+            1 => Trump::Suit(Suit::Hearts),
+            2 => Trump::Suit(Suit::Diamonds),
+            3 => Trump::Suit(Suit::Clubs),
+            _ => Trump::NoTrump,
+        }
+    }
+
+    fn leader(&mut self) -> Seat {
+        match self.below(4) {
+            0 => Seat::Declarer,
+            1 => Seat::Left,
+            2 => Seat::Dummy,
+            _ => Seat::Right,
+        }
+    }
+
+    // So many cards of the rest of the pack, which are taken out of it.
+    fn hand(&mut self, size: u8, rest: &mut CardSet) -> CardSet {
+        let mut hand = CardSet::empty();
+        for _ in 0..size {
+            let place = self.below(rest.count());
+            let mut cards = *rest;
+            for _ in 0..place {
+                let _ = cards.pop_first();
+            }
+            if let Some(card) = cards.first() {
+                *rest = rest.without(card);
+                hand = hand.with(card);
+            }
+        }
+        hand
+    }
+}
+
+/// Whether the solver answers what plain minimax does on an ending of 2 to 4 tricks, and what that is.
+fn agreed(rt: &impl Abort, solver: &mut Solver, draws: &mut Draws) -> bool {
+    let tricks = draws.below(3).saturating_add(2);
+    let mut rest = CardSet::pack();
+    let declarer = draws.hand(tricks, &mut rest);
+    let left = draws.hand(tricks, &mut rest);
+    let dummy = draws.hand(tricks, &mut rest);
+    let right = draws.hand(tricks, &mut rest);
+    let need = draws.below(tricks).saturating_add(1);
+    let leader = draws.leader();
+    let start = Position::between_tricks(
+        declarer,
+        dummy,
+        left.either(right),
+        leader,
+        need,
+        draws.trump(),
+    );
+    let position = start.expect(rt, "the ending is sound");
+    assert!(rt; position.fits(left));
+    let made = solver.makes(&position, left);
+    assert_eq!(rt; makes_plain(&position, left), made);
+    made
+}
+
+/// One solver is asked about 2,100 endings, so that it meets what it remembers of earlier ones.
+#[test]
+fn as_plain_minimax_on_random_endings(rt: HostRuntime) {
+    let mut solver = Solver::new(rt.alloc());
+    let mut draws = Draws { state: 20_191_118 };
+    let mut made: u32 = 0;
+    for _ in 0..2_100 {
+        if agreed(&rt, &mut solver, &mut draws) {
+            made = made.saturating_add(1);
+        }
+    }
+    assert!(rt; made > 500);
+    assert!(rt; made < 1_600);
+}

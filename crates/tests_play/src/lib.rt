@@ -1,0 +1,43 @@
+//! Tests of cards, play, fronts, strategies, the search and sampling, by public calls alone.
+//! It stands on the crates that it tests, and nothing stands on it.
+//! It promises nothing: what its tables hold was worked out by the laws of bridge, by hand or by another program.
+#![tactic(auto)]
+
+#[cfg(test)]
+mod cards;
+#[cfg(test)]
+mod cuts;
+#[cfg(test)]
+mod deals;
+#[cfg(test)]
+mod double_dummy;
+#[cfg(test)]
+mod endings;
+#[cfg(test)]
+mod fronts;
+#[cfg(test)]
+mod games;
+#[cfg(test)]
+mod given;
+#[cfg(test)]
+mod joins;
+#[cfg(test)]
+mod nodes;
+#[cfg(test)]
+mod plan_texts;
+#[cfg(test)]
+mod plans;
+#[cfg(test)]
+mod roots;
+#[cfg(test)]
+mod sampling;
+#[cfg(test)]
+mod search;
+#[cfg(test)]
+mod stores;
+#[cfg(test)]
+mod vectors;
+#[cfg(test)]
+mod verdicts;
+#[cfg(test)]
+mod worked_fronts;

@@ -1,0 +1,48 @@
+//! The plan for one vector of a small ending, which was worked out by hand.
+use crate::given::{GUESS, card, node_of, vector};
+use alphamu_core::RootFault;
+use am_outside::Text;
+use dd_solver::Solver;
+use front_table::NoStore;
+use plan_finder::plan_for;
+use root_workers::root_front;
+use std::alloc::Global;
+use std::process::Abort;
+use std::test::Fail;
+use strategy_tree::Plan;
+
+/// The plan with two moves that wins the second layout, where each search may enter so many nodes.
+fn second_plan(
+    rt: &impl Abort,
+    alloc: Global,
+    nodes: u64,
+) -> Result<Result<Plan, RootFault>, Fail> {
+    let root = node_of(rt, alloc, GUESS)?;
+    assert!(rt; root.is_ours() && !root.position().over());
+    let front = root_front(alloc, &root, 2, 10)?.front;
+    let second = vector(rt, "01");
+    assert!(rt; second.width() == front.width());
+    let target = front.pick(&second).expect(rt, "a vector of the front");
+    assert!(rt; target == second);
+    let mut solver = Solver::new(alloc);
+    Ok(plan_for(alloc, &mut NoStore, &mut solver, &root, 2, &target, nodes))
+}
+
+#[test]
+fn the_jack_goes_on_the_seven(rt: HostRuntime) -> Result<(), Fail> {
+    let plan = second_plan(&rt, rt.alloc(), 10)??;
+    let mut text = Text::new(rt.alloc());
+    plan.lines(rt.alloc(), &mut text)?;
+    let lines =
+        "play S2\nhear 3\non S7\nplay SJ\nstop\non SQ\nplay SK\nstop\non SA\nplay SJ\nstop\n";
+    assert_eq!(rt; text.bytes(), lines.as_bytes());
+    Ok(())
+}
+
+#[test]
+fn nine_nodes_are_too_few_after_the_two(rt: HostRuntime) -> Result<(), Fail> {
+    let spent = second_plan(&rt, rt.alloc(), 9)?;
+    let two = RootFault::Spent(card(&rt, b"S2"));
+    assert_eq!(rt; spent.err(), Some(two));
+    Ok(())
+}
