@@ -1,5 +1,5 @@
 -- The bits of words by their places.
-use Rattle.std.proofs.Common.{◌≡◌, ℕ, suc, zero, ◌+◌, ◌*◌, ◌^◌, ◌/◌, ◌%◌, ◌<◌, ◌≤◌, Bool, true, false, List, [], ◌∷◌, ◌++◌, map, length, refl, sym, ap, ◌∙◌, arith, slice_get, get_or, Some, inl, inr, append_assoc, append-nil, subst}
+use Rattle.std.proofs.Common.{◌≡◌, ℕ, suc, zero, ◌+◌, ◌*◌, ◌^◌, ◌/◌, ◌%◌, ◌<◌, ◌≤◌, Bool, true, false, List, [], ◌∷◌, ◌++◌, map, length, refl, sym, ap, ◌∙◌, arith, slice_get, get_or, Some, inl, inr, append_assoc, append-nil}
 use Rattle.std.proofs.lemmas.Bool.{cases_lt}
 use Rattle.std.proofs.lemmas.List.{same_lists, get_or_past}
 use Rattle.std.proofs.lemmas.Option.{slice_get-get_or}
@@ -18,16 +18,8 @@ bit_of-word ws word place within =
     let at : (64 * word + place) % 64 ≡ place = omega arith in
     rw (in_word, at) refl
 
--- the word and the place in it
-pub split_place : (i : ℕ) → i ≡ 64 * (i / 64) + i % 64
-split_place i = omega arith
-
 pub below_64 : (i : ℕ) → i % 64 < 64
 below_64 i = omega arith
-
--- what holds of each place of each word holds of each place
-pub by_words : (P : ℕ → Type 0) → ((word place : ℕ) → place < 64 → P (64 * word + place)) → (i : ℕ) → P i
-by_words P each i = subst (λ (j : ℕ). P j) (sym (split_place i)) (each (i / 64) (i % 64) (below_64 i))
 
 -- ---- the bits at the first places
 

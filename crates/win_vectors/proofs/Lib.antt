@@ -5,5 +5,6 @@ pub mod Insertion
 pub mod Reduction
 mod WordBits
 mod WordVectors
+mod WordOrders
 mod Masks
 pub mod WeightLemmas

@@ -1,11 +1,11 @@
 -- One word of a vector: its bits, and the loops over its places.
-use Rattle.std.proofs.Common.{◌≡◌, ◌≢◌, ℕ, suc, zero, ◌+◌, ◌-◌, ◌*◌, ◌/◌, ◌%◌, ◌^◌, ◌<◌, ◌≤◌, Bool, true, false, not, ◌&&◌, ◌||◌, [], ◌∷◌, ◌++◌, length, refl, sym, ap, ◌∙◌, arith, if◌then◌else◌, inl, inr, bit_and, bit_or, bit_xor, pow-suc, ◌==◌, w64, lit<, append-nil, add-one, nat_lt}
+use Rattle.std.proofs.Common.{◌≡◌, ◌≢◌, ℕ, suc, zero, ◌+◌, ◌-◌, ◌*◌, ◌/◌, ◌%◌, ◌^◌, ◌<◌, ◌≤◌, Bool, true, false, not, ◌&&◌, ◌||◌, [], ◌∷◌, ◌++◌, length, refl, sym, ap, ◌∙◌, arith, if◌then◌else◌, bit_and, bit_or, bit_xor, pow-suc, ◌==◌, w64, lit<, append-nil, add-one}
 use Rattle.std.proofs.lemmas.Bool.Decides.{nat_tests}
-use Rattle.std.proofs.lemmas.Bool.{true≢false, false≢true, cases_lt, cases_eq}
+use Rattle.std.proofs.lemmas.Bool.{true≢false, false≢true}
 use Rattle.std.proofs.lemmas.Nat.{and_le_l, or_lt, xor_lt, pow_below, pow_pos, shr-shr, field_of, one_shl}
 use Rattle.std.proofs.Math.Pow.{pow_mono, pow-lt, mod-mod-pow}
 use Rattle.std.proofs.Math.Nat.{lt_of_lt_of_le, div-div-eq-div-mul, pos_of_ne-zero}
-use Rattle.std.proofs.lemmas.Nat.Bits.{bit_at_lowest, bit_at-lt, bit_at_not, same_from_bits_below, bit_at-zero, shr_and_one, bit_at-pow_same, bit_at-pow_other, bit_at_above, bit_at_xor, bit_at-trailing_zeros, bit_at_ones, bit_at_ones_above, bit_at_cat_low, bit_at_cat_high, bit_at_set_same, bit_at_set_other, bit_at_clear_same, bit_at_clear_other}
+use Rattle.std.proofs.lemmas.Nat.Bits.{bit_at_lowest, bit_at-lt, bit_at_not, bit_at-zero, shr_and_one, bit_at-pow_same, bit_at-pow_other, bit_at_above, bit_at_xor, bit_at-trailing_zeros, bit_at_ones, bit_at_ones_above, bit_at_cat_low, bit_at_cat_high, bit_at_set_same, bit_at_set_other, bit_at_clear_same, bit_at_clear_other}
 use Rattle.std.specs.Int.{bit_at, trailing_zeros}
 use Rattle.std.specs.Int.Count.{ones, ones_step}
 use Rattle.bit_lists.specs.Bits.{has_bit, bools}
@@ -53,9 +53,6 @@ has_bit-not : (n i : ℕ) → n < 2 ^ 64 → i < 64 → has_bit (184467440737095
 has_bit-not n i fits within =
     let flipped : bit_at (18446744073709551615 - n) i ≡ 1 - bit_at n i = bit_at_not w64 n i fits within in
     rw flipped (grind (arith, nat_tests, bit_at-lt n i))
-
-pub word_of : (n w : ℕ) → w ≤ 64 → n < 2 ^ w → n < 2 ^ 64
-word_of n w high fits = lt_of_lt_of_le fits (pow_mono high)
 
 pub has_bit_past : (n w i : ℕ) → n < 2 ^ w → w ≤ i → has_bit n i ≡ false
 has_bit_past n w i fits past = ap (λ b. b == 1) (bit_at_above n w i fits past)

@@ -1,4 +1,4 @@
-use Rattle.std.proofs.Common.{◌≡◌, ◌<◌, ◌*◌, ◌+◌, ◌%◌, arith, get_or}
+use Rattle.std.proofs.Common.{◌≡◌, ◌*◌, ◌+◌, ◌%◌, arith}
 use Rattle.win_vectors.proofs.WordVectors.{IsWordFrom-at, IsWordFrom-across}
 use Rattle.win_vectors.proofs.words.bits_from.Goals as goal
 

@@ -1,6 +1,6 @@
-use Rattle.std.proofs.Common.{◌≡◌, ◌<◌, arith, ap, get_or, inl, inr, ◌∙◌, sym}
+use Rattle.std.proofs.Common.{arith, inl, inr}
 use Rattle.std.proofs.lemmas.Bool.{cases_eq}
-use Rattle.win_vectors.proofs.WordVectors.{IsFirstDifference-word, same_from_words}
+use Rattle.win_vectors.proofs.WordOrders.{IsFirstDifference-word, same_from_words}
 use Rattle.win_vectors.proofs.words.first_difference.Goals as goal
 
 pub loop-word-init : goal.loop-word-init

@@ -1,5 +1,5 @@
 use Rattle.std.proofs.Common.{arith}
-use Rattle.win_vectors.proofs.WordVectors.{AreOnes, AreVectorWords-ones, bits_of-ones}
+use Rattle.win_vectors.proofs.WordVectors.{AreVectorWords-ones, bits_of-ones}
 use Rattle.win_vectors.proofs.win_vector.WinVector.all.Goals as goal
 
 pub invariant_of-result : goal.invariant_of-result

@@ -1,5 +1,5 @@
 use Rattle.std.proofs.Common.{sym, arith}
-use Rattle.win_vectors.proofs.WordVectors.{ones_of-words, ones_of-narrow}
+use Rattle.win_vectors.proofs.WordOrders.{ones_of-words, ones_of-narrow}
 use Rattle.win_vectors.proofs.win_vector.WinVector.count.Goals as goal
 
 pub returns-then-self-le-WORD_PLACES : goal.returns-then-self-le-WORD_PLACES

@@ -1,6 +1,7 @@
 use Rattle.std.proofs.Common.{◌≤◌, arith}
 use Rattle.win_vectors.specs.Words.{AreVectorWords}
-use Rattle.win_vectors.proofs.WordVectors.{dominates-words, Decides-lacks, lacks-narrow, widths-same}
+use Rattle.win_vectors.proofs.WordVectors.{widths-same}
+use Rattle.win_vectors.proofs.WordOrders.{dominates-words, Decides-lacks, lacks-narrow}
 use Rattle.win_vectors.proofs.win_vector.WinVector.dominates.Goals as goal
 
 pub returns-clause-value : goal.returns-clause-value

@@ -1,6 +1,6 @@
 use Rattle.std.proofs.Common.{◌∙◌, sym, refl}
 use Rattle.std.proofs.lemmas.Bool.{eq-eqb, eqb-true}
-use Rattle.win_vectors.proofs.WordVectors.{equal-words, Decides-same_words}
+use Rattle.win_vectors.proofs.WordOrders.{equal-words, Decides-same_words}
 use Rattle.win_vectors.proofs.win_vector.WinVector.equals.Goals as goal
 
 pub returns-then-self-other : goal.returns-then-self-other

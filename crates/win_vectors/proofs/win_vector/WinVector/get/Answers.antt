@@ -1,6 +1,5 @@
 use Rattle.std.proofs.Common.{◌<◌, ◌≡◌, ◌*◌, ◌+◌, ◌%◌, ◌∙◌, ap, arith, Some, get_or, sym}
 use Rattle.std.proofs.lemmas.Nat.Bits.{shr_and_one}
-use Rattle.bit_lists.specs.Bits.{has_bit}
 use Rattle.bit_lists.specs.Words.{bit_of}
 use Rattle.bit_lists.proofs.Words.{length-bits_of, slice_get-bits_of, bit_of-word}
 use Rattle.win_vectors.proofs.win_vector.WinVector.get.Goals as goal

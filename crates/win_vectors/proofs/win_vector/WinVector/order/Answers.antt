@@ -1,6 +1,7 @@
 use Rattle.std.proofs.Common.{◌≤◌, ◌∙◌, arith}
 use Rattle.win_vectors.specs.Words.{AreVectorWords}
-use Rattle.win_vectors.proofs.WordVectors.{vector_order-narrow, widths-same}
+use Rattle.win_vectors.proofs.WordVectors.{widths-same}
+use Rattle.win_vectors.proofs.WordOrders.{vector_order-narrow}
 use Rattle.win_vectors.proofs.win_vector.WinVector.order.Goals as goal
 
 pub returns-then-other-le-WORD_PLACES : goal.returns-then-other-le-WORD_PLACES

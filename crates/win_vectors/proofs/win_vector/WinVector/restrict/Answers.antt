@@ -1,4 +1,4 @@
-use Rattle.std.proofs.Common.{◌≡◌, ◌<◌, ◌≤◌, ◌*◌, arith, sym, ◌∙◌, refl, get_or}
+use Rattle.std.proofs.Common.{◌<◌, ◌≤◌, ◌*◌, arith, sym, ◌∙◌, refl, get_or}
 use Rattle.bit_lists.specs.Words.{bits_of}
 use Rattle.win_vectors.specs.Vectors.{ones_of}
 use Rattle.win_vectors.specs.Words.{AreVectorWords, IsRestrictedWord}

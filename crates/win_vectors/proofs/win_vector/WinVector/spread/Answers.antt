@@ -1,8 +1,8 @@
-use Rattle.std.proofs.Common.{◌≡◌, ◌<◌, ◌≤◌, ◌*◌, arith, sym, ap, ◌∙◌, refl, length, get_or}
+use Rattle.std.proofs.Common.{◌≡◌, ◌<◌, ◌≤◌, ◌*◌, arith, sym, ap, ◌∙◌, length, get_or}
 use Rattle.bit_lists.specs.Words.{bits_of}
 use Rattle.bit_lists.proofs.Words.{length-bits_of}
 use Rattle.win_vectors.specs.Vectors.{ones_of}
-use Rattle.win_vectors.specs.Words.{AreVectorWords, IsSpreadWord}
+use Rattle.win_vectors.specs.Words.{IsSpreadWord}
 use Rattle.win_vectors.proofs.VectorLemmas.{all-from_ones, spread_of-all_of}
 use Rattle.win_vectors.proofs.Masks.{SpreadsWords-none, SpreadsWords-next, SpreadsWords-most, SpreadsWords-end, done_at-end, next_places, ones-most}
 use Rattle.win_vectors.proofs.win_vector.WinVector.spread.Goals as goal

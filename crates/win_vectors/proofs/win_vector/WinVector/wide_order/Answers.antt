@@ -1,10 +1,11 @@
-use Rattle.std.proofs.Common.{◌≡◌, ◌<◌, ◌∙◌, sym, ap, length, true, false, refl}
+use Rattle.std.proofs.Common.{◌≡◌, ◌∙◌, sym, ap, true, false, refl}
 use Rattle.bit_lists.specs.Words.{bit_of, bits_of}
 use Rattle.bit_lists.proofs.Words.{length-bits_of}
 use Rattle.win_vectors.specs.Vectors.{ones_of}
 use Rattle.win_vectors.specs.Words.{AreVectorWords}
 use Rattle.win_vectors.proofs.VectorLemmas.{vector_order-same, order-by_count}
-use Rattle.win_vectors.proofs.WordVectors.{widths-same, first_difference-within, order-first_one, order-first_zero, bit_of-got}
+use Rattle.win_vectors.proofs.WordVectors.{widths-same}
+use Rattle.win_vectors.proofs.WordOrders.{first_difference-within, order-first_one, order-first_zero, bit_of-got}
 use Rattle.win_vectors.proofs.win_vector.WinVector.wide_order.Goals as goal
 
 pub returns-then-ours-theirs : goal.returns-then-ours-theirs
