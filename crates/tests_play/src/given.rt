@@ -1,7 +1,4 @@
 //! Cards, vectors, fronts and endings from their texts.
-ghost use Rattle.std.specs.Prelude.{◌≡◌};
-ghost use Rattle.trick_rules.specs.Table.{IsSound};
-
 use card_letters::read_card;
 use card_sets::{Card, CardSet, Seat, Suit};
 use pareto_fronts::Front;
@@ -82,7 +79,8 @@ pub fn node_of(rt: &impl Abort, alloc: Global, text: &str) -> Result<Node, Alloc
     let mut lefts = Vec::new(alloc);
     for hand in parts[6].split(' ') {
         let left = cards(rt, hand);
-        assert!(rt; position.fits(left) && lefts.len() < 64);
+        assert!(rt; position.fits(left));
+        assert!(rt; lefts.len() < 64);
         lefts.push(left)?;
     }
     assert!(rt; !lefts.is_empty());
