@@ -84,7 +84,8 @@ impl Weights {
     {
         let mut total = 0u32;
         for place in 0..self.width {
-            if vector.get(place as u8) {
+            let made = vector.get(place as u8);
+            if made {
                 total += self.weights[place as usize];
             }
         }
