@@ -82,7 +82,8 @@ impl Weights {
     {
         let mut total = 0u32;
         for place in 0..self.width {
-            if vector.get(place) {
+            let made = vector.get(place);
+            if made {
                 total += self.weights[place as usize];
             }
         }
