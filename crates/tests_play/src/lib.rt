@@ -40,4 +40,6 @@ mod vectors;
 #[cfg(test)]
 mod verdicts;
 #[cfg(test)]
+mod weights;
+#[cfg(test)]
 mod worked_fronts;

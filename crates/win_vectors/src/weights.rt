@@ -100,6 +100,3 @@ impl Weights {
         self.total(b).cmp(&self.total(a)).then(a.order(b))
     }
 }
-
-#[cfg(test)]
-mod tests;

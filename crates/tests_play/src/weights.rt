@@ -1,21 +1,9 @@
 //! Totals and orders worked out by hand.
 
-use super::Weights;
-use crate::win_vector::WinVector;
+use crate::given::vector;
 use std::cmp::Ordering;
 use std::process::Abort;
-
-// A vector by its bits, the first layout first.
-fn vector(rt: &impl Abort, text: &str) -> WinVector {
-    let bits = text.as_bytes();
-    assert!(rt; !bits.is_empty() && bits.len() <= 64);
-    let mut vector = WinVector::none(bits.len() as u16);
-    for (place, bit) in bits.iter().enumerate() {
-        assert!(rt; place < vector.width() as usize);
-        vector = vector.set(place as u16, *bit == b'1');
-    }
-    vector
-}
+use win_vectors::{Weights, WinVector};
 
 // The weights of a few layouts.
 fn weights(rt: &impl Abort, values: &[u32]) -> Weights {
@@ -167,17 +155,19 @@ fn all_places_are_weighed(rt: HostRuntime) {
 
 #[test]
 fn the_heaviest_total_fits(rt: HostRuntime) {
-    let mut heavy = Weights::equal(64);
-    for place in 0..64u16 {
-        assert!(rt; heavy.width() == 64);
-        heavy = heavy.set(place, 1_000_000);
+    for (width, sum) in [(64u16, 64_000_000u32), (256, 256_000_000)] {
+        let mut heavy = Weights::equal(width);
+        for place in 0..width {
+            assert!(rt; heavy.width() == width);
+            heavy = heavy.set(place, 1_000_000);
+        }
+        assert!(rt; heavy.width() == width);
+        let first = WinVector::none(width).set(0, true);
+        let last = WinVector::none(width).set(width - 1, true);
+        assert_eq!(rt; heavy.total(WinVector::all(width)), sum);
+        assert_eq!(rt; heavy.order(first, last), Ordering::Less);
+        let counted = counted_up(&rt, width);
+        assert!(rt; counted.width() == width);
+        assert_eq!(rt; counted.order(first, last), Ordering::Greater);
     }
-    assert!(rt; heavy.width() == 64);
-    let first = WinVector::none(64).set(0, true);
-    let last = WinVector::none(64).set(63, true);
-    assert_eq!(rt; heavy.total(WinVector::all(64)), 64_000_000);
-    assert_eq!(rt; heavy.order(first, last), Ordering::Less);
-    let counted = counted_up(&rt, 64);
-    assert!(rt; counted.width() == 64);
-    assert_eq!(rt; counted.order(first, last), Ordering::Greater);
 }
