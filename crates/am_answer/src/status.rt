@@ -42,7 +42,7 @@ pub enum Place {
     Node(u32),
     /// The plan wins another vector: the first layout that differs, from 1, and whether the plan
     /// wins it.
-    Layout(u8, bool),
+    Layout(u16, bool),
 }
 
 /// How a run ends. A line is counted in its file, from 1.

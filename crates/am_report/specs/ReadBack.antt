@@ -4,6 +4,7 @@ use Rattle.strategy_games.specs.Plans.{Plan}
 use Rattle.strategy_tree.specs.PlanText.{levels_of, HasReplies, HasCards}
 use Rattle.pbn_deal.specs.Boards.{BoardValue}
 use Rattle.layout_list.specs.Kept.{KeptValue}
+use Rattle.layout_list.specs.Lines.{most_listed}
 use Rattle.am_report.specs.Answers.{EntryValue, AnswerValue}
 use Rattle.am_report.specs.Head.{head_text}
 use Rattle.am_report.specs.Reading.{ReportValue}
@@ -17,7 +18,7 @@ pub record IsPrintablePlan (plan : Plan ℕ) : Type 0 where
 -- a vector of 1 to 64 layouts, and such a plan
 pub record IsPrintableEntry (entry : EntryValue) : Type 0 where
   pub some_layouts : 1 ≤ length entry.vector
-  pub few_layouts : length entry.vector ≤ 64
+  pub few_layouts : length entry.vector ≤ most_listed
   pub plan : IsPrintablePlan entry.plan
 
 -- 1 to 26 moves; a front of at least one vector and fewer than 2^32; a card of the pack, and at most 64 layouts
@@ -28,7 +29,7 @@ pub record IsPrintable (moves : ℕ) (answer : AnswerValue) : Type 0 where
   pub few_vectors : length answer.entries < 2 ^ 32
   pub entries : All IsPrintableEntry answer.entries
   pub card : answer.card < 52
-  pub count : answer.count ≤ 64
+  pub count : answer.count ≤ most_listed
 
 -- what the report of an answer says
 abbrev pub printed_report : BoardValue → KeptValue → ℕ → AnswerValue → ReportValue

@@ -6,6 +6,7 @@ use Rattle.win_vectors.specs.Vectors.{ones_of}
 use Rattle.card_letters.specs.Letters.{card_read}
 use Rattle.byte_text.specs.Lines.{text_after}
 use Rattle.byte_text.specs.Numerals.{number_within}
+use Rattle.layout_list.specs.Lines.{most_listed}
 
 -- ---- lines
 
@@ -19,7 +20,7 @@ moves_said text = option_and_then (number_within 1 26) (text_after (codes "moves
 
 -- `count` and a number of layouts, at the end of a line
 unfoldable pub count_said : List ℕ → Option ℕ
-count_said text = option_and_then (number_within 0 64) (text_after (codes " count ") text)
+count_said text = option_and_then (number_within 0 most_listed) (text_after (codes " count ") text)
 
 -- a byte that is no bit
 abbrev pub ends_bits : ℕ → Bool
@@ -36,7 +37,7 @@ counted vector text = option_and_then (λ count. if count == ones_of vector then
 unfoldable pub bits_said : List ℕ → Option (List Bool)
 bits_said text =
     let width = position_or_len ends_bits text in
-    if nat_le 1 width && nat_le width 64 then counted (map is_one (take width text)) (drop width text) else None
+    if nat_le 1 width && nat_le width most_listed then counted (map is_one (take width text)) (drop width text) else None
 
 -- `vector`, its bits and the count of its ones
 unfoldable pub vector_said : List ℕ → Option (List Bool)

@@ -29,7 +29,7 @@ impl Model for Entry {
 pub struct SolveAnswer {
     pub entries: Vec<Entry>,
     pub card: Card,
-    pub count: u8,
+    pub count: u16,
 }
 
 impl Model for SolveAnswer {

@@ -13,7 +13,7 @@ pub(crate) fn push_count(
     text: &mut Text,
     alloc: Global,
     card: Card,
-    count: u8,
+    count: u16,
 ) -> Result<(), AllocError>
     ensures { OnOk result (text.new ≡ text.old ++ count_text card count) }
 {
@@ -25,7 +25,7 @@ pub(crate) fn push_count(
 
 /// The card to play, and in how many of how many kept layouts the contract is made.
 #[tactic(auto, unfolding(crate::specs::Card::card_text))]
-pub fn card_text(alloc: Global, card: Card, count: u8, width: u8) -> Result<Text, AllocError>
+pub fn card_text(alloc: Global, card: Card, count: u16, width: u16) -> Result<Text, AllocError>
     ensures { IfOk result (λ text. text ≡ card_text card count width) }
 {
     let mut text = Text::new(alloc);

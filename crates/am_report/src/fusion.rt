@@ -30,7 +30,7 @@ fn push_judged(text: &mut Text, alloc: Global, table: &[CardVector]) -> Result<(
 }
 
 // The greatest count of ones.
-fn most_ones(table: &[CardVector]) -> u8
+fn most_ones(table: &[CardVector]) -> u16
     ensures { result ≡ most_ones table.now }
 {
     let mut most = 0;

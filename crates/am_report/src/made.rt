@@ -14,11 +14,11 @@ pub struct MadeSummary {
     /// The number that the layouts are made from.
     pub number: u64,
     /// How many layouts are kept.
-    pub layouts: u8,
+    pub layouts: u16,
     /// How many vectors the front has.
     pub front: u64,
     /// In how many of the kept layouts the contract is made.
-    pub best: u8,
+    pub best: u16,
     /// The card to play.
     pub card: Card,
 }

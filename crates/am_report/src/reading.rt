@@ -26,7 +26,7 @@ pub struct ReadReport {
     pub entries: Vec<Entry>,
     pub card: Card,
     /// In how many of the kept layouts the contract is made.
-    pub count: u8,
+    pub count: u16,
 }
 
 /// What the lines down to the front's length say, with the places where that line and the next one begin.
@@ -261,7 +261,7 @@ fn read_entries(
 }
 
 // The line of the card to play and the count of layouts, and the place after it.
-fn read_card(bytes: &[u8], at: usize) -> Result<((Card, u8), usize), ReportFault>
+fn read_card(bytes: &[u8], at: usize) -> Result<((Card, u16), usize), ReportFault>
     requires place { at ≤ length bytes.now }
     requires short { length bytes.now < 2 ^ 32 - 1 }
     ensures read { Gives result (expected ReportKind.Card bytes.now at (said_at card_said bytes.now at)) }

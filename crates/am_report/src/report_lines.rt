@@ -2,12 +2,14 @@
 ghost use Rattle.std.specs.Prelude.{◌≡◌, ◌==◌, ◌≤◌, ◌<◌, ◌+◌, length, map, IfSome};
 ghost use Rattle.std.specs.List.{position_or_len};
 ghost use Rattle.byte_text.specs.Lines.{said_at};
+ghost use Rattle.layout_list.specs.Lines.{most_listed};
 ghost use Rattle.am_report.specs.ReportLines.{ends_bits, is_one, front_said, moves_said, count_said, bits_said, vector_said, card_counted, card_said};
 
 use byte_text::{line_at, read_number, text_after};
 use card_letters::read_card;
 use card_sets::Card;
-use win_vectors::{MAX_WIDTH, WinVector};
+use layout_list::MOST_LISTED;
+use win_vectors::WinVector;
 
 #[tactic(auto, unfolding(crate::specs::ReportLines::front_said))]
 fn read_front(text: &[u8]) -> Option<u32>
@@ -25,11 +27,11 @@ pub(crate) fn read_moves(text: &[u8]) -> Option<u8>
 }
 
 #[tactic(auto, unfolding(crate::specs::ReportLines::count_said))]
-fn read_count(text: &[u8]) -> Option<u8>
+fn read_count(text: &[u8]) -> Option<u16>
     ensures { result ≡ count_said text.now }
 {
-    let count = read_number(text_after(text, b" count ")?, 0, 64)?;
-    Some(count as u8)
+    let count = read_number(text_after(text, b" count ")?, 0, MOST_LISTED as u32)?;
+    Some(count as u16)
 }
 
 // How many bits stand at the front.
@@ -45,12 +47,12 @@ fn bits_len(text: &[u8]) -> usize
 // The vector with a one wherever the text has one.
 fn vector_of(text: &[u8]) -> WinVector
     requires low { 1 ≤ length text.now }
-    requires high { length text.now ≤ 64 }
+    requires high { length text.now ≤ most_listed }
     ensures { result ≡ map is_one text.now }
 {
-    let mut vector = WinVector::none(text.len() as u8);
+    let mut vector = WinVector::none(text.len() as u16);
     for (place, bit) in text.iter().enumerate() {
-        vector = vector.set(place as u8, *bit == b'1');
+        vector = vector.set(place as u16, *bit == b'1');
     }
     vector
 }
@@ -60,7 +62,7 @@ fn read_bits(text: &[u8]) -> Option<WinVector>
     ensures { result ≡ bits_said text.now }
 {
     let width = bits_len(text);
-    if width == 0 || width > usize::from(MAX_WIDTH) {
+    if width == 0 || width > MOST_LISTED {
         return None;
     }
     let vector = vector_of(&text[..width]);
@@ -79,7 +81,7 @@ fn read_vector(text: &[u8]) -> Option<WinVector>
     read_bits(text_after(text, b"vector ")?)
 }
 
-fn read_counted_card(text: &[u8]) -> Option<(Card, u8)>
+fn read_counted_card(text: &[u8]) -> Option<(Card, u16)>
     ensures { result ≡ card_counted text.now }
 {
     let [suit, rank, rest @ ..] = text else {
@@ -91,7 +93,7 @@ fn read_counted_card(text: &[u8]) -> Option<(Card, u8)>
 }
 
 #[tactic(auto, unfolding(crate::specs::ReportLines::card_said))]
-fn read_card_line(text: &[u8]) -> Option<(Card, u8)>
+fn read_card_line(text: &[u8]) -> Option<(Card, u16)>
     ensures { result ≡ card_said text.now }
 {
     read_counted_card(text_after(text, b"card ")?)
@@ -120,7 +122,7 @@ pub(crate) fn vector_at(bytes: &[u8], at: usize) -> Option<(WinVector, usize)>
 }
 
 // The same of the card to play, and the count of layouts.
-pub(crate) fn card_at(bytes: &[u8], at: usize) -> Option<((Card, u8), usize)>
+pub(crate) fn card_at(bytes: &[u8], at: usize) -> Option<((Card, u16), usize)>
     requires { at ≤ length bytes.now }
     ensures value { result ≡ said_at card_said bytes.now at }
     ensures within { IfSome result (λ said. said.1 ≤ length bytes.now) }

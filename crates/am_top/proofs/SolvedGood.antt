@@ -15,6 +15,7 @@ use Rattle.strategy_tree.proofs.CardLists.{has_card-from_Contains}
 use Rattle.strategy_tree.proofs.Printing.{strategy_printed}
 use Rattle.strategy_check.specs.declared.verdict.Verdict.TheVariants.{Good}
 use Rattle.strategy_check.proofs.Compared.{length-wins_vector}
+use Rattle.layout_list.specs.Lines.{most_listed}
 use Rattle.am_report.specs.Answers.{AnswerValue, EntryValue}
 use Rattle.am_report.specs.Head.{head_text}
 use Rattle.am_report.specs.Solve.{solve_text}
@@ -40,11 +41,11 @@ named-below n (suc moves) card (best, most, first) =
     has_card-below (choices n) card (IsCardSet-cards_where _)
     (has_card-from_Contains (choices n) card (first_is_member (λ d. HasCount bridge (bridge.child n d) moves best) (choices n) card first))
 
-count-below : (n : Layouts) (moves count : ℕ) → IsNode n → IsBestCount bridge n moves count → count ≤ 64
-count-below n moves count node ((front, is, vector, inside, ones), most) =
+count-below : (n : Layouts) (moves count : ℕ) → length n.lefts ≤ most_listed → IsBestCount bridge n moves count → count ≤ most_listed
+count-below n moves count listed ((front, is, vector, inside, ones), most) =
     let wide : length vector ≡ length n.lefts =
     All-contains (λ v. length v ≡ length (states n)) front vector (laws.one_front.wide n moves front is) inside ∙ length-map n.lefts (λ left. record { table = n.table; left = left }) in
-    omega (arith, ones, wide, ones_of-le vector, node.few)
+    omega (arith, ones, wide, ones_of-le vector, listed)
 
 -- ---- the plans
 
@@ -58,7 +59,7 @@ no_first_fault node moves number [] good = refl
 no_first_fault node moves number (entry ∷ entries) good =
     rw (good entry (Contains-here entry entries)) (no_first_fault node moves (number + 1) entries (λ e among. good e (Contains-there entry entries e among)))
 
-module _ (n : Layouts) (moves : ℕ) (found : AnswerValue) (node : IsNode n) (is : IsSolveAnswer n moves found) where
+module _ (n : Layouts) (moves : ℕ) (found : AnswerValue) (node : IsNode n) (listed : length n.lefts ≤ most_listed) (is : IsSolveAnswer n moves found) where
   width : (entry : EntryValue) → Contains found.entries entry → length entry.vector ≡ length n.lefts
   width entry among = ap length (sym (plan-wins n moves found entry node is among).1) ∙ length-wins_vector entry.plan n
 
@@ -70,7 +71,7 @@ module _ (n : Layouts) (moves : ℕ) (found : AnswerValue) (node : IsNode n) (is
       let printed = strategy_printed entry.plan n moves node (plan-wins n moves found entry node is among).0 in
       record {
         some_layouts = omega (arith, width entry among, node.some);
-        few_layouts = omega (arith, width entry among, node.few);
+        few_layouts = omega (arith, width entry among, listed);
         plan = record { levels = printed.0; replies = printed.1; cards = printed.2 };
       }
 
@@ -82,7 +83,7 @@ module _ (n : Layouts) (moves : ℕ) (found : AnswerValue) (node : IsNode n) (is
     few_vectors = vectors;
     entries = All-from IsPrintableEntry found.entries entry-printable;
     card = named-below n moves found.card is.card;
-    count = count-below n moves found.count node is.count;
+    count = count-below n moves found.count listed is.count;
   }
 
 -- ---- the report
@@ -100,9 +101,9 @@ plans_in-read : (root : Root) (moves : ℕ) (found : AnswerValue) (text : List �
 unfolding plans_in
 plans_in-read root moves found text read = rw read refl
 
-pub solved-good : (root : Root) (moves : ℕ) (found : AnswerValue) → IsNode root.kept.node → 1 ≤ moves → moves ≤ 26 → IsSolveAnswer root.kept.node moves found → length found.entries < 2 ^ 32
+pub solved-good : (root : Root) (moves : ℕ) (found : AnswerValue) → IsNode root.kept.node → length root.kept.node.lefts ≤ most_listed → 1 ≤ moves → moves ≤ 26 → IsSolveAnswer root.kept.node moves found → length found.entries < 2 ^ 32
     → plans_in root (solve_text root.board root.kept moves found) ≡ Ok (length found.entries)
-solved-good root moves found node some few is vectors =
+solved-good root moves found node listed some few is vectors =
     let n = root.kept.node in
-    plans_in-read root moves found (solve_text root.board root.kept moves found) (solve_text-read root.board root.kept moves found (answer-printable n moves found node is some few vectors))
-    ∙ judged-printed root moves found (no_first_fault n moves 1 found.entries (entry-good n moves found node is))
+    plans_in-read root moves found (solve_text root.board root.kept moves found) (solve_text-read root.board root.kept moves found (answer-printable n moves found node listed is some few vectors))
+    ∙ judged-printed root moves found (no_first_fault n moves 1 found.entries (entry-good n moves found node listed is))

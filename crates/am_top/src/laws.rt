@@ -9,6 +9,7 @@ ghost use Rattle.am_outside.specs.Shelf.{Files};
 ghost use Rattle.job_words.specs.declared.asks.Search.{Search};
 ghost use Rattle.job_words.specs.Asks.{Made};
 ghost use Rattle.job_words.specs.Words.{words_read};
+ghost use Rattle.layout_list.specs.Lines.{most_listed};
 ghost use Rattle.am_report.specs.Answers.{AnswerValue, EntryValue};
 ghost use Rattle.am_report.specs.Solve.{solve_text};
 ghost use Rattle.am_answer.specs.declared.root.Root.{Root};
@@ -60,10 +61,11 @@ pub fn made_problems_are_accepted()
         → (root : Root) × (answer words files ≡ Ok (Problem number root search)) }
 {}
 
-/// What is written for `solve` is found good by `check`, for every root and number of moves.
+/// What is written for `solve` is found good by `check`, for every root with no more layouts than
+/// a file may have, and every number of moves.
 pub fn solved_reports_are_good()
-    ensures { (root : Root) (moves : ℕ) (found : AnswerValue) → IsNode root.kept.node → 1 ≤ moves
-        → moves ≤ 26
+    ensures { (root : Root) (moves : ℕ) (found : AnswerValue) → IsNode root.kept.node
+        → length root.kept.node.lefts ≤ most_listed → 1 ≤ moves → moves ≤ 26
         → IsSolveAnswer root.kept.node moves found → length found.entries < 2 ^ 32
         → plans_in root (solve_text root.board root.kept moves found) ≡ Ok (length found.entries) }
 {}

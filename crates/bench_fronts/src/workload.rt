@@ -3,7 +3,10 @@
 use front_join::Joiner;
 use pareto_fronts::Front;
 use std::alloc::{AllocError, Global};
-use win_vectors::{MAX_WIDTH, WinVector};
+use win_vectors::WinVector;
+
+/// How many layouts the vectors have.
+const LAYOUTS: u16 = 64;
 
 /// What a workload comes to: the sum of the fronts' lengths over all rounds, and the first vector of the last front.
 #[derive(Drop)]
@@ -23,7 +26,7 @@ pub fn inserts(alloc: Global, size: u64, rounds: u64) -> Result<Outcome, AllocEr
         below.push(with_pair(*vector, false))?;
         above.push(with_pair(*vector, true))?;
     }
-    let mut front = Front::new(alloc, MAX_WIDTH);
+    let mut front = Front::new(alloc, LAYOUTS);
     let mut total = 0u64;
     for _ in 0..rounds {
         front.clear();
@@ -39,13 +42,13 @@ pub fn inserts(alloc: Global, size: u64, rounds: u64) -> Result<Outcome, AllocEr
 /// No clause pins the outcome: the script compares it with the one of the same work in C++.
 pub fn joins(alloc: Global, size: u64, rounds: u64) -> Result<Outcome, AllocError> {
     let vectors = split_vectors(alloc, size)?;
-    let mut whole = Front::new(alloc, MAX_WIDTH);
+    let mut whole = Front::new(alloc, LAYOUTS);
     insert_all(&mut whole, &vectors)?;
     let halves = halves_of(alloc, &vectors)?;
     let mut half = Front::new(alloc, 32);
     insert_all(&mut half, &halves)?;
-    let mut mask = WinVector::none(MAX_WIDTH);
-    for place in 0..32u8 {
+    let mut mask = WinVector::none(LAYOUTS);
+    for place in 0..32u16 {
         mask = with_bit(mask, 2 * place, true);
     }
     let mut total = 0u64;
@@ -66,8 +69,8 @@ fn joined(
     half: &Front,
     mask: WinVector,
 ) -> Result<Joiner, AllocError> {
-    let mut joiner = Joiner::new(alloc, MAX_WIDTH);
-    add_child(&mut joiner, whole, WinVector::all(MAX_WIDTH))?;
+    let mut joiner = Joiner::new(alloc, LAYOUTS);
+    add_child(&mut joiner, whole, WinVector::all(LAYOUTS))?;
     add_child(&mut joiner, half, mask)?;
     Ok(joiner)
 }
@@ -104,8 +107,8 @@ fn split_vectors(alloc: Global, size: u64) -> Result<Vec<WinVector>, AllocError>
 
 // The vector that has 1 at the second layout of a pair where the number has a 1, and else at the first.
 fn split_vector(number: u64) -> WinVector {
-    let mut vector = WinVector::none(MAX_WIDTH);
-    for place in 0..32u8 {
+    let mut vector = WinVector::none(LAYOUTS);
+    for place in 0..32u16 {
         let second = (number >> place) & 1 == 1;
         vector = with_bit(vector, 2 * place, !second);
         vector = with_bit(vector, 2 * place + 1, second);
@@ -118,7 +121,7 @@ fn halves_of(alloc: Global, vectors: &[WinVector]) -> Result<Vec<WinVector>, All
     let mut halves = Vec::new(alloc);
     for vector in vectors.iter() {
         let mut half = WinVector::none(32);
-        for place in 0..32u8 {
+        for place in 0..32u16 {
             half = with_bit(half, place, bit_at(*vector, 2 * place));
         }
         halves.push(half)?;
@@ -131,7 +134,7 @@ fn with_pair(vector: WinVector, bit: bool) -> WinVector {
     with_bit(with_bit(vector, 0, bit), 1, bit)
 }
 
-fn with_bit(vector: WinVector, place: u8, bit: bool) -> WinVector {
+fn with_bit(vector: WinVector, place: u16, bit: bool) -> WinVector {
     if place < vector.width() {
         vector.set(place, bit)
     } else {
@@ -139,7 +142,7 @@ fn with_bit(vector: WinVector, place: u8, bit: bool) -> WinVector {
     }
 }
 
-fn bit_at(vector: WinVector, place: u8) -> bool {
+fn bit_at(vector: WinVector, place: u16) -> bool {
     place < vector.width() && vector.get(place)
 }
 

@@ -5,12 +5,12 @@ ghost use Rattle.front_join.specs.JoinValue.{IsJoin};
 ghost use Rattle.front_join.specs.Joins.{Child, joined, spreads};
 ghost use Rattle.pareto_fronts.specs.FrontValue.{IsFront};
 ghost use Rattle.win_vectors.specs.Fronts.{HaveWidth, IsReduced, meets};
-ghost use Rattle.win_vectors.specs.Vectors.{either_of, meet_of, ones_of};
+ghost use Rattle.win_vectors.specs.Vectors.{either_of, meet_of, most_layouts, ones_of};
 
 use pareto_fronts::Front;
 use std::alloc::{AllocError, Global};
 use std::marker::Model;
-use win_vectors::{MAX_WIDTH, WinVector};
+use win_vectors::WinVector;
 
 /// The join of the children that were added: what is left to declarer's side where a defender chooses among them.
 #[derive(Drop)]
@@ -32,9 +32,9 @@ impl Model for Joiner {
 
 impl Joiner {
     /// A join of no child, for so many layouts: its front is the vector of all ones.
-    pub fn new(alloc: Global, width: u8) -> Joiner
+    pub fn new(alloc: Global, width: u16) -> Joiner
         requires low { 1 ≤ width }
-        requires high { width ≤ MAX_WIDTH }
+        requires high { width ≤ most_layouts }
         ensures width { result.optimistic.width ≡ width }
         ensures front { IsReduced (joined width []) result.optimistic.vectors }
         ensures covered { result.covered ≡ replicate width false }

@@ -74,11 +74,15 @@ line_read board unseen number line = deal_of_line board unseen number (deal_read
 
 -- ---- all layouts
 
+-- the most layouts of a file
+abbrev pub most_listed : ℕ
+most_listed = 64
+
 -- the layouts of the lines, after some that were read: at most 64 in all, and each with the unseen cards of the first where the board doesn't tell them
 abbrev pub lines_read : BoardValue → Option (List ℕ) → ℕ → List (ℕ × List ℕ) → Result (List Defenders) LayoutFault
 lines_read board unseen count [] = Ok []
 lines_read board unseen count (line ∷ lines) =
-    if count == 64 then Err (TooMany line.0)
+    if count == most_listed then Err (TooMany line.0)
     else line_read board unseen line.0 line.1 >>= (λ layout. prepend (layout ∷ []) (lines_read board (Some (together layout.left layout.right)) (count + 1) lines))
 
 -- ---- what a layout that was read keeps

@@ -11,4 +11,5 @@ pub mod verdict;
 
 pub use fault::LayoutFault;
 pub use kept::{Cause, Dropped, Kept};
+pub use line::MOST_LISTED;
 pub use list::layouts;

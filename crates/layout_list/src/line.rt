@@ -1,11 +1,8 @@
 //! The lines of a layout file.
-ghost use Rattle.std.specs.Prelude.{◌≡◌, ◌&&◌, ◌<◌, ◌≤◌, ◌-◌, ◌^◌, ◌∷◌, [], Ok, length, MatchOption, MatchResult, IfOk, IfSome};
+ghost use Rattle.std.specs.Prelude.{◌≡◌, ◌&&◌, ◌<◌, ◌≤◌, ◌-◌, ◌^◌, Ok, length, MatchResult, IfOk, IfSome};
 ghost use Rattle.pbn_deal.specs.BoardRead.{together};
-ghost use Rattle.std.specs.List.{slice_split, list_all};
-ghost use Rattle.byte_text.specs.Blanks.{is_blank};
 ghost use Rattle.pbn_deal.specs.Deal.{IsSoundDeal};
-ghost use Rattle.byte_text.specs.Lines.{is_line_end};
-ghost use Rattle.layout_list.specs.Lines.{is_skipped, same_cards, is_told, defenders_in, line_read, numbered_lines, layout_lines, lines_read, FitsBoard, IsTold, IsOneDeal};
+ghost use Rattle.layout_list.specs.Lines.{is_skipped, same_cards, is_told, defenders_in, line_read, numbered_lines, layout_lines, lines_read, most_listed, FitsBoard, IsTold, IsOneDeal};
 ghost use Rattle.layout_list.specs.Layouts.{IsFaultOf};
 
 use crate::fault::LayoutFault;
@@ -82,6 +79,9 @@ fn read_line(
     }
 }
 
+/// The most layouts of a file.
+pub const MOST_LISTED: usize = 64;
+
 /// The layouts of a file's lines, in order, or the first fault.
 pub fn read_lines(alloc: Global, bytes: &[u8], board: &Board) -> Result<Vec<Defenders>, LayoutFault>
     requires { length bytes.now < 2 ^ 32 - 1 }
@@ -89,7 +89,7 @@ pub fn read_lines(alloc: Global, bytes: &[u8], board: &Board) -> Result<Vec<Defe
         (λ layouts. lines_read board.now board.now.unseen 0 (layout_lines (numbered_lines bytes.now)) ≡ Ok layouts.items)
         (IsFaultOf (lines_read board.now board.now.unseen 0 (layout_lines (numbered_lines bytes.now)))) }
     ensures one_deal { IfOk result (λ layouts. IsOneDeal board.now layouts.items) }
-    ensures few { IfOk result (λ layouts. length layouts.items ≤ 64) }
+    ensures few { IfOk result (λ layouts. length layouts.items ≤ most_listed) }
 {
     let mut layouts = Vec::new(alloc);
     let mut unseen = board.unseen();
@@ -102,7 +102,7 @@ pub fn read_lines(alloc: Global, bytes: &[u8], board: &Board) -> Result<Vec<Defe
         if is_skipped(line) {
             continue;
         }
-        if layouts.len() == 64 {
+        if layouts.len() == MOST_LISTED {
             return Err(LayoutFault::TooMany(number));
         }
         let layout = read_line(board, unseen, number, line)?;

@@ -4,7 +4,7 @@ ghost use Rattle.std.specs.List.{enumerate_from};
 ghost use Rattle.trick_rules.specs.Table.{IsState};
 ghost use Rattle.trick_rules.specs.Nodes.{IsNode};
 ghost use Rattle.pbn_deal.specs.Boards.{IsCourse};
-ghost use Rattle.layout_list.specs.Lines.{IsOneDeal};
+ghost use Rattle.layout_list.specs.Lines.{IsOneDeal, most_listed};
 ghost use Rattle.layout_list.specs.Verdicts.{hand_after, course_of};
 ghost use Rattle.layout_list.specs.Layouts.{numbers_kept, lefts_kept, dropped, IsAfter, kept_of, layouts_read, IsFaultOf};
 
@@ -80,11 +80,12 @@ fn sort_out(
     requires states { All (λ d. IsState (record { table = start.now; left = d.left })) layouts.now }
     requires fair { IsCourse start.now.trump (course_of start.now) plays.now }
     requires short { length plays.now < 65535 }
-    requires few { length layouts.now ≤ 64 }
+    requires few { length layouts.now ≤ most_listed }
     ensures numbers { IfOk result (λ s. s.numbers.items ≡ numbers_kept plays.now start.now (enumerate_from 1 layouts.now)) }
     ensures lefts { IfOk result (λ s. s.lefts.items ≡ lefts_kept plays.now start.now (enumerate_from 1 layouts.now)) }
     ensures dropped { IfOk result (λ s. s.dropped.items ≡ dropped plays.now start.now (enumerate_from 1 layouts.now)) }
     ensures position { IfOk result (λ s. MatchOption s.position (s.lefts.items ≡ []) (IsAfter plays.now start.now s.lefts.items)) }
+    ensures few { IfOk result (λ s. length s.lefts.items ≤ most_listed) }
     ensures memory { IfErr result (λ fault. fault ≡ LayoutFault.Memory) }
 {
     let mut sorting = Sorting::new(alloc);
@@ -117,9 +118,10 @@ fn root_node(alloc: Global, position: Position, lefts: &[CardSet]) -> Result<Nod
 // What is kept of the layouts of a board: those that the play allows, at the position after it.
 fn keep(alloc: Global, board: &Board, layouts: &[Defenders]) -> Result<Kept, LayoutFault>
     requires one_deal { IsOneDeal board.now layouts.now }
-    requires few { length layouts.now ≤ 64 }
+    requires few { length layouts.now ≤ most_listed }
     ensures kept { MatchResult result (λ kept. kept_of board.now layouts.now ≡ Ok kept) (IsFaultOf (kept_of board.now layouts.now)) }
     ensures as_many { IfOk result (λ kept. length kept.numbers ≡ length kept.node.lefts) }
+    ensures few { IfOk result (λ kept. length kept.node.lefts ≤ most_listed) }
 {
     let Some(first) = layouts.first() else {
         return Err(LayoutFault::NoneLeft);
@@ -153,6 +155,7 @@ pub fn layouts(alloc: Global, bytes: &[u8], board: &Board) -> Result<Kept, Layou
     requires { length bytes.now < 2 ^ 32 - 1 }
     ensures kept { MatchResult result (λ kept. layouts_read bytes.now board.now ≡ Ok kept) (IsFaultOf (layouts_read bytes.now board.now)) }
     ensures as_many { IfOk result (λ kept. length kept.numbers ≡ length kept.node.lefts) }
+    ensures few { IfOk result (λ kept. length kept.node.lefts ≤ most_listed) }
 {
     let found = read_lines(alloc, bytes, board)?;
     keep(alloc, board, &found)

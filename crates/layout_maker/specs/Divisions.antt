@@ -4,6 +4,7 @@ use Rattle.card_sets.specs.SetWords.{has_card, IsCardSet, Apart}
 use Rattle.pbn_deal.specs.BoardRead.{together}
 use Rattle.pbn_deal.specs.Boards.{BoardValue, tricks_of}
 use Rattle.layout_list.specs.declared.line.Defenders.{Defenders}
+use Rattle.layout_list.specs.Lines.{most_listed}
 use Rattle.layout_list.specs.Verdicts.{first_table}
 use Rattle.layout_list.specs.Layouts.{verdict}
 use Rattle.layout_maker.specs.declared.fault.MakeFault.{MakeFault}
@@ -39,7 +40,7 @@ layouts_over board unseen = filter (is_allowed board unseen) (divisions (tricks_
 abbrev pub if_few : List Defenders → Result (List Defenders) MakeFault
 if_few layouts =
     if length layouts == 0 then Err NoneFit
-    else if nat_lt 64 (length layouts) then Err (MoreThan64 (length layouts))
+    else if nat_lt most_listed (length layouts) then Err (MoreThan64 (length layouts))
     else Ok layouts
 
 -- the layouts over the unseen cards, where they are shown

@@ -8,6 +8,7 @@ use crate::allowed::may_hold;
 use crate::dividing::{Choices, fitting_choices};
 use crate::fault::MakeFault;
 use card_sets::CardSet;
+use layout_list::MOST_LISTED;
 use layout_list::line::Defenders;
 use pbn_deal::Board;
 use std::alloc::Global;
@@ -24,7 +25,7 @@ fn listed(alloc: Global, unseen: CardSet, choices: &Choices) -> Result<Vec<Defen
     if count == 0 {
         return Err(MakeFault::NoneFit);
     }
-    if count > 64 {
+    if count > MOST_LISTED as u64 {
         return Err(MakeFault::MoreThan64(u128::from(count)));
     }
     match choices.layouts(alloc, unseen) {

@@ -1,5 +1,6 @@
 -- A front, as contracts see it.
 use Rattle.std.specs.Prelude.{◌≡◌, ℕ, ◌+◌, ◌≤◌, List, length}
+use Rattle.win_vectors.specs.Vectors.{most_layouts}
 use Rattle.win_vectors.specs.Fronts.{Vector, HaveWidth, IsReduced}
 
 -- the number of layouts, the vectors in order, and how many vectors fit without memory, those that are there included
@@ -15,7 +16,7 @@ HasSpareRoom f more = length f.vectors + more ≤ f.room
 -- the vectors are of one width, and are their own reduced list: in order, none dominates another
 pub record IsFront (f : FrontValue) : Type 0 where
   pub low : 1 ≤ f.width
-  pub high : f.width ≤ 64
+  pub high : f.width ≤ most_layouts
   pub one_width : HaveWidth f.width f.vectors
   pub reduced : IsReduced f.vectors f.vectors
 

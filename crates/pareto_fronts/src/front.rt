@@ -4,12 +4,12 @@ ghost use Rattle.std.specs.Prelude.{◌≡◌, ◌↔◌, ◌≤◌, ◌<◌, �
 ghost use Rattle.pareto_fronts.specs.FrontValue.{IsFront, HasSpareRoom, HaveSameVectors};
 ghost use Rattle.pareto_fronts.specs.Places.{IsPlaceFor};
 ghost use Rattle.win_vectors.specs.Fronts.{Covers, CoversAll, Dominates, HaveWidth, IsFirstAbove, IsReduced, Precedes};
-ghost use Rattle.win_vectors.specs.Vectors.{dominates as is_above};
+ghost use Rattle.win_vectors.specs.Vectors.{dominates as is_above, most_layouts};
 
 use smallvec::SmallVec;
 use std::alloc::{AllocError, Global};
 use std::marker::Model;
-use win_vectors::{MAX_WIDTH, WinVector};
+use win_vectors::WinVector;
 
 /// How many vectors a front keeps before it allocates.
 pub const INLINE_VECTORS: usize = 4;
@@ -19,7 +19,7 @@ pub const INLINE_VECTORS: usize = 4;
 /// No call lowers its room: the sum of its length and of its spare room.
 #[derive(Drop)]
 pub struct Front {
-    width: u8,
+    width: u16,
     vectors: SmallVec<WinVector, INLINE_VECTORS>,
 }
 
@@ -43,9 +43,9 @@ impl Model for Front {
 
 impl Front {
     /// A front with no vector, for so many layouts.
-    pub fn new(alloc: Global, width: u8) -> Front
+    pub fn new(alloc: Global, width: u16) -> Front
         requires low { 1 ≤ width }
-        requires high { width ≤ MAX_WIDTH }
+        requires high { width ≤ most_layouts }
         ensures width { result.width ≡ width }
         ensures empty { result.vectors ≡ [] }
         ensures room { result.room ≡ INLINE_VECTORS }
@@ -58,7 +58,7 @@ impl Front {
     }
 
     /// How many layouts its vectors have.
-    pub fn width(&self) -> u8
+    pub fn width(&self) -> u16
         ensures { result ≡ self.now.width }
     {
         self.width

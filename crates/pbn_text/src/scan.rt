@@ -1,8 +1,7 @@
 //! Where things end: lines, comments, names, tokens and strings.
-ghost use Rattle.std.specs.Prelude.{◌≡◌, ◌==◌, ◌≤◌, length, count_by, IfOk, IfSome};
-ghost use Rattle.std.specs.List.{position_or_len, after_first};
-ghost use Rattle.byte_text.specs.Lines.{is_line_end};
-ghost use Rattle.pbn_text.specs.Pieces.{is_name_byte, ends_name, ends_token, past_line, is_blank_line};
+ghost use Rattle.std.specs.Prelude.{◌≡◌, ◌==◌, ◌≤◌, length, IfOk, IfSome};
+ghost use Rattle.std.specs.List.{position_or_len};
+ghost use Rattle.pbn_text.specs.Pieces.{ends_name, ends_token, past_line, is_blank_line};
 ghost use Rattle.pbn_text.specs.Reading.{ends_line};
 ghost use Rattle.pbn_text.specs.Strings.{string_len, unescaped};
 

@@ -21,11 +21,11 @@ use trick_rules::Node;
 pub struct RootFront {
     pub front: Front,
     pub card: Card,
-    pub count: u8,
+    pub count: u16,
 }
 
 // How many layouts the first vector of a front wins.
-fn best_of(front: &Front) -> u8
+fn best_of(front: &Front) -> u16
     requires { 1 ≤ length front.now.vectors }
     ensures { (first : Vector) × (later : List Vector) × (front.now.vectors ≡ first ∷ later) × (result ≡ ones_of first) }
 {
@@ -33,7 +33,7 @@ fn best_of(front: &Front) -> u8
 }
 
 // The card that leads, with one card more.
-fn leader(best: Option<(Card, u8)>, card: Card, count: u8) -> Option<(Card, u8)>
+fn leader(best: Option<(Card, u16)>, card: Card, count: u16) -> Option<(Card, u16)>
     ensures { result ≡ leader best card count }
 {
     match best {
@@ -43,7 +43,7 @@ fn leader(best: Option<(Card, u8)>, card: Card, count: u8) -> Option<(Card, u8)>
 }
 
 // What was found at the root.
-fn found(front: Front, best: (Card, u8)) -> RootFront
+fn found(front: Front, best: (Card, u16)) -> RootFront
     ensures front { result.front ≡ front }
     ensures card { result.card ≡ best.0 }
     ensures count { result.count ≡ best.1 }

@@ -9,12 +9,13 @@ use arrayvec::ArrayVec;
 use card_sets::{Card, CardSet};
 use std::marker::Model;
 use trick_rules::{Node, Position, play};
+use win_vectors::MOST_LAYOUTS;
 
-/// A sound position and 1 to 64 layouts, as a `Node` has them, with Left's hands in the value itself.
+/// A sound position and 1 to 256 layouts, as a `Node` has them, with Left's hands in the value itself.
 #[derive(Drop)]
 pub struct InlineNode {
     position: Position,
-    lefts: ArrayVec<CardSet, 64>,
+    lefts: ArrayVec<CardSet, MOST_LAYOUTS>,
 }
 
 impl Model for InlineNode {

@@ -21,7 +21,7 @@ pub enum Verdict {
     NotAStrategy(u32),
     /// It is a strategy that wins another vector: the first layout where the two differ, counted from 1, and whether the
     /// plan wins that layout.
-    OtherVector(u8, bool),
+    OtherVector(u16, bool),
 }
 
 /// Plays a plan against every defence in every layout of a node, with so many moves of declarer's side, and compares what

@@ -24,7 +24,7 @@ const ENDINGS: [&'static str; 12] = [
 ];
 
 /// Whether declarer's side makes the need of a layout.
-fn makes(rt: &impl Abort, solver: &mut Solver, node: &Node, layout: u8) -> bool {
+fn makes(rt: &impl Abort, solver: &mut Solver, node: &Node, layout: u16) -> bool {
     assert!(rt; layout < node.width());
     let (position, left) = (node.position(), node.left(layout));
     let made = solver.makes(position, left);

@@ -1,7 +1,4 @@
 //! Cards, vectors, fronts and endings from their texts.
-ghost use Rattle.std.specs.Prelude.{◌≡◌};
-ghost use Rattle.trick_rules.specs.Table.{IsSound};
-
 use card_letters::read_card;
 use card_sets::{Card, CardSet, Seat, Suit};
 use pareto_fronts::Front;
@@ -82,7 +79,8 @@ pub fn node_of(rt: &impl Abort, alloc: Global, text: &str) -> Result<Node, Alloc
     let mut lefts = Vec::new(alloc);
     for hand in parts[6].split(' ') {
         let left = cards(rt, hand);
-        assert!(rt; position.fits(left) && lefts.len() < 64);
+        assert!(rt; position.fits(left));
+        assert!(rt; lefts.len() < 64);
         lefts.push(left)?;
     }
     assert!(rt; !lefts.is_empty());
@@ -92,11 +90,11 @@ pub fn node_of(rt: &impl Abort, alloc: Global, text: &str) -> Result<Node, Alloc
 /// A vector by its bits, the first layout first.
 pub fn vector(rt: &impl Abort, text: &str) -> WinVector {
     let bits = text.as_bytes();
-    assert!(rt; !bits.is_empty() && bits.len() <= 64);
-    let mut vector = WinVector::none(bits.len() as u8);
+    assert!(rt; !bits.is_empty() && bits.len() <= 256);
+    let mut vector = WinVector::none(bits.len() as u16);
     for (place, bit) in bits.iter().enumerate() {
         assert!(rt; place < vector.width() as usize);
-        vector = vector.set(place as u8, *bit == b'1');
+        vector = vector.set(place as u16, *bit == b'1');
     }
     vector
 }

@@ -12,7 +12,7 @@ fn assert_root(
     alloc: Global,
     moves: u8,
     vectors: &str,
-    count: u8,
+    count: u16,
 ) -> Result<(), Fail> {
     let node = node_of(rt, alloc, GUESS)?;
     assert!(rt; node.is_ours() && !node.position().over());

@@ -2,6 +2,7 @@
 use Rattle.std.specs.Prelude.{ℕ, ◌≤◌, Bool, ◌||◌, List, length, map, filter, All, is_some, ◌==◌}
 use Rattle.std.specs.List.{list_any}
 use Rattle.card_sets.specs.SetWords.{has_card, cards_where}
+use Rattle.win_vectors.specs.Vectors.{most_layouts}
 use Rattle.trick_rules.specs.Table.{Table, State, IsSound, FitsLeft}
 use Rattle.trick_rules.specs.Play.{after_card, take_out, legal_in, decided}
 
@@ -10,12 +11,12 @@ pub record Layouts : Type 0 where
   pub table : Table
   pub lefts : List (List ℕ)
 
--- a sound position with 1 to 64 Left hands that fit it
+-- a sound position with 1 to 256 Left hands that fit it
 pub record IsNode (n : Layouts) : Type 0 where
   pub sound : IsSound n.table
   pub fits : All (FitsLeft n.table) n.lefts
   pub some : 1 ≤ length n.lefts
-  pub few : length n.lefts ≤ 64
+  pub few : length n.lefts ≤ most_layouts
 
 -- the position with Left's hand, for each layout in order
 abbrev pub states : Layouts → List State

@@ -12,10 +12,7 @@ use std::alloc::{AllocError, Global};
 use std::marker::Model;
 use win_vectors::WinVector;
 
-/// The most layouts of a node.
-pub const MAX_LAYOUTS: usize = 64;
-
-/// A sound position and 1 to 64 layouts, each by Left's hand, a part of the unseen cards with Left's number of cards.
+/// A sound position and 1 to 256 layouts, each by Left's hand, a part of the unseen cards with Left's number of cards.
 /// Right holds the rest.
 #[derive(Debug, Drop)]
 pub struct Node {
@@ -53,20 +50,20 @@ impl Node {
         &self.position
     }
 
-    /// How many layouts there are: 1 to 64.
-    pub fn width(&self) -> u8
+    /// How many layouts there are: 1 to 256.
+    pub fn width(&self) -> u16
         ensures value { result ≡ length self.now.lefts }
         ensures a_node { IsNode self.now }
     {
-        self.lefts.len() as u8
+        self.lefts.len() as u16
     }
 
     /// Left's hand in the layout at a place, which is counted from 0.
-    pub fn left(&self, place: u8) -> CardSet
+    pub fn left(&self, place: u16) -> CardSet
         requires { place < length self.now.lefts }
         ensures { slice_get self.now.lefts place ≡ Some result }
     {
-        self.lefts[place as usize]
+        self.lefts[usize::from(place)]
     }
 
     /// Left's hands, one a layout.
@@ -120,7 +117,7 @@ impl Node {
         ensures node { IfOk result (λ kept. kept.0 ≡ child_of self.now card) }
         ensures mask { IfOk result (λ kept. kept.1 ≡ child_mask self.now card) }
     {
-        let mut lefts = Vec::new(alloc);
+        let mut lefts = Vec::with_capacity(alloc, self.lefts.len())?;
         let mut mask = WinVector::none(self.width());
         for place in 0..self.width() {
             let left = self.left(place);

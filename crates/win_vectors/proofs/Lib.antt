@@ -3,5 +3,8 @@ pub mod Orders
 pub mod Members
 pub mod Insertion
 pub mod Reduction
+mod WordBits
+mod WordVectors
+mod WordOrders
+mod Masks
 pub mod WeightLemmas
-mod WordLemmas

@@ -1,5 +1,5 @@
 -- Lists of bits: ones, meet, dominance, and the parts that a mask picks.
-use Rattle.std.proofs.Common.{◌≡◌, ℕ, suc, zero, ◌+◌, ◌<◌, ◌≤◌, Bool, true, false, ◌&&◌, ◌||◌, [], ◌∷◌, ◌++◌, length, refl, ap, arith, if◌then◌else◌, get_or}
+use Rattle.std.proofs.Common.{◌≡◌, ℕ, suc, zero, ◌+◌, ◌<◌, ◌≤◌, Bool, true, false, ◌&&◌, ◌||◌, [], ◌∷◌, ◌++◌, length, refl, sym, ap, ◌∙◌, ◌≢◌, arith, if◌then◌else◌, get_or, replicate}
 use Rattle.std.proofs.lemmas.Bool.Decides.{nat_tests}
 use Rattle.std.proofs.lemmas.Bool.{true≢false, false≢true}
 use Rattle.std.specs.Bool.{Decides}
@@ -7,6 +7,7 @@ use Rattle.std.proofs.Math.Bool.{beq}
 use Rattle.std.specs.Cmp.Lexicographic.{pointwise, pointwise_decides}
 use Rattle.win_vectors.specs.Vectors.{ones_of, meet_of, either_of, dominates, restrict_of, spread_of, earlier_one, vector_order}
 use Rattle.std.specs.declared.cmp.Ordering.TheVariants.{Less, Equal, Greater}
+use Rattle.std.specs.Ordering.{nat_cmp}
 use Rattle.win_vectors.specs.Fronts.{Vector, IsAtLeast, Dominates}
 
 -- ---- equality
@@ -96,6 +97,48 @@ spread_of-push_zero vs (false ∷ ms) e = ap (λ us. true ∷ us) (spread_of-pus
 spread_of-push_zero [] (true ∷ ms) e = absurd (omega arith)
 spread_of-push_zero (u ∷ vs) (true ∷ ms) e = ap (λ us. u ∷ us) (spread_of-push_zero vs ms (omega arith))
 
+-- a part after a part
+pub restrict_of-append : (us vs ms ns : Vector) → length us ≡ length ms → restrict_of (us ++ vs) (ms ++ ns) ≡ restrict_of us ms ++ restrict_of vs ns
+restrict_of-append [] vs [] ns e = refl
+restrict_of-append [] vs (m ∷ ms) ns e = absurd (omega arith)
+restrict_of-append (u ∷ us) vs [] ns e = absurd (omega arith)
+restrict_of-append (u ∷ us) vs (true ∷ ms) ns e = ap (λ rest. u ∷ rest) (restrict_of-append us vs ms ns (omega arith))
+restrict_of-append (u ∷ us) vs (false ∷ ms) ns e = restrict_of-append us vs ms ns (omega arith)
+
+pub spread_of-append : (us vs ms ns : Vector) → length us ≡ ones_of ms → spread_of (us ++ vs) (ms ++ ns) ≡ spread_of us ms ++ spread_of vs ns
+spread_of-append [] vs [] ns e = refl
+spread_of-append (u ∷ us) vs [] ns e = absurd (omega arith)
+spread_of-append us vs (false ∷ ms) ns e = ap (λ rest. true ∷ rest) (spread_of-append us vs ms ns (omega arith))
+spread_of-append [] vs (true ∷ ms) ns e = absurd (omega arith)
+spread_of-append (u ∷ us) vs (true ∷ ms) ns e = ap (λ rest. u ∷ rest) (spread_of-append us vs ms ns (omega arith))
+
+-- a mask of ones
+pub ones_of-all : (n : ℕ) → ones_of (replicate n true) ≡ n
+ones_of-all zero = refl
+ones_of-all (suc n) = omega (arith, ones_of-all n)
+
+-- a vector with as many ones as bits
+pub all-from_ones : (vs : Vector) → ones_of vs ≡ length vs → vs ≡ replicate (length vs) true
+all-from_ones [] e = refl
+all-from_ones (true ∷ vs) e = ap (λ rest. true ∷ rest) (all-from_ones vs (omega arith))
+all-from_ones (false ∷ vs) e = absurd (omega (arith, ones_of-le vs))
+
+restrict_of-all : (vs : Vector) → restrict_of vs (replicate (length vs) true) ≡ vs
+restrict_of-all [] = refl
+restrict_of-all (v ∷ vs) = ap (λ rest. v ∷ rest) (restrict_of-all vs)
+
+spread_of-all : (vs : Vector) → spread_of vs (replicate (length vs) true) ≡ vs
+spread_of-all [] = refl
+spread_of-all (v ∷ vs) = ap (λ rest. v ∷ rest) (spread_of-all vs)
+
+pub restrict_of-all_of : (vs ms : Vector) → length vs ≡ length ms → ms ≡ replicate (length ms) true → restrict_of vs ms ≡ vs
+restrict_of-all_of vs ms long all = ap (restrict_of vs) (all ∙ ap (λ n. replicate n true) (sym long)) ∙ restrict_of-all vs
+
+pub spread_of-all_of : (vs ms : Vector) → length vs ≡ ones_of ms → ms ≡ replicate (length ms) true → spread_of vs ms ≡ vs
+spread_of-all_of vs ms long all =
+    let same : length ms ≡ length vs = sym (long ∙ ap ones_of all ∙ ones_of-all (length ms)) in
+    ap (spread_of vs) (all ∙ ap (λ n. replicate n true) same) ∙ spread_of-all vs
+
 -- ---- order
 
 pub earlier_one-same : (vs : Vector) → earlier_one vs vs ≡ Equal
@@ -143,3 +186,29 @@ earlier_one-greater (true ∷ us) (true ∷ vs) (suc place) h = earlier_one-grea
 earlier_one-greater (u ∷ us) (false ∷ vs) zero h = absurd (false≢true h.one)
 earlier_one-greater (true ∷ us) (false ∷ vs) (suc place) h = absurd (false≢true (h.agree 0 (omega arith)))
 earlier_one-greater (false ∷ us) (false ∷ vs) (suc place) h = earlier_one-greater us vs place (DifferAt-rest false false vs us place h)
+
+-- what the counts, and the first place at which two vectors differ, say of the order
+pub order-by_count : (us vs : Vector) → ones_of us ≢ ones_of vs → nat_cmp (ones_of vs) (ones_of us) ≡ vector_order us vs
+order-by_count us vs apart = grind (arith, nat_tests)
+
+order-same_count : (us vs : Vector) → ones_of us ≡ ones_of vs → vector_order us vs ≡ earlier_one us vs
+order-same_count us vs same = rw same (grind (arith, nat_tests))
+
+pub order-less : (us vs : Vector) (place : ℕ) → ones_of us ≡ ones_of vs → DifferAt us vs place → Less ≡ vector_order us vs
+order-less us vs place same at = sym (order-same_count us vs same ∙ earlier_one-less us vs place at)
+
+pub order-greater : (us vs : Vector) (place : ℕ) → ones_of us ≡ ones_of vs → DifferAt vs us place → Greater ≡ vector_order us vs
+order-greater us vs place same at = sym (order-same_count us vs same ∙ earlier_one-greater us vs place at)
+
+-- equal bits behind two vectors of one width
+earlier_one-append : (us vs ws : Vector) → length us ≡ length vs → earlier_one (us ++ ws) (vs ++ ws) ≡ earlier_one us vs
+earlier_one-append [] [] ws e = earlier_one-same ws
+earlier_one-append [] (v ∷ vs) ws e = absurd (omega arith)
+earlier_one-append (u ∷ us) [] ws e = absurd (omega arith)
+earlier_one-append (true ∷ us) (false ∷ vs) ws e = refl
+earlier_one-append (false ∷ us) (true ∷ vs) ws e = refl
+earlier_one-append (true ∷ us) (true ∷ vs) ws e = earlier_one-append us vs ws (omega arith)
+earlier_one-append (false ∷ us) (false ∷ vs) ws e = earlier_one-append us vs ws (omega arith)
+
+pub vector_order-append : (us vs ws : Vector) → length us ≡ length vs → vector_order (us ++ ws) (vs ++ ws) ≡ vector_order us vs
+vector_order-append us vs ws e = rw (ones_of-append us ws, ones_of-append vs ws, earlier_one-append us vs ws e) (grind (arith, nat_tests))

@@ -3,6 +3,10 @@ use Rattle.std.specs.Prelude.{ℕ, Bool, true, false, not, ◌&&◌, ◌||◌, L
 use Rattle.std.specs.declared.cmp.Ordering.{Ordering}
 use Rattle.std.specs.declared.cmp.Ordering.TheVariants.{Less, Equal, Greater}
 
+-- the most layouts of a vector
+abbrev pub most_layouts : ℕ
+most_layouts = 256
+
 -- how many ones
 abbrev pub ones_of : List Bool → ℕ
 ones_of [] = 0

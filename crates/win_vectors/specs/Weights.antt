@@ -2,7 +2,7 @@
 use Rattle.std.specs.Prelude.{◌≡◌, ℕ, ◌+◌, ◌≤◌, List, [], ◌∷◌, All, nat_lt, if◌then◌else◌}
 use Rattle.std.specs.declared.cmp.Ordering.{Ordering}
 use Rattle.std.specs.declared.cmp.Ordering.TheVariants.{Less, Greater}
-use Rattle.win_vectors.specs.Vectors.{vector_order}
+use Rattle.win_vectors.specs.Vectors.{most_layouts, vector_order}
 use Rattle.win_vectors.specs.Fronts.{Vector, Dominates}
 
 -- the sum of the weights at the ones of the vector
@@ -28,7 +28,7 @@ pub record IsWeight (w : ℕ) : Type 0 where
 -- 1 to 256 layouts; each entry is a weight, also those past the last layout
 pub record AreWeights (width : ℕ) (weights : List ℕ) : Type 0 where
   pub low : 1 ≤ width
-  pub high : width ≤ 256
+  pub high : width ≤ most_layouts
   pub each : All IsWeight weights
 
 -- a measure of vectors is monotone under dominance: a vector measures at least as much as those

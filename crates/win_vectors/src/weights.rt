@@ -1,14 +1,12 @@
 //! How much each layout of a list counts.
 
 ghost use Rattle.std.specs.Prelude.{◌≡◌, ◌≤◌, ◌<◌, ◌*◌, length, replicate, slice_get, slice_set};
+ghost use Rattle.win_vectors.specs.Vectors.{most_layouts};
 ghost use Rattle.win_vectors.specs.Weights.{report_order, weight_of};
 
-use crate::win_vector::WinVector;
+use crate::win_vector::{MOST_LAYOUTS, WinVector};
 use std::cmp::Ordering;
 use std::marker::Model;
-
-/// The most layouts that weights can be given for.
-pub const MAX_WIDTH: u16 = 256;
 
 /// The greatest weight of a layout.
 pub const MAX_WEIGHT: u32 = 1_000_000;
@@ -19,7 +17,7 @@ pub const MAX_WEIGHT: u32 = 1_000_000;
 #[derive(Clone, Debug, Drop)]
 pub struct Weights {
     width: u16,
-    weights: [u32; 256],
+    weights: [u32; MOST_LAYOUTS],
 }
 
 impl Model for Weights {
@@ -37,12 +35,12 @@ impl Weights {
     /// Weight 1 for each layout.
     pub fn equal(width: u16) -> Weights
         requires low { 1 ≤ width }
-        requires high { width ≤ MAX_WIDTH }
+        requires high { width ≤ most_layouts }
         ensures { result ≡ replicate width 1 }
     {
         Weights {
             width,
-            weights: [1; 256],
+            weights: [1; MOST_LAYOUTS],
         }
     }
 
@@ -71,7 +69,7 @@ impl Weights {
     pub fn width(&self) -> u16
         ensures value { result ≡ length self.now }
         ensures low { 1 ≤ result }
-        ensures high { result ≤ MAX_WIDTH }
+        ensures high { result ≤ most_layouts }
     {
         self.width
     }
@@ -84,7 +82,8 @@ impl Weights {
     {
         let mut total = 0u32;
         for place in 0..self.width {
-            if vector.get(place as u8) {
+            let made = vector.get(place);
+            if made {
                 total += self.weights[place as usize];
             }
         }

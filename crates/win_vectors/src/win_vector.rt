@@ -1,45 +1,52 @@
-//! A list of bits in a machine word.
+//! A list of bits in four machine words.
 
-ghost use Rattle.std.specs.Prelude.{◌≡◌, ◌↔◌, ◌≤◌, ◌<◌, ◌^◌, ◌-◌, IsTrue, true, false, length, replicate, slice_get, slice_set};
+ghost use Rattle.std.specs.Prelude.{◌≡◌, ◌↔◌, ◌≤◌, ◌<◌, IsTrue, true, false, length, replicate, slice_get, slice_set};
 ghost use Rattle.std.proofs.Common.{rules};
 ghost use Rattle.std.proofs.Math.Bool.{beq};
 ghost use Rattle.std.specs.Cmp.Lexicographic.{pointwise};
 ghost use Rattle.std.specs.Cmp.Rules.{comparing};
 ghost use Rattle.win_vectors.specs.Fronts.{Dominates};
-ghost use Rattle.win_vectors.specs.Vectors.{dominates as is_above, either_of, meet_of, ones_of, restrict_of, spread_of, vector_order};
+ghost use Rattle.win_vectors.specs.Vectors.{dominates as is_above, either_of, meet_of, most_layouts, ones_of, restrict_of, spread_of, vector_order};
 
+use crate::words::{
+    WORD_PLACES, WORDS, bits_from, first_difference, ones_below, places_in, put_bits,
+    restricted_word, spread_word, word_order, words_in_use,
+};
 use std::cmp::Ordering;
 use std::marker::Model;
+use std::simd::prelude::*;
 
-/// The most layouts that a vector can have.
-pub const MAX_WIDTH: u8 = 64;
+/// The most layouts of a vector.
+pub const MOST_LAYOUTS: usize = 256;
 
-/// One bit for each layout of a list, 1 where the layout is made: 1 to 64 bits.
+const _: () = prove!(MOST_LAYOUTS == WORDS * WORD_PLACES as usize);
+
+/// One bit for each layout of a list, 1 where the layout is made: 1 to 256 bits.
 ///
-/// The first layout has the lowest bit of the word.
+/// The first layout has the lowest bit of the first word.
 #[derive(Clone, Copy, Debug)]
 pub struct WinVector {
-    width: u8,
-    bits: u64,
+    words: [u64; WORDS],
+    width: u16,
 }
 
 impl Model for WinVector {
     ghost use Rattle.std.specs.Prelude.{List, Bool, length};
-    ghost use Rattle.bit_lists.specs.Bits.{bools, number_of};
-    ghost use Rattle.bit_lists.proofs.Bools.{length-bools, number_of-bools};
-    ghost use Rattle.win_vectors.specs.Words.{IsVectorWord};
+    ghost use Rattle.bit_lists.specs.Words.{bits_of, words_of};
+    ghost use Rattle.bit_lists.proofs.Words.{AreWordsOf, length-bits_of, words_of-bits_of};
+    ghost use Rattle.win_vectors.specs.Words.{AreVectorWords};
 
     ghost Value = { List Bool };
 
-    ghost view = { λ a. bools a.width a.bits };
+    ghost view = { λ a. bits_of a.width a.words };
 
-    ghost invariant = { λ a. IsVectorWord a.width a.bits };
+    ghost invariant = { λ a. AreVectorWords a.width a.words };
 
-    ghost inverse = { λ v. record { width = length v; bits = number_of v } };
+    ghost inverse = { λ v. record { width = length v; words = words_of 4 v } };
 
     ghost inverse_ok = { λ a h i. record {
-      width = length-bools a.width a.bits i;
-      bits = number_of-bools a.width a.bits h.fits i;
+      width = length-bits_of a.width a.words i;
+      words = words_of-bits_of 4 a.width a.words (record { long = h.four; fit = h.fit; past = h.past }) i;
     } };
 }
 
@@ -70,65 +77,84 @@ impl Eq for WinVector {
 
 impl WinVector {
     /// Each layout is made.
-    pub fn all(width: u8) -> WinVector
+    pub fn all(width: u16) -> WinVector
         requires low { 1 ≤ width }
-        requires high { width ≤ MAX_WIDTH }
+        requires high { width ≤ most_layouts }
         ensures { result ≡ replicate width true }
     {
         WinVector {
             width,
-            bits: ones_below(width),
+            words: [
+                ones_below(width, 0),
+                ones_below(width, 64),
+                ones_below(width, 128),
+                ones_below(width, 192),
+            ],
         }
     }
 
     /// No layout is made.
-    pub fn none(width: u8) -> WinVector
+    pub fn none(width: u16) -> WinVector
         requires low { 1 ≤ width }
-        requires high { width ≤ MAX_WIDTH }
+        requires high { width ≤ most_layouts }
         ensures { result ≡ replicate width false }
     {
-        WinVector { width, bits: 0 }
+        WinVector {
+            width,
+            words: [0; WORDS],
+        }
     }
 
     /// The vector with this bit at a layout, which is counted from 0.
-    pub fn set(self, place: u8, bit: bool) -> WinVector
+    pub fn set(self, place: u16, bit: bool) -> WinVector
         requires { place < length self }
         ensures { result ≡ slice_set self place bit }
     {
-        let one = 1u64 << place;
-        let bits = if bit {
-            self.bits | one
+        let word = usize::from(place / WORD_PLACES);
+        let one = 1u64 << (place % WORD_PLACES);
+        let mut words = self.words;
+        words[word] = if bit {
+            words[word] | one
         } else {
-            self.bits & !one
+            words[word] & !one
         };
         WinVector {
             width: self.width,
-            bits,
+            words,
         }
     }
 
     /// Whether a layout, which is counted from 0, is made.
-    pub fn get(self, place: u8) -> bool
+    pub fn get(self, place: u16) -> bool
         requires { place < length self }
         ensures { slice_get self place ≡ Some result }
     {
-        (self.bits >> place) & 1 == 1
+        let word = self.words[usize::from(place / WORD_PLACES)];
+        (word >> (place % WORD_PLACES)) & 1 == 1
     }
 
     /// How many layouts there are.
-    pub fn width(self) -> u8
+    pub fn width(self) -> u16
         ensures value { result ≡ length self }
         ensures low { 1 ≤ result }
-        ensures high { result ≤ MAX_WIDTH }
+        ensures high { result ≤ most_layouts }
     {
         self.width
     }
 
     /// How many layouts are made.
-    pub fn count(self) -> u8
+    pub fn count(self) -> u16
         ensures { result ≡ ones_of self }
     {
-        self.bits.count_ones() as u8
+        let [first, second, third, fourth] = self.words;
+        if self.width <= WORD_PLACES {
+            return first.count_ones() as u16;
+        }
+        let ones = first.count_ones()
+            + second.count_ones()
+            + third.count_ones()
+            + fourth.count_ones();
+        ones as u16
     }
 
     /// 1 where both have 1.
@@ -136,9 +162,10 @@ impl WinVector {
         requires { length self ≡ length other }
         ensures { result ≡ meet_of self other }
     {
+        let ones = u64x4::from_array(self.words) & u64x4::from_array(other.words);
         WinVector {
             width: self.width,
-            bits: self.bits & other.bits,
+            words: ones.to_array(),
         }
     }
 
@@ -147,9 +174,10 @@ impl WinVector {
         requires { length self ≡ length other }
         ensures { result ≡ either_of self other }
     {
+        let ones = u64x4::from_array(self.words) | u64x4::from_array(other.words);
         WinVector {
             width: self.width,
-            bits: self.bits | other.bits,
+            words: ones.to_array(),
         }
     }
 
@@ -159,14 +187,18 @@ impl WinVector {
         ensures value { result ≡ is_above self other }
         ensures meaning { IsTrue result ↔ Dominates self other }
     {
-        other.bits & !self.bits == 0
+        if other.width <= WORD_PLACES {
+            return other.words[0] & !self.words[0] == 0;
+        }
+        let lacking = u64x4::from_array(other.words) & !u64x4::from_array(self.words);
+        lacking.reduce_or() == 0
     }
 
     /// Whether the two have the same bits.
     pub fn equals(self, other: WinVector) -> bool
         ensures { IsTrue result ↔ (self ≡ other) }
     {
-        self.width == other.width && self.bits == other.bits
+        self.width == other.width && self.words == other.words
     }
 
     /// The printing order: more ones first, and among equal counts the vector with a 1 at the first layout where the two
@@ -175,19 +207,10 @@ impl WinVector {
         requires { length self ≡ length other }
         ensures { result ≡ vector_order self other }
     {
-        let (ours, theirs) = (self.bits.count_ones(), other.bits.count_ones());
-        if ours != theirs {
-            return theirs.cmp(&ours);
+        if other.width <= WORD_PLACES {
+            return word_order(self.words[0], other.words[0]);
         }
-        let apart = self.bits ^ other.bits;
-        if apart == 0 {
-            return Ordering::Equal;
-        }
-        if (self.bits >> apart.trailing_zeros()) & 1 == 1 {
-            Ordering::Less
-        } else {
-            Ordering::Greater
-        }
+        self.wide_order(other)
     }
 
     /// The bits at the ones of the mask, in order.
@@ -196,15 +219,18 @@ impl WinVector {
         requires not_empty { 1 ≤ ones_of mask }
         ensures { result ≡ restrict_of self mask }
     {
-        let mut bits = 0u64;
-        let mut width = 0u8;
-        for place in 0..self.width {
-            if (mask.bits >> place) & 1 == 1 {
-                bits |= ((self.bits >> place) & 1) << width;
-                width += 1;
-            }
+        if mask.is_all() {
+            return self;
         }
-        WinVector { width, bits }
+        let mut words = [0u64; WORDS];
+        let mut width = 0u16;
+        for word in 0..words_in_use(self.width) {
+            let places = places_in(self.width, word);
+            let bits = restricted_word(self.words[word], mask.words[word], places);
+            put_bits(&mut words, width, bits);
+            width += mask.words[word].count_ones() as u16;
+        }
+        WinVector { width, words }
     }
 
     /// The bits put at the ones of the mask, in order, and 1 at its zeros.
@@ -212,28 +238,45 @@ impl WinVector {
         requires { length self ≡ ones_of mask }
         ensures { result ≡ spread_of self mask }
     {
-        let mut bits = 0u64;
-        let mut from = self.bits;
-        for place in 0..mask.width {
-            let here = (mask.bits >> place) & 1;
-            bits |= ((from & 1) | (1 - here)) << place;
-            from >>= here;
+        if self.width == mask.width {
+            return self;
+        }
+        let mut words = [0u64; WORDS];
+        let mut from = 0u16;
+        for word in 0..words_in_use(mask.width) {
+            let places = places_in(mask.width, word);
+            words[word] = spread_word(bits_from(&self.words, from), mask.words[word], places);
+            from += mask.words[word].count_ones() as u16;
         }
         WinVector {
             width: mask.width,
-            bits,
+            words,
         }
     }
-}
 
-/// The word with a 1 at each of the lowest `width` places.
-fn ones_below(width: u8) -> u64
-    requires { width ≤ 64 }
-    ensures { result ≡ 2 ^ width - 1 }
-{
-    if width == 64 {
-        u64::MAX
-    } else {
-        (1u64 << width) - 1
+    // The printing order at any width.
+    fn wide_order(self, other: WinVector) -> Ordering
+        requires { length self ≡ length other }
+        ensures { result ≡ vector_order self other }
+    {
+        let (ours, theirs) = (self.count(), other.count());
+        if ours != theirs {
+            return theirs.cmp(&ours);
+        }
+        let Some(place) = first_difference(&self.words, &other.words) else {
+            return Ordering::Equal;
+        };
+        if self.get(place) {
+            Ordering::Less
+        } else {
+            Ordering::Greater
+        }
+    }
+
+    // Whether each layout is made.
+    fn is_all(self) -> bool
+        ensures { IsTrue result ↔ (self ≡ replicate (length self) true) }
+    {
+        self.count() == self.width
     }
 }

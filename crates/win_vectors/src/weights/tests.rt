@@ -9,10 +9,10 @@ use std::process::Abort;
 fn vector(rt: &impl Abort, text: &str) -> WinVector {
     let bits = text.as_bytes();
     assert!(rt; !bits.is_empty() && bits.len() <= 64);
-    let mut vector = WinVector::none(bits.len() as u8);
+    let mut vector = WinVector::none(bits.len() as u16);
     for (place, bit) in bits.iter().enumerate() {
         assert!(rt; place < vector.width() as usize);
-        vector = vector.set(place as u8, *bit == b'1');
+        vector = vector.set(place as u16, *bit == b'1');
     }
     vector
 }
@@ -43,7 +43,7 @@ fn check_row(rt: &impl Abort, row: &Row) {
     let own = vector(rt, row.vector);
     let other = vector(rt, row.other);
     assert!(rt; weights.width() as usize == row.weights.len());
-    assert!(rt; weights.width() == own.width() as u16 && own.width() == other.width());
+    assert!(rt; weights.width() == own.width() && own.width() == other.width());
     assert_eq!(rt; weights.total(own), row.total);
     assert_eq!(rt; weights.total(other), row.other_total);
     assert_eq!(rt; weights.order(own, other), row.order);
@@ -149,17 +149,17 @@ fn each_width_is_kept(rt: HostRuntime) {
 
 #[test]
 fn all_places_are_weighed(rt: HostRuntime) {
-    for (width, sum) in [(1u16, 1u32), (64, 2_080)] {
+    for (width, sum) in [(1u16, 1u32), (64, 2_080), (65, 2_145), (256, 32_896)] {
         let counted = counted_up(&rt, width);
         assert!(rt; counted.width() == width);
-        let first = WinVector::none(width as u8).set(0, true);
-        let last = WinVector::none(width as u8).set(width as u8 - 1, true);
-        assert_eq!(rt; counted.total(WinVector::all(width as u8)), sum);
-        assert_eq!(rt; counted.total(WinVector::none(width as u8)), 0);
+        let first = WinVector::none(width).set(0, true);
+        let last = WinVector::none(width).set(width - 1, true);
+        assert_eq!(rt; counted.total(WinVector::all(width)), sum);
+        assert_eq!(rt; counted.total(WinVector::none(width)), 0);
         assert_eq!(rt; counted.total(first), 1);
         assert_eq!(rt; counted.total(last), width as u32);
         assert_eq!(rt;
-            Weights::equal(width).total(WinVector::all(width as u8)),
+            Weights::equal(width).total(WinVector::all(width)),
             width as u32
         );
     }

@@ -1,4 +1,5 @@
-use Rattle.std.proofs.Common.{All, refl, sym, subst}
+use Rattle.std.proofs.Common.{All, refl, sym, subst, arith, ◌∙◌}
+use Rattle.std.proofs.lemmas.List.{take_all}
 use Rattle.std.proofs.lemmas.List.Elements.{All-push}
 use Rattle.strategy_games.specs.Choosing.{IsChosenPlan}
 use Rattle.strategy_tree.specs.Bridge.{bridge}
@@ -11,3 +12,7 @@ loop-place-preserved c = record {
   plans = subst (λ entries. All (λ e. IsChosenPlan bridge e.plan c.args.node.now c.args.moves e.vector) entries) (sym c.in_ok-push.ensures.items)
       (All-push (λ e. IsChosenPlan bridge e.plan c.args.node.now c.args.moves e.vector) c.loop-place.entries.items _ c.loop-place.invariant.plans c.in_ok-plan.ensures);
 }
+
+pub returns-clause-vectors : goal.returns-clause-vectors
+returns-clause-vectors c =
+    c.loop-place.invariant.vectors ∙ take_all c.loop-place.place c.args.front.now.vectors (omega (arith, c.loop-place-test.false, c.len-place-end.ensures.value))

@@ -3,4 +3,4 @@ use Rattle.trick_rules.specs.Table.{FitsLeft}
 use Rattle.tests_play.proofs.given.node_of.Given as goal
 
 abbrev pub invariant-loop-hand : goal.invariant-loop-hand
-invariant-loop-hand l = All (FitsLeft l.position) l.lefts.items × (vec_len l.lefts ≤ 64)
+invariant-loop-hand g l = All (FitsLeft l.position) l.lefts.items × (vec_len l.lefts ≤ 64)

@@ -2,7 +2,7 @@ use Rattle.std.proofs.Common.{◌≡◌, ◌<◌, Some, true, false, slice_get, 
 use Rattle.std.proofs.lemmas.List.{length-take-le, take_all}
 use Rattle.win_vectors.proofs.WeightLemmas.{weight_of-take}
 use Rattle.win_vectors.proofs.weights.Weights.total.Goals as goal
-use Rattle.win_vectors.proofs.weights.Weights.total.Goals.{then-get, else-get}
+use Rattle.win_vectors.proofs.weights.Weights.total.Goals.{then-made, else-made}
 
 pub loop-place-init : goal.loop-place-init
 loop-place-init c = record { so_far = refl; most = omega arith }
@@ -18,13 +18,13 @@ loop-place-preserved c =
     let here = c.self.invariant.each c.loop-place.place 0 within in
     let most = c.loop-place.invariant.most in
     let so_far = c.loop-place.invariant.so_far in
-    elim c.if-get.branch [
-      | then-get w ↦
-          let made : slice_get c.args.vector c.loop-place.place ≡ Some true = rw w.if-get.true at c.get.ensures in
+    elim c.if-made.branch [
+      | then-made w ↦
+          let made : slice_get c.args.vector c.loop-place.place ≡ Some true = rw w.if-made.true at c.get-made.ensures in
           let more = weight_of-take c.loop-place.place c.self.inside.weights c.args.vector true within made in
           record { so_far = rw add-one (omega arith); most = omega (arith, here.high) }
-      | else-get w ↦
-          let lost : slice_get c.args.vector c.loop-place.place ≡ Some false = rw w.if-get.false at c.get.ensures in
+      | else-made w ↦
+          let lost : slice_get c.args.vector c.loop-place.place ≡ Some false = rw w.if-made.false at c.get-made.ensures in
           let more = weight_of-take c.loop-place.place c.self.inside.weights c.args.vector false within lost in
           record { so_far = rw add-one (omega arith); most = omega arith }
     ]

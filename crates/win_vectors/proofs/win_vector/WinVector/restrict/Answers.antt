@@ -1,47 +1,52 @@
-use Rattle.std.proofs.Common.{◌≡◌, ◌<◌, ◌≤◌, arith, true, false}
-use Rattle.std.proofs.lemmas.Bool.{eq-eqb, ne_eqb}
-use Rattle.std.proofs.lemmas.Nat.Bits.{shr_and_one}
-use Rattle.bit_lists.specs.Bits.{has_bit, bools}
+use Rattle.std.proofs.Common.{◌<◌, ◌≤◌, ◌*◌, arith, sym, ◌∙◌, refl, get_or}
+use Rattle.bit_lists.specs.Words.{bits_of}
 use Rattle.win_vectors.specs.Vectors.{ones_of}
-use Rattle.win_vectors.proofs.WordLemmas.{Restricts-none, Restricts-one, Restricts-zero, Restricts-narrow, Restricts-word, widths-same}
+use Rattle.win_vectors.specs.Words.{AreVectorWords, IsRestrictedWord}
+use Rattle.win_vectors.proofs.VectorLemmas.{restrict_of-all_of}
+use Rattle.win_vectors.proofs.WordVectors.{widths-same}
+use Rattle.win_vectors.proofs.Masks.{RestrictsWords-none, RestrictsWords-next, RestrictsWords-most, RestrictsWords-end, done_at-end, next_places, ones-most}
 use Rattle.win_vectors.proofs.win_vector.WinVector.restrict.Goals as goal
-use Rattle.win_vectors.proofs.win_vector.WinVector.restrict.Goals.{then-mask-place-eq1, else-mask-place-eq1}
 
-pub loop-place-init : goal.loop-place-init
-loop-place-init c = Restricts-none c.self.inside.bits c.mask.inside.bits
+pub returns-then-is_all : goal.returns-then-is_all
+returns-then-is_all c = c.self.view_is ∙ sym (restrict_of-all_of c.args.self c.args.mask c.requires.same_width (c.if-is_all.ensures.0 refl))
 
-pub overflow_shl-bits : goal.overflow_shl-bits
-overflow_shl-bits c =
-    let high : c.loop-place.place < 64 = omega (arith, c.self.invariant.high) in
-    Restricts-narrow c.self.inside.bits c.mask.inside.bits c.loop-place.place c.loop-place.width c.loop-place.bits high c.loop-place.invariant
+pub loop-word-init : goal.loop-word-init
+loop-word-init c = RestrictsWords-none c.self.inside.width c.self.inside.words c.mask.inside.words
+
+pub put_bits-requires-clause-within : goal.put_bits-requires-clause-within
+put_bits-requires-clause-within c =
+    let more : 64 * c.loop-word.word < c.self.inside.width = omega (arith, c.words_in_use-word-end.ensures) in
+    let most = RestrictsWords-most c.self.inside.width c.loop-word.word c.loop-word.width c.self.inside.words c.mask.inside.words c.loop-word.words more c.loop-word.invariant in
+    omega (arith, c.self.invariant.high)
 
 pub overflow_add-width : goal.overflow_add-width
 overflow_add-width c =
-    let high : c.loop-place.place < 64 = omega (arith, c.self.invariant.high) in
-    omega (arith, Restricts-narrow c.self.inside.bits c.mask.inside.bits c.loop-place.place c.loop-place.width c.loop-place.bits high c.loop-place.invariant)
+    let more : 64 * c.loop-word.word < c.self.inside.width = omega (arith, c.words_in_use-word-end.ensures) in
+    let most = RestrictsWords-most c.self.inside.width c.loop-word.word c.loop-word.width c.self.inside.words c.mask.inside.words c.loop-word.words more c.loop-word.invariant in
+    let few = ones-most (get_or c.mask.inside.words c.loop-word.word 0) (c.mask.invariant.fit c.loop-word.word) in
+    record { fits = omega (arith, c.self.invariant.high) }
 
-pub loop-place-preserved : goal.loop-place-preserved
-loop-place-preserved c =
-    let high : c.loop-place.place < 64 = omega (arith, c.self.invariant.high) in
-    elim c.if-mask-place-eq1.branch [
-      | then-mask-place-eq1 w ↦
-          let here : has_bit c.mask.inside.bits c.loop-place.place ≡ true = eq-eqb _ _ (rw shr_and_one at w.if-mask-place-eq1.true) in
-          rw (w.bits-is, w.width-is, shr_and_one) (Restricts-one c.self.inside.bits c.mask.inside.bits c.loop-place.place c.loop-place.width c.loop-place.bits high here c.loop-place.invariant)
-      | else-mask-place-eq1 w ↦
-          let here : has_bit c.mask.inside.bits c.loop-place.place ≡ false = ne_eqb _ _ (rw shr_and_one at w.if-mask-place-eq1.false) in
-          rw (w.bits-is, w.width-is) (Restricts-zero c.self.inside.bits c.mask.inside.bits c.loop-place.place c.loop-place.width c.loop-place.bits here c.loop-place.invariant)
-    ]
+pub loop-word-preserved : goal.loop-word-preserved
+loop-word-preserved c =
+    let same = widths-same c.self.inside.width c.mask.inside.width c.self.inside.words c.mask.inside.words c.args.self c.args.mask c.self.view_is c.mask.view_is c.requires.same_width in
+    let mask : AreVectorWords c.self.inside.width c.mask.inside.words = rw same c.mask.invariant in
+    let more : 64 * c.loop-word.word < c.self.inside.width = omega (arith, c.words_in_use-word-end.ensures) in
+    let restricted : IsRestrictedWord (get_or c.self.inside.words c.loop-word.word 0) (get_or c.mask.inside.words c.loop-word.word 0) (next_places c.self.inside.width c.loop-word.word) c.restricted_word-bits.result =
+    rw (← c.places_in-places.ensures) c.restricted_word-bits.ensures in
+    RestrictsWords-next c.self.inside.width c.loop-word.word c.loop-word.width c.restricted_word-bits.result c.self.inside.words c.mask.inside.words c.loop-word.words c.put_bits.new.words
+    mask more restricted c.put_bits.ensures c.loop-word.invariant
 
-pub invariant_of-result : goal.invariant_of-result
-invariant_of-result c =
-    let same = widths-same c.self.inside.width c.self.inside.bits c.mask.inside.width c.mask.inside.bits c.args.self c.args.mask c.self.view_is c.mask.view_is c.requires.same_width in
-    let whole : c.loop-place.place ≡ c.self.inside.width = omega arith in
-    let not_empty : 1 ≤ ones_of (bools c.loop-place.place c.mask.inside.bits) = rw (whole, same, c.mask.view_is) c.requires.not_empty in
-    let high : c.loop-place.place ≤ 64 = omega (arith, c.self.invariant.high) in
-    Restricts-word c.self.inside.bits c.mask.inside.bits c.loop-place.place c.loop-place.width c.loop-place.bits high not_empty c.loop-place.invariant
+pub invariant_of-result-2 : goal.invariant_of-result-2
+invariant_of-result-2 c =
+    let same = widths-same c.self.inside.width c.mask.inside.width c.self.inside.words c.mask.inside.words c.args.self c.args.mask c.self.view_is c.mask.view_is c.requires.same_width in
+    let mask : AreVectorWords c.self.inside.width c.mask.inside.words = rw same c.mask.invariant in
+    let end : c.self.inside.width ≤ 64 * c.loop-word.word = omega (arith, c.words_in_use-word-end.ensures) in
+    let some : 1 ≤ ones_of (bits_of c.self.inside.width c.mask.inside.words) = rw (same, c.mask.view_is) c.requires.not_empty in
+    RestrictsWords-end c.self.inside.width c.loop-word.word c.loop-word.width c.self.inside.words c.mask.inside.words c.loop-word.words mask end some c.loop-word.invariant
 
 pub returns : goal.returns
 returns c =
-    let same = widths-same c.self.inside.width c.self.inside.bits c.mask.inside.width c.mask.inside.bits c.args.self c.args.mask c.self.view_is c.mask.view_is c.requires.same_width in
-    let whole : c.loop-place.place ≡ c.self.inside.width = omega arith in
-    rw (← c.self.view_is, ← c.mask.view_is, ← same, ← whole) c.loop-place.invariant.so_far
+    let same = widths-same c.self.inside.width c.mask.inside.width c.self.inside.words c.mask.inside.words c.args.self c.args.mask c.self.view_is c.mask.view_is c.requires.same_width in
+    let end : c.self.inside.width ≤ 64 * c.loop-word.word = omega (arith, c.words_in_use-word-end.ensures) in
+    let whole = done_at-end c.self.inside.width c.loop-word.word end in
+    rw (← c.self.view_is, ← c.mask.view_is, ← same) (rw whole at c.loop-word.invariant.so_far)

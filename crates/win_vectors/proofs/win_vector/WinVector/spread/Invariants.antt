@@ -1,5 +1,5 @@
-use Rattle.win_vectors.proofs.WordLemmas.{Spreads}
+use Rattle.win_vectors.proofs.Masks.{SpreadsWords, done_at}
 use Rattle.win_vectors.proofs.win_vector.WinVector.spread.Given as goal
 
-abbrev pub invariant-loop-place : goal.invariant-loop-place
-invariant-loop-place l = Spreads l.initial.from l.mask-inside.bits l.place l.from l.bits
+abbrev pub invariant-loop-word : goal.invariant-loop-word
+invariant-loop-word l = SpreadsWords l.self-inside.words l.mask-inside.words (done_at l.mask-inside.width l.word) l.from l.words
