@@ -5,9 +5,11 @@
 
 mod answers;
 mod budget;
+mod exact;
 mod node_search;
 mod plain;
 
 pub use answers::{Found, RootFault, SearchFault};
 pub use budget::Budget;
+pub use exact::exact_front;
 pub use node_search::search;

@@ -29,7 +29,7 @@ use Rattle.am_answer.specs.declared.status.Status.TheVariants.{BadPbn, NoTurn}
 use Rattle.am_answer.specs.Files.{inputs_read}
 use Rattle.am_answer.specs.Judging.{plans_in}
 use Rattle.am_answer.specs.Refusals.{board_status, layout_status, make_status}
-use Rattle.am_answer.specs.Steps.{◌>>=◌}
+use Rattle.byte_text.specs.Steps.{◌>>=◌}
 
 -- ---- the board and the layouts
 

@@ -12,7 +12,7 @@ use Rattle.am_answer.specs.declared.status.FileWord.{FileWord}
 use Rattle.am_answer.specs.declared.status.FileWord.TheVariants.{Deal, Layouts, Report}
 use Rattle.am_answer.specs.declared.status.Status.{Status}
 use Rattle.am_answer.specs.declared.status.Status.TheVariants.{BadWords, Unread, TooLong}
-use Rattle.am_answer.specs.Steps.{◌>>=◌}
+use Rattle.byte_text.specs.Steps.{◌>>=◌}
 
 -- the most bytes that a file may have
 abbrev pub limit_of : FileWord → ℕ

@@ -14,7 +14,7 @@ use Rattle.am_answer.specs.declared.status.Place.{Place}
 use Rattle.am_answer.specs.declared.status.Place.TheVariants.{Head, Width, Node, Layout}
 use Rattle.am_answer.specs.declared.status.Status.{Status}
 use Rattle.am_answer.specs.declared.status.Status.TheVariants.{BadReport, Refuted}
-use Rattle.am_answer.specs.Steps.{◌>>=◌}
+use Rattle.byte_text.specs.Steps.{◌>>=◌}
 
 -- the first layout, counted from this number, where two vectors differ, with the first vector's bit
 abbrev pub first_difference : ℕ → Vector → Vector → Option Place

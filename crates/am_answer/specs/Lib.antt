@@ -1,5 +1,4 @@
 pub mod Codes
-pub mod Steps
 pub mod Files
 pub mod Refusals
 pub mod Judging

@@ -1,5 +1,5 @@
 //! What the words ask for, once the files that they name are read.
-use am_outside::Text;
+use byte_text::Text;
 use job_words::Search;
 
 /// A job on layouts, with the report that it judges.

@@ -10,7 +10,8 @@ ghost use Rattle.am_answer.specs.Refusals.{IsUnread};
 ghost use Rattle.am_answer.specs.Stages.{IsOfFiles, IsOfReading, IsReadRefusal};
 
 use am_answer::{FileWord, Inputs, Status, Work};
-use am_outside::{Shelf, ShelfFault, Text};
+use am_outside::{Shelf, ShelfFault};
+use byte_text::Text;
 use job_words::{Ask, LayoutsJob, read_words};
 use std::alloc::Global;
 

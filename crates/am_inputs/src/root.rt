@@ -4,7 +4,7 @@ ghost use Rattle.am_answer.specs.Answers.{board_in, kept_in, has_choice, root_in
 ghost use Rattle.am_answer.specs.Stages.{IsFileRefusal};
 
 use am_answer::{PbnKind, Root, Status, board_status, layout_status, syntax_status};
-use am_outside::Text;
+use byte_text::Text;
 use layout_list::{Kept, layouts};
 use pbn_deal::{Board, read_board};
 use pbn_text::games;

@@ -1,5 +1,5 @@
 //! The outside: what is read, what is written, and who is told of it.
-//! It stands on `card_sets`, for the cards that a gate is told.
+//! It stands on `byte_text`, for what is read, and on `card_sets`, for the cards that a gate is told.
 //! Told bytes are read and written exactly, and a fault is answered only where a count of faults rose.
 #![tactic(auto)]
 
@@ -11,8 +11,8 @@ mod memory_sink;
 mod shelf;
 mod sink;
 mod std_sink;
-mod text;
 
+pub use byte_text::Text;
 pub use file_shelf::FileShelf;
 pub use gate::{Gate, OpenGate};
 pub use memory_shelf::MemoryShelf;
@@ -20,4 +20,3 @@ pub use memory_sink::MemorySink;
 pub use shelf::{Shelf, ShelfFault};
 pub use sink::{Sink, SinkFailed, write_whole};
 pub use std_sink::StdSink;
-pub use text::Text;

@@ -66,13 +66,11 @@ impl MemoryShelf {
         ensures added { OnOk result (self.new ≡ with_file self.old name.now bytes.now) }
         ensures unchanged { OnErr result (self.new ≡ self.old) }
     {
-        let mut content = Text::new(self.alloc);
-        content.push(bytes)?;
+        let content = Text::from_bytes(self.alloc, bytes)?;
         match place_of(&self.files, name) {
             Some(place) => self.files[place].bytes = content,
             None => {
-                let mut key = Text::new(self.alloc);
-                key.push(name.as_bytes())?;
+                let key = Text::from_bytes(self.alloc, name.as_bytes())?;
                 self.files.push(StoredFile {
                     name: key,
                     bytes: content,
@@ -172,9 +170,7 @@ fn copy_within(alloc: Global, bytes: &[u8], limit: u64) -> Result<Text, ShelfFau
     if bytes.len() as u64 > limit {
         return Err(ShelfFault::TooLong);
     }
-    let mut text = Text::new(alloc);
-    text.push(bytes)?;
-    Ok(text)
+    Ok(Text::from_bytes(alloc, bytes)?)
 }
 
 // The place of the first file of that name.

@@ -2,7 +2,7 @@
 use Rattle.std.proofs.Common.{◌≡◌, ℕ, suc, ◌+◌, ◌^◌, ◌<◌, ◌≤◌, Bool, true, false, not, ◌&&◌, ◌==◌, nat_le, if◌then◌else◌, Option, Some, None, Ok, List, [], ◌∷◌, ◌++◌, length, take, drop, map, position, flat_map, get_or, codes, All, refl, sym, ap, subst, ◌∙◌, arith, append_assoc, append-nil, length-append}
 use Rattle.std.specs.List.{list_all, range_with_len, position_or_len}
 use Rattle.std.specs.Fmt.{decimal}
-use Rattle.std.proofs.lemmas.Bool.{false≢true}
+use Rattle.std.proofs.lemmas.Bool.{false≢true, and_parts}
 use Rattle.std.proofs.lemmas.Bool.Decides.{Decides-eqb, Decides-ltb}
 use Rattle.std.proofs.lemmas.List.{drop_at, take_at, length-map}
 use Rattle.std.proofs.lemmas.List.Elements.{All-head, All-tail}
@@ -11,8 +11,9 @@ use Rattle.std.proofs.lemmas.List.FromFn.{get_or-range_with_len, length-range_wi
 use Rattle.win_vectors.specs.Vectors.{ones_of}
 use Rattle.card_letters.specs.Letters.{card_text, card_read}
 use Rattle.strategy_games.specs.Plans.{Plan}
-use Rattle.strategy_tree.specs.PlanText.{line_of, plan_text}
-use Rattle.strategy_tree.specs.PlanRead.{line_at, said_at, plan_read}
+use Rattle.byte_text.specs.Lines.{line_of, line_at, said_at}
+use Rattle.strategy_tree.specs.PlanText.{plan_text}
+use Rattle.strategy_tree.specs.PlanRead.{plan_read}
 use Rattle.strategy_tree.proofs.ReadBack.{reads_back}
 use Rattle.am_report.specs.declared.fault.ReportKind.TheVariants as kinds
 use Rattle.am_report.specs.Answers.{EntryValue}
@@ -21,34 +22,10 @@ use Rattle.am_report.specs.Solve.{bit_letter, vector_line, entry_text}
 use Rattle.am_report.specs.ReportLines.{ends_bits, is_one, front_said, count_said, counted, bits_said, vector_said, card_said}
 use Rattle.am_report.specs.Reading.{expected, entry_read, entries_read}
 use Rattle.am_report.specs.ReadBack.{IsPrintablePlan, IsPrintableEntry}
-use Rattle.am_report.proofs.Numbers.{and_parts, le_true, number_within-decimal}
-use Rattle.am_report.proofs.PlainTexts.{is_plain, plain_both, decimal_plain, card_text_plain}
+use Rattle.byte_text.proofs.ReadNumbers.{le_true, number_within-decimal}
+use Rattle.byte_text.proofs.PlainLines.{is_plain, plain_both, decimal_plain, said_at-here}
+use Rattle.am_report.proofs.PlainTexts.{card_text_plain}
 use Rattle.am_report.proofs.ReportSteps.{entry_read-plan}
-
--- ---- what the line at a place says
-
-position_or_len-line : (text rest : List ℕ) → is_plain text ≡ true → position_or_len (λ b. b == 10) (text ++ 10 ∷ rest) ≡ length text
-position_or_len-line [] rest line = refl
-position_or_len-line (b ∷ text) rest line = let parts = and_parts (not (b == 10)) (is_plain text) line in rw parts.0 (omega (arith, position_or_len-line text rest parts.1))
-
-position_is : (p : ℕ → Bool) (xs : List ℕ) (i : ℕ) → position_or_len p xs ≡ i → i < length xs → position p xs ≡ Some i
-position_is p xs i is low = rw (is, (Decides-ltb i (length xs)).1 low) refl
-
-position-line : (text rest : List ℕ) → is_plain text ≡ true → position (λ b. b == 10) (text ++ 10 ∷ rest) ≡ Some (length text)
-position-line text rest line =
-    position_is (λ b. b == 10) (text ++ 10 ∷ rest) (length text) (position_or_len-line text rest line) (omega (arith, length-append text (10 ∷ rest)))
-
-line_at-here : (before text rest : List ℕ) → is_plain text ≡ true → line_at (before ++ (text ++ 10 ∷ rest)) (length before) ≡ Some text
-unfolding line_at
-line_at-here before text rest line = rw (drop_at before (text ++ 10 ∷ rest) (length before) refl, position-line text rest line, take_at text (10 ∷ rest) (length text) refl) refl
-
--- what the line behind these bytes says, and where the next one begins
-pub said_at-here : {A : Type 0} (says : List ℕ → Option A) (before text rest : List ℕ) (x : A) → is_plain text ≡ true → says text ≡ Some x
-    → said_at says (before ++ (line_of text ++ rest)) (length before) ≡ Some (x, length (before ++ line_of text))
-said_at-here says before text rest x line said =
-    let here : line_at (before ++ (line_of text ++ rest)) (length before) ≡ Some text = subst (λ bytes. line_at (before ++ bytes) (length before) ≡ Some text) (sym (append_assoc text (10 ∷ []) rest)) (line_at-here before text rest line) in
-    let next : length before + length text + 1 ≡ length (before ++ line_of text) = omega (arith, length-append before (line_of text), length-append text (10 ∷ [])) in
-    rw (here, said, next) refl
 
 -- ---- the number of vectors
 

@@ -10,7 +10,8 @@ use Rattle.trick_rules.specs.Table.{Table, to_play}
 use Rattle.pbn_deal.specs.Boards.{BoardValue}
 use Rattle.win_vectors.specs.Vectors.{ones_of}
 use Rattle.fusion_base.specs.declared.table.CardVector.{CardVector}
-use Rattle.strategy_tree.specs.PlanText.{line_of, plan_text}
+use Rattle.byte_text.specs.Lines.{line_of}
+use Rattle.strategy_tree.specs.PlanText.{plan_text}
 use Rattle.am_report.specs.Answers.{EntryValue}
 use Rattle.am_report.specs.Card.{count_text}
 use Rattle.am_report.specs.Fusion.{most_ones}

@@ -3,7 +3,7 @@ use Rattle.std.proofs.Common.{◌≡◌, ℕ, ◌+◌, ◌≤◌, Bool, true, fa
 use Rattle.std.specs.Option.{option_map}
 use Rattle.std.specs.List.{slice_split, filter_map, range_with_len}
 use Rattle.std.specs.Fmt.{decimal}
-use Rattle.std.proofs.lemmas.Bool.{ne_eqb, false≢true}
+use Rattle.std.proofs.lemmas.Bool.{ne_eqb, false≢true, and_parts, not-true}
 use Rattle.std.proofs.lemmas.Bool.Decides.{Decides-eqb}
 use Rattle.std.proofs.lemmas.List.{drop_at}
 use Rattle.std.proofs.lemmas.List.Splits.{slice_split_at}
@@ -20,14 +20,14 @@ use Rattle.layout_list.specs.declared.kept.Cause.{Cause}
 use Rattle.layout_list.specs.declared.kept.Cause.TheVariants.{NotHeld, Revoke}
 use Rattle.layout_list.specs.declared.kept.Dropped.{Dropped}
 use Rattle.layout_list.specs.Kept.{KeptValue}
-use Rattle.strategy_tree.specs.PlanText.{line_of}
-use Rattle.strategy_tree.specs.PlanRead.{text_after}
+use Rattle.byte_text.specs.Lines.{line_of, text_after, is_line_end}
 use Rattle.am_report.specs.Lines.{spaced}
 use Rattle.am_report.specs.Head.{seat_text, trump_text, hand_line, cards_text, trick_line, cause_text, dropped_line, table_text, kept_line, head_text}
-use Rattle.am_report.specs.ReportLines.{is_line_end, moves_said}
+use Rattle.am_report.specs.ReportLines.{moves_said}
 use Rattle.am_report.specs.Reading.{only, is_front, front_place, moves_in}
-use Rattle.am_report.proofs.Numbers.{and_parts, number_within-decimal}
-use Rattle.am_report.proofs.PlainTexts.{is_plain, not_true, plain_byte, plain_all, plain_both, decimal_plain, suit_letter_plain, compass_letter_plain, card_text_plain, hand_text_plain, spaced_plain}
+use Rattle.byte_text.proofs.ReadNumbers.{number_within-decimal}
+use Rattle.byte_text.proofs.PlainLines.{is_plain, plain_byte, plain_all, plain_both, decimal_plain}
+use Rattle.am_report.proofs.PlainTexts.{suit_letter_plain, compass_letter_plain, card_text_plain, hand_text_plain, spaced_plain}
 
 -- ---- lines
 
@@ -64,13 +64,13 @@ swapped a b other = ne_eqb b a (λ same. false≢true (sym other ∙ (Decides-eq
 quiet_no_front : (line : List ℕ) → begins_other line ≡ true → (rest : List ℕ) → text_after (codes "front ") (line ++ rest) ≡ None
 quiet_no_front [] other rest = absurd (false≢true other)
 quiet_no_front (byte ∷ line) other rest =
-    let apart = swapped byte 102 (not_true (byte == 102) (and_parts (not (byte == 102)) (not (byte == 109)) other).0) in rw apart refl
+    let apart = swapped byte 102 (not-true (byte == 102) (and_parts (not (byte == 102)) (not (byte == 109)) other).0) in rw apart refl
 
 quiet_no_moves : (line : List ℕ) → begins_other line ≡ true → moves_said line ≡ None
 unfolding moves_said
 quiet_no_moves [] other = absurd (false≢true other)
 quiet_no_moves (byte ∷ line) other =
-    let apart = swapped byte 109 (not_true (byte == 109) (and_parts (not (byte == 102)) (not (byte == 109)) other).1) in rw apart refl
+    let apart = swapped byte 109 (not-true (byte == 109) (and_parts (not (byte == 102)) (not (byte == 109)) other).1) in rw apart refl
 
 head_line : (line : List ℕ) → IsQuiet line → IsHeadLine line
 head_line line quiet = record { plain = quiet.plain; no_front = quiet_no_front line quiet.other }

@@ -1,7 +1,7 @@
 pub mod EntryLines
 pub mod Grown
 pub mod HeadLines
-pub mod Numbers
+pub mod Bits
 pub mod PlainTexts
 pub mod ReportReadBack
 pub mod ReportSteps

@@ -1,8 +1,8 @@
--- Texts in which no line ends.
+-- No line ends inside a letter, a card, a hand or a list of them.
 use Rattle.std.proofs.Common.{◌≡◌, ℕ, zero, suc, ◌+◌, ◌-◌, ◌/◌, ◌%◌, ◌≤◌, Bool, true, false, not, ◌&&◌, ◌==◌, if◌then◌else◌, nat_lt, List, [], ◌∷◌, ◌++◌, map, filter, flat_map, get_or, All, refl, ap, ◌∙◌, arith, codes}
 use Rattle.std.specs.List.{list_all, join_with_byte}
 use Rattle.std.specs.Fmt.{decimal, digit_glyph, digits_onto, digits}
-use Rattle.std.proofs.lemmas.Bool.{ne_eqb, false≢true}
+use Rattle.std.proofs.lemmas.Bool.{and_parts}
 use Rattle.std.proofs.lemmas.List.Folds.{list_all-append}
 use Rattle.std.proofs.lemmas.List.Elements.{All-nil, All-cons}
 use Rattle.card_sets.specs.declared.card.Suit.{Suit}
@@ -15,61 +15,8 @@ use Rattle.pbn_deal.specs.Hands.{suit_order}
 use Rattle.card_letters.specs.Letters.{card_text, suit_letter, rank_letter, compass_letter}
 use Rattle.pbn_deal.specs.Writing.{ranks_down, suit_text, hand_text}
 use Rattle.am_report.specs.Lines.{spaced}
-use Rattle.am_report.specs.ReportLines.{is_line_end}
-use Rattle.am_report.proofs.Numbers.{and_parts}
-
--- no byte is a line end
-abbrev pub is_plain : List ℕ → Bool
-is_plain text = list_all (λ byte. not (is_line_end byte)) text
-
-both_true : (a b : Bool) → a ≡ true → b ≡ true → (a && b) ≡ true
-both_true a b first second = rw (first, second) refl
-
-pub not_true : (b : Bool) → not b ≡ true → b ≡ false
-not_true false h = refl
-not_true true h = absurd (false≢true h)
-
-pub plain_byte : (byte : ℕ) → not (is_line_end byte) ≡ true → is_line_end byte ≡ false
-plain_byte byte h = not_true (is_line_end byte) h
-
-pub plain_all : (text : List ℕ) → is_plain text ≡ true → All (λ byte. is_line_end byte ≡ false) text
-plain_all [] plain = All-nil (λ byte. is_line_end byte ≡ false)
-plain_all (byte ∷ text) plain =
-    let parts = and_parts (not (is_line_end byte)) (is_plain text) plain in
-    All-cons (λ b. is_line_end b ≡ false) byte text (plain_byte byte parts.0) (plain_all text parts.1)
-
-pub plain_both : (a b : List ℕ) → is_plain a ≡ true → is_plain b ≡ true → is_plain (a ++ b) ≡ true
-plain_both a b first second = list_all-append (λ byte. not (is_line_end byte)) a b ∙ both_true (is_plain a) (is_plain b) first second
-
-pub plain_cons : (byte : ℕ) (text : List ℕ) → not (is_line_end byte) ≡ true → is_plain text ≡ true → is_plain (byte ∷ text) ≡ true
-plain_cons byte text first second = both_true (not (is_line_end byte)) (is_plain text) first second
-
-above_plain : (byte : ℕ) → 11 ≤ byte → not (is_line_end byte) ≡ true
-above_plain byte high = ap not (ne_eqb byte 10 (λ e. omega arith))
-
--- ---- numbers
-
-if_plain : (b : Bool) (x y : List ℕ) → is_plain x ≡ true → is_plain y ≡ true → is_plain (if b then x else y) ≡ true
-if_plain true x y first second = first
-if_plain false x y first second = second
-
-glyph_plain : (d : ℕ) → not (is_line_end (digit_glyph false d)) ≡ true
-glyph_plain d = go (nat_lt d 10)
-  where
-    go : (b : Bool) → not (is_line_end (if b then 48 + d else 87 + d)) ≡ true
-    go true = above_plain (48 + d) (omega arith)
-    go false = above_plain (87 + d) (omega arith)
-
-digits_onto_plain : (k n : ℕ) (text : List ℕ) → is_plain text ≡ true → is_plain (digits_onto k 10 false n text) ≡ true
-digits_onto_plain zero n text plain = plain
-digits_onto_plain (suc k) n text plain =
-    let more = plain_cons (digit_glyph false (n % 10)) text (glyph_plain (n % 10)) plain in
-    if_plain (n / 10 == 0) (digit_glyph false (n % 10) ∷ text) (digits_onto k 10 false (n / 10) (digit_glyph false (n % 10) ∷ text)) more
-    (digits_onto_plain k (n / 10) (digit_glyph false (n % 10) ∷ text) more)
-
-pub decimal_plain : (n : ℕ) → is_plain (decimal n) ≡ true
-unfolding digits
-decimal_plain n = digits_onto_plain 64 n [] refl
+use Rattle.byte_text.specs.Lines.{is_line_end}
+use Rattle.byte_text.proofs.PlainLines.{is_plain, plain_both, plain_cons}
 
 -- ---- letters
 

@@ -4,8 +4,7 @@ use Rattle.std.specs.Fmt.{decimal}
 use Rattle.std.proofs.lemmas.List.{drop_at, take_at}
 use Rattle.pbn_deal.specs.Boards.{BoardValue}
 use Rattle.layout_list.specs.Kept.{KeptValue}
-use Rattle.strategy_tree.specs.PlanText.{line_of}
-use Rattle.strategy_tree.specs.PlanRead.{said_at}
+use Rattle.byte_text.specs.Lines.{line_of, said_at}
 use Rattle.am_report.specs.declared.fault.ReportKind.TheVariants as kinds
 use Rattle.am_report.specs.Answers.{AnswerValue}
 use Rattle.am_report.specs.Card.{count_text}

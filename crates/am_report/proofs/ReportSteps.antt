@@ -7,16 +7,17 @@ use Rattle.std.proofs.lemmas.List.{take_rest}
 use Rattle.strategy_games.specs.Plans.{Plan}
 use Rattle.strategy_tree.specs.declared.plan_reader.PlanFault.{PlanFault}
 use Rattle.strategy_tree.specs.declared.plan_reader.PlanFault.TheVariants as plan_faults
-use Rattle.strategy_tree.specs.PlanText.{line_of}
-use Rattle.strategy_tree.specs.PlanRead.{text_after, said_at, plan_read}
+use Rattle.byte_text.specs.Lines.{line_of, text_after, said_at, is_line_end, line_number}
+use Rattle.strategy_tree.specs.PlanRead.{plan_read}
 use Rattle.am_report.specs.declared.fault.ReportKind.{ReportKind}
 use Rattle.am_report.specs.declared.fault.ReportKind.TheVariants as kinds
 use Rattle.am_report.specs.declared.fault.ReportFault.{ReportFault}
 use Rattle.am_report.specs.declared.fault.ReportFault.TheVariants as faults
 use Rattle.am_report.specs.declared.reading.Head.{Head}
 use Rattle.am_report.specs.Answers.{EntryValue}
-use Rattle.am_report.specs.ReportLines.{is_line_end, moves_said, vector_said, card_said}
-use Rattle.am_report.specs.Reading.{line_number, expected, ◌>>=◌, only, moves_in, head_read, plan_fault, entry_read, entries_read, end_read, below_read, IsFaultOf}
+use Rattle.am_report.specs.ReportLines.{moves_said, vector_said, card_said}
+use Rattle.am_report.specs.Reading.{expected, only, moves_in, head_read, plan_fault, entry_read, entries_read, end_read, below_read, IsFaultOf}
+use Rattle.byte_text.specs.Steps.{◌>>=◌}
 
 -- ---- faults
 

@@ -2,7 +2,7 @@
 use Rattle.std.specs.Prelude.{ℕ, List, ◌++◌, codes}
 use Rattle.std.specs.Fmt.{decimal}
 use Rattle.card_letters.specs.Letters.{card_text as letters_of}
-use Rattle.strategy_tree.specs.PlanText.{line_of}
+use Rattle.byte_text.specs.Lines.{line_of}
 
 -- the card to play, and in how many layouts the contract is made
 unfoldable pub count_text : ℕ → ℕ → List ℕ

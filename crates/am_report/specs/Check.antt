@@ -1,7 +1,7 @@
 -- A report whose plans are all good.
 use Rattle.std.specs.Prelude.{ℕ, List, ◌++◌, codes}
 use Rattle.std.specs.Fmt.{decimal}
-use Rattle.strategy_tree.specs.PlanText.{line_of}
+use Rattle.byte_text.specs.Lines.{line_of}
 
 -- how many plans the report has, and that they are good
 unfoldable pub check_text : ℕ → List ℕ

@@ -3,7 +3,7 @@ use Rattle.std.specs.Prelude.{ℕ, ◌==◌, Option, None, Some, List, [], ◌�
 use Rattle.card_letters.specs.Letters.{card_text}
 use Rattle.win_vectors.specs.Vectors.{ones_of}
 use Rattle.fusion_base.specs.declared.table.CardVector.{CardVector}
-use Rattle.strategy_tree.specs.PlanText.{line_of}
+use Rattle.byte_text.specs.Lines.{line_of}
 use Rattle.am_report.specs.Solve.{vector_line}
 
 -- a card, its vector, and how many ones the vector has

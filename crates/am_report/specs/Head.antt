@@ -13,7 +13,7 @@ use Rattle.layout_list.specs.declared.kept.Cause.{Cause}
 use Rattle.layout_list.specs.declared.kept.Cause.TheVariants.{NotHeld, Revoke}
 use Rattle.layout_list.specs.declared.kept.Dropped.{Dropped}
 use Rattle.layout_list.specs.Kept.{KeptValue}
-use Rattle.strategy_tree.specs.PlanText.{line_of}
+use Rattle.byte_text.specs.Lines.{line_of}
 use Rattle.am_report.specs.Lines.{spaced}
 
 -- the letter of a seat's place at the table

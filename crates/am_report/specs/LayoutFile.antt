@@ -7,7 +7,7 @@ use Rattle.card_sets.specs.declared.seat.Compass.TheVariants.{N, E, S, W}
 use Rattle.pbn_deal.specs.Boards.{BoardValue, seat_of}
 use Rattle.pbn_deal.specs.Writing.{deal_text}
 use Rattle.layout_list.specs.declared.line.Defenders.{Defenders}
-use Rattle.strategy_tree.specs.PlanText.{line_of}
+use Rattle.byte_text.specs.Lines.{line_of}
 
 -- the hand of a seat before the first card
 abbrev pub dealt_hand : BoardValue → Defenders → Seat → List ℕ

@@ -2,7 +2,7 @@
 use Rattle.std.specs.Prelude.{ℕ, List, ◌++◌, codes}
 use Rattle.std.specs.Fmt.{decimal}
 use Rattle.card_letters.specs.Letters.{card_text}
-use Rattle.strategy_tree.specs.PlanText.{line_of}
+use Rattle.byte_text.specs.Lines.{line_of}
 use Rattle.am_report.specs.declared.made.MadeSummary.{MadeSummary}
 
 -- the number, how many layouts are kept, the length of the front, the best count, and the card that is named

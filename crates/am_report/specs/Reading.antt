@@ -1,12 +1,13 @@
 -- How a report is read: the version, the head, the front with its plans, the card to play and the end. The first fault is the answer.
-use Rattle.std.specs.Prelude.{◌≡◌, ℕ, zero, suc, ◌+◌, ◌-◌, Bool, List, [], ◌∷◌, length, take, drop, find, count_by, Option, Some, None, option_and_then, Result, Ok, Err, if◌then◌else◌, codes}
+use Rattle.std.specs.Prelude.{◌≡◌, ℕ, zero, suc, ◌+◌, ◌-◌, Bool, List, [], ◌∷◌, length, take, drop, find, Option, Some, None, option_and_then, Result, Ok, Err, if◌then◌else◌, codes}
 use Rattle.std.specs.Option.{option_map, is_some}
 use Rattle.std.specs.List.{slice_split, filter_map, range_with_len}
 use Rattle.strategy_games.specs.Plans.{Plan as PlanValue}
 use Rattle.strategy_tree.specs.declared.plan_reader.PlanFault.{PlanFault}
 use Rattle.strategy_tree.specs.declared.plan_reader.PlanFault.TheVariants as plan_faults
-use Rattle.strategy_tree.specs.PlanText.{line_of}
-use Rattle.strategy_tree.specs.PlanRead.{text_after, said_at, plan_read}
+use Rattle.byte_text.specs.Lines.{line_of, line_number, text_after, said_at, is_line_end}
+use Rattle.byte_text.specs.Steps.{◌>>=◌}
+use Rattle.strategy_tree.specs.PlanRead.{plan_read}
 use Rattle.am_report.specs.declared.fault.ReportKind.{ReportKind}
 use Rattle.am_report.specs.declared.fault.ReportKind.TheVariants as kinds
 use Rattle.am_report.specs.declared.fault.ReportFault.{ReportFault}
@@ -14,7 +15,7 @@ use Rattle.am_report.specs.declared.fault.ReportFault.TheVariants as faults
 use Rattle.am_report.specs.declared.reading.Head.{Head}
 use Rattle.am_report.specs.declared.reading.ReadReport.{ReadReport}
 use Rattle.am_report.specs.Answers.{EntryValue}
-use Rattle.am_report.specs.ReportLines.{is_line_end, front_said, moves_said, vector_said, card_said}
+use Rattle.am_report.specs.ReportLines.{front_said, moves_said, vector_said, card_said}
 
 -- what a report says: the text of its head, the moves, the front with its plans, the card to play and its count of layouts
 pub record ReportValue : Type 0 where
@@ -26,18 +27,9 @@ pub record ReportValue : Type 0 where
 
 -- ---- lines by their numbers
 
--- the number of the line in which a place lies
-abbrev pub line_number : List ℕ → ℕ → ℕ
-line_number bytes at = 1 + count_by is_line_end (take at bytes)
-
 -- the number of the line after that of the last byte
 abbrev pub line_after_last : List ℕ → ℕ
 line_after_last bytes = line_number bytes (length bytes - 1) + 1
-
-infixl 10 ◌>>=◌
-abbrev pub ◌>>=◌ : {A B : Type 0} → Result A (ℕ × ReportKind) → (A → Result B (ℕ × ReportKind)) → Result B (ℕ × ReportKind)
-Ok x >>= f = f x
-Err fault >>= f = Err fault
 
 -- what has to stand at a place
 abbrev pub expected : {A : Type 0} → ReportKind → List ℕ → ℕ → Option A → Result A (ℕ × ReportKind)

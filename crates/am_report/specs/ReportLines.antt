@@ -1,30 +1,12 @@
 -- What the lines of a report say.
-use Rattle.std.specs.Prelude.{ℕ, Bool, false, ◌&&◌, ◌||◌, ◌==◌, not, nat_le, Option, None, Some, option_and_then, List, [], ◌∷◌, length, map, drop, take, if◌then◌else◌, codes, bytes_eq}
+use Rattle.std.specs.Prelude.{ℕ, Bool, ◌&&◌, ◌||◌, ◌==◌, not, nat_le, Option, None, Some, option_and_then, List, [], ◌∷◌, length, map, drop, take, if◌then◌else◌, codes}
 use Rattle.std.specs.Option.{option_map}
 use Rattle.std.specs.List.{position_or_len}
-use Rattle.std.specs.Fmt.{decimal}
-use Rattle.std.specs.Str.{all_ascii_digits}
-use Rattle.std.specs.Str.Parse.{digits_value}
 use Rattle.win_vectors.specs.Vectors.{ones_of}
 use Rattle.card_letters.specs.Letters.{card_read}
+use Rattle.byte_text.specs.Lines.{text_after}
+use Rattle.byte_text.specs.Numerals.{number_within}
 use Rattle.layout_list.specs.Lines.{most_listed}
-use Rattle.strategy_tree.specs.PlanRead.{text_after}
-
-abbrev pub is_line_end : ℕ → Bool
-is_line_end byte = byte == 10
-
--- ---- numbers
-
--- digits alone, without a zero before others
-abbrev pub is_numeral : List ℕ → Bool
-is_numeral [] = false
-is_numeral (digit ∷ digits) = (length (digit ∷ digits) == 1 || not (digit == 48)) && all_ascii_digits (digit ∷ digits)
-
--- the number within its bounds that is written so in decimal, without leading zeros
-unfoldable pub number_within : ℕ → ℕ → List ℕ → Option ℕ
-number_within least most text =
-    let number = digits_value 10 text in
-    if nat_le least number && nat_le number most && bytes_eq text (decimal number) then Some number else None
 
 -- ---- lines
 

@@ -4,7 +4,8 @@ use Rattle.std.specs.Fmt.{decimal}
 use Rattle.win_vectors.specs.Vectors.{ones_of}
 use Rattle.pbn_deal.specs.Boards.{BoardValue}
 use Rattle.layout_list.specs.Kept.{KeptValue}
-use Rattle.strategy_tree.specs.PlanText.{line_of, plan_text}
+use Rattle.byte_text.specs.Lines.{line_of}
+use Rattle.strategy_tree.specs.PlanText.{plan_text}
 use Rattle.am_report.specs.Answers.{EntryValue, AnswerValue}
 use Rattle.am_report.specs.Head.{head_text}
 use Rattle.am_report.specs.Card.{count_text}

@@ -2,8 +2,8 @@
 ghost use Rattle.std.specs.Prelude.{◌≡◌, ◌++◌, IfOk, OnOk};
 ghost use Rattle.am_report.specs.Card.{card_text, count_text};
 
-use crate::lines::{push_line, push_number};
-use am_outside::Text;
+use crate::lines::push_line;
+use byte_text::Text;
 use card_letters::card_text as letters_of;
 use card_sets::Card;
 use std::alloc::{AllocError, Global};
@@ -20,7 +20,7 @@ pub(crate) fn push_count(
     text.push(b"card ")?;
     text.push(&letters_of(card))?;
     text.push(b" count ")?;
-    push_number(text, alloc, u64::from(count))
+    text.push_number(alloc, u64::from(count))
 }
 
 /// The card to play, and in how many of how many kept layouts the contract is made.
@@ -32,7 +32,7 @@ pub fn card_text(alloc: Global, card: Card, count: u16, width: u16) -> Result<Te
     text.push(b"alphamu card 1\n")?;
     push_count(&mut text, alloc, card, count)?;
     text.push(b" of ")?;
-    push_number(&mut text, alloc, u64::from(width))?;
+    text.push_number(alloc, u64::from(width))?;
     text.push(b"\n")?;
     Ok(text)
 }

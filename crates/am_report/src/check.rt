@@ -3,7 +3,7 @@ ghost use Rattle.std.specs.Prelude.{◌≡◌, ◌++◌, IfOk};
 ghost use Rattle.am_report.specs.Check.{check_text};
 
 use crate::lines::push_number_line;
-use am_outside::Text;
+use byte_text::Text;
 use std::alloc::{AllocError, Global};
 
 /// How many plans a report has, and that they are good.

@@ -4,7 +4,7 @@ ghost use Rattle.am_report.specs.Fusion.{judged_line, most_ones, first_best, nam
 
 use crate::lines::push_line;
 use crate::solve::push_vector_line;
-use am_outside::Text;
+use byte_text::Text;
 use card_letters::card_text;
 use fusion_base::CardVector;
 use std::alloc::{AllocError, Global};

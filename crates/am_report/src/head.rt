@@ -1,12 +1,12 @@
 //! The head of a report: the table at the moment, and the layouts that the answer is about.
 ghost use Rattle.std.specs.Prelude.{◌≡◌, ◌++◌, IfOk, OnOk, flat_map, codes};
 ghost use Rattle.std.specs.Fmt.{decimal};
-ghost use Rattle.strategy_tree.specs.PlanText.{line_of};
+ghost use Rattle.byte_text.specs.Lines.{line_of};
 ghost use Rattle.am_report.specs.Lines.{spaced};
 ghost use Rattle.am_report.specs.Head.{trump_text, hand_line, cards_text, trick_line, cause_text, dropped_line, kept_line, table_text, head_text};
 
-use crate::lines::{push_line, push_number, push_number_line};
-use am_outside::Text;
+use crate::lines::{push_line, push_number_line};
+use byte_text::Text;
 use card_letters::{card_text, compass_letter, suit_letter};
 use card_sets::{Card, CardSet, Seat};
 use layout_list::{Cause, Dropped, Kept};
@@ -93,10 +93,10 @@ fn push_numbers(text: &mut Text, alloc: Global, numbers: &[u16]) -> Result<(), A
     let [first, rest @ ..] = numbers else {
         return Ok(());
     };
-    push_number(text, alloc, u64::from(*first))?;
+    text.push_number(alloc, u64::from(*first))?;
     for number in rest {
         text.push(b" ")?;
-        push_number(text, alloc, u64::from(*number))?;
+        text.push_number(alloc, u64::from(*number))?;
     }
     Ok(())
 }
@@ -124,7 +124,7 @@ fn push_dropped_line(text: &mut Text, alloc: Global, layout: Dropped) -> Result<
     ensures { OnOk result (text.new ≡ text.old ++ dropped_line layout) }
 {
     text.push(b"dropped ")?;
-    push_number(text, alloc, u64::from(layout.number))?;
+    text.push_number(alloc, u64::from(layout.number))?;
     text.push(b" ")?;
     text.push(cause_text(layout.cause))?;
     push_number_line(text, alloc, b" ", u64::from(layout.play))

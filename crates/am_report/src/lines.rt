@@ -1,9 +1,9 @@
 //! Lines that are appended to a text.
 ghost use Rattle.std.specs.Prelude.{◌≡◌, ◌++◌, OnOk};
 ghost use Rattle.std.specs.Fmt.{decimal};
-ghost use Rattle.strategy_tree.specs.PlanText.{line_of};
+ghost use Rattle.byte_text.specs.Lines.{line_of};
 
-use am_outside::Text;
+use byte_text::Text;
 use std::alloc::{AllocError, Global};
 
 // Appends a line with a word and what follows it.
@@ -13,14 +13,6 @@ pub(crate) fn push_line(text: &mut Text, word: &[u8], value: &[u8]) -> Result<()
     text.push(word)?;
     text.push(value)?;
     text.push(b"\n")
-}
-
-// Appends a number.
-pub(crate) fn push_number(text: &mut Text, alloc: Global, number: u64) -> Result<(), AllocError>
-    ensures { OnOk result (text.new ≡ text.old ++ decimal number) }
-{
-    let digits = format!(in alloc; "{number}")?;
-    text.push(digits.as_bytes())
 }
 
 // Appends a line with a word and a number.
@@ -33,6 +25,6 @@ pub(crate) fn push_number_line(
     ensures { OnOk result (text.new ≡ text.old ++ line_of (word.now ++ decimal number)) }
 {
     text.push(word)?;
-    push_number(text, alloc, number)?;
+    text.push_number(alloc, number)?;
     text.push(b"\n")
 }

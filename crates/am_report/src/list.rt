@@ -2,7 +2,7 @@
 ghost use Rattle.std.specs.Prelude.{◌≡◌, ◌++◌, IfOk, OnOk, flat_map};
 ghost use Rattle.am_report.specs.LayoutFile.{dealt_hand, hand_of, layout_line, list_text};
 
-use am_outside::Text;
+use byte_text::Text;
 use card_sets::{CardSet, Compass, Seat};
 use layout_list::line::Defenders;
 use pbn_deal::board::seat_of;

@@ -3,7 +3,7 @@ ghost use Rattle.std.specs.Prelude.{◌≡◌, ◌++◌, IfOk};
 ghost use Rattle.am_report.specs.Made.{made_text};
 
 use crate::lines::{push_line, push_number_line};
-use am_outside::Text;
+use byte_text::Text;
 use card_letters::card_text;
 use card_sets::Card;
 use std::alloc::{AllocError, Global};

@@ -1,17 +1,16 @@
 //! A report read from its text.
-ghost use Rattle.std.specs.Prelude.{◌≡◌, ◌==◌, ◌≤◌, ◌<◌, ◌+◌, ◌-◌, ◌^◌, ◌∷◌, [], ◌++◌, length, find, count_by, IfOk, IfErr, IfSome, MatchOption, option_to_list};
+ghost use Rattle.std.specs.Prelude.{◌≡◌, ◌==◌, ◌≤◌, ◌<◌, ◌+◌, ◌-◌, ◌^◌, [], ◌++◌, length, find, IfOk, IfErr, IfSome, MatchOption, option_to_list};
 ghost use Rattle.std.specs.List.{range_with_len};
 ghost use Rattle.strategy_tree.specs.PlanMeaning.{plan_of};
-ghost use Rattle.strategy_tree.specs.PlanRead.{said_at};
-ghost use Rattle.am_report.specs.ReportLines.{is_line_end, vector_said, card_said};
-ghost use Rattle.am_report.specs.Reading.{line_number, expected, line_after_last, has_version, is_front, front_place, moves_in, head_said, head_read, plan_fault, entry_read, entries_read, end_read, below_read, report_read, report_of, IsFaultOf, Gives};
+ghost use Rattle.byte_text.specs.Lines.{said_at, line_number};
+ghost use Rattle.am_report.specs.ReportLines.{vector_said, card_said};
+ghost use Rattle.am_report.specs.Reading.{expected, line_after_last, has_version, is_front, front_place, moves_in, head_said, head_read, plan_fault, entry_read, entries_read, end_read, below_read, report_read, report_of, IsFaultOf, Gives};
 
 use crate::answer::Entry;
 use crate::fault::{ReportFault, ReportKind};
-use crate::report_lines::{card_at, front_at, read_moves, text_after, vector_at};
-use am_outside::Text;
+use crate::report_lines::{card_at, front_at, read_moves, vector_at};
+use byte_text::{Text, line_number, split_line, text_after};
 use card_sets::Card;
-use layout_list::line::split_line;
 use std::alloc::Global;
 use strategy_tree::{Plan, PlanFault, read_plan};
 use win_vectors::WinVector;
@@ -74,8 +73,7 @@ fn read_below(alloc: Global, bytes: &[u8]) -> Result<ReadReport, ReportFault>
     let (entries, at) = read_entries(alloc, bytes, head.next, head.vectors)?;
     let (named, next) = read_card(bytes, at)?;
     read_end(bytes, next)?;
-    let mut text = Text::new(alloc);
-    text.push(&bytes[..head.place])?;
+    let text = Text::from_bytes(alloc, &bytes[..head.place])?;
     Ok(ReadReport {
         head: text,
         moves: head.moves,
@@ -83,24 +81,6 @@ fn read_below(alloc: Global, bytes: &[u8]) -> Result<ReadReport, ReportFault>
         card: named.0,
         count: named.1,
     })
-}
-
-// How many line ends a text has.
-fn count_line_ends(text: &[u8]) -> usize
-    ensures value { result ≡ count_by is_line_end text.now }
-    ensures inside { result ≤ length text.now }
-{
-    text.iter().filter(|byte| **byte == b'\n').count()
-}
-
-// The number of the line in which a place lies.
-fn line_number(bytes: &[u8], at: usize) -> u32
-    requires { length bytes.now < 2 ^ 32 - 1 }
-    ensures value { result ≡ line_number bytes.now at }
-    ensures bound { result ≤ at + 1 }
-{
-    let end = at.min(bytes.len());
-    1 + count_line_ends(&bytes[..end]) as u32
 }
 
 // The number of the line after the last.

@@ -1,91 +1,15 @@
 //! What the lines of a report say.
-ghost use Rattle.std.specs.Prelude.{◌≡◌, ◌==◌, ◌≤◌, ◌<◌, ◌+◌, ◌^◌, ◌∷◌, [], length, map, position, true, IfSome, MatchOption};
-ghost use Rattle.std.specs.List.{slice_split, position_or_len};
-ghost use Rattle.std.specs.Option.{option_copied};
-ghost use Rattle.std.specs.Str.{all_ascii_digits};
-ghost use Rattle.std.specs.Str.Parse.{digits_value};
+ghost use Rattle.std.specs.Prelude.{◌≡◌, ◌==◌, ◌≤◌, ◌<◌, ◌+◌, length, map, IfSome};
+ghost use Rattle.std.specs.List.{position_or_len};
+ghost use Rattle.byte_text.specs.Lines.{said_at};
 ghost use Rattle.layout_list.specs.Lines.{most_listed};
-ghost use Rattle.strategy_tree.specs.PlanRead.{text_after, line_at, said_at};
-ghost use Rattle.am_report.specs.ReportLines.{is_line_end, is_numeral, number_within, ends_bits, is_one, front_said, moves_said, count_said, bits_said, vector_said, card_counted, card_said};
+ghost use Rattle.am_report.specs.ReportLines.{ends_bits, is_one, front_said, moves_said, count_said, bits_said, vector_said, card_counted, card_said};
 
+use byte_text::{line_at, read_number, text_after};
 use card_letters::read_card;
 use card_sets::Card;
 use layout_list::MOST_LISTED;
 use win_vectors::WinVector;
-
-// What follows a word at the front of a text.
-pub(crate) fn text_after<'a>(text: &'a [u8], word: &[u8]) -> Option<&'a [u8]>
-    ensures { option_copied result ≡ text_after word.now text.now }
-{
-    text.strip_prefix(word)
-}
-
-// The place of the first line end.
-fn line_end(text: &[u8]) -> Option<usize>
-    ensures value { result ≡ position is_line_end text.now }
-    ensures within { IfSome result (λ end. end < length text.now) }
-{
-    text.iter().position(|byte| *byte == b'\n')
-}
-
-// The line that begins at a place, without its end; None where the text ends before the line does.
-fn line_at(bytes: &[u8], at: usize) -> Option<&[u8]>
-    requires { at ≤ length bytes.now }
-    ensures value { option_copied result ≡ line_at bytes.now at }
-    ensures within { IfSome result (λ line. at + length line.now + 1 ≤ length bytes.now) }
-{
-    let rest = &bytes[at..];
-    Some(&rest[..line_end(rest)?])
-}
-
-// Whether a text is digits alone, without a zero before others.
-fn is_numeral(text: &[u8]) -> bool
-    ensures { result ≡ is_numeral text.now }
-{
-    let Some(first) = text.first() else {
-        return false;
-    };
-    (text.len() == 1 || *first != b'0') && has_digits_alone(text)
-}
-
-// Whether each byte is a decimal digit.
-fn has_digits_alone(text: &[u8]) -> bool
-    ensures { result ≡ all_ascii_digits text.now }
-{
-    text.iter().all(|byte| byte.is_ascii_digit())
-}
-
-// The number that digits write, where it is at most the greatest allowed.
-fn digits_value(text: &[u8], most: u32) -> Option<u32>
-    requires { all_ascii_digits text.now ≡ true }
-    ensures { MatchOption result (most < digits_value 10 text.now)
-        (λ number. (number ≡ digits_value 10 text.now) × (number ≤ most)) }
-{
-    let mut number = 0u32;
-    for digit in text {
-        let next = 10 * u64::from(number) + u64::from(*digit - b'0');
-        if next > u64::from(most) {
-            return None;
-        }
-        number = next as u32;
-    }
-    Some(number)
-}
-
-// The number within its bounds that a text writes without leading zeros.
-fn read_number(text: &[u8], least: u32, most: u32) -> Option<u32>
-    ensures value { result ≡ number_within least most text.now }
-    ensures within { IfSome result (λ number. (least ≤ number) × (number ≤ most)) }
-{
-    if !is_numeral(text) {
-        return None;
-    }
-    let number = digits_value(text, most)?;
-    if number < least {
-        return None;
-    }
-    Some(number)
-}
 
 #[tactic(auto, unfolding(crate::specs::ReportLines::front_said))]
 fn read_front(text: &[u8]) -> Option<u32>

@@ -2,13 +2,13 @@
 ghost use Rattle.std.specs.Prelude.{◌≡◌, ◌++◌, IfOk, OnOk, map, flat_map};
 ghost use Rattle.am_report.specs.Card.{count_text};
 ghost use Rattle.am_report.specs.Solve.{bit_letter, vector_line, entry_text, solve_text};
-ghost use Rattle.strategy_tree.specs.PlanText.{line_of};
+ghost use Rattle.byte_text.specs.Lines.{line_of};
 
 use crate::answer::{Entry, SolveAnswer};
 use crate::card::push_count;
 use crate::head::head_text;
 use crate::lines::{push_line, push_number_line};
-use am_outside::Text;
+use byte_text::Text;
 use card_sets::Card;
 use layout_list::Kept;
 use pbn_deal::Board;

@@ -6,7 +6,7 @@ ghost use Rattle.am_answer.specs.Stages.{IsFileRefusal, IsTaskRefusal, IsTextFor
 
 use am_answer::{Inputs, Root, Status, Work};
 use am_inputs::{read_deal, read_root};
-use am_outside::Text;
+use byte_text::Text;
 use job_check::check_report;
 use job_fusion::sample_text;
 use job_list::list_layouts;

@@ -17,7 +17,8 @@ use crate::jobs::text_in;
 use am_answer::{FileWord, Status};
 use am_inputs::read_inputs;
 use am_line::refuse;
-use am_outside::{Gate, Shelf, Sink, Text, write_whole};
+use am_outside::{Gate, Shelf, Sink, write_whole};
+use byte_text::Text;
 use std::alloc::Global;
 use std::thread::Threads;
 

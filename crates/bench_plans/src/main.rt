@@ -6,7 +6,7 @@
 mod plans;
 mod workload;
 
-use am_outside::Text;
+use byte_text::Text;
 use plans::plan_of_lines;
 use std::env;
 use workload::{is_read_back, line_count, read_often, write_often};

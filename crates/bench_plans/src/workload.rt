@@ -1,5 +1,5 @@
 //! A plan's text, written and read in rounds of 100,000 lines.
-use am_outside::Text;
+use byte_text::Text;
 use std::alloc::{AllocError, Global};
 use strategy_tree::{Plan, read_plan};
 

@@ -100,8 +100,8 @@ impl Joiner {
     }
 }
 
-// The best meets of one vector of the front and one spread vector of the child.
-fn joined_front(
+/// The best meets of one vector of a front and one vector of a child's front, which has 1 where the mask has 0.
+pub fn joined_front(
     alloc: Global,
     front: &Front,
     child: &Front,

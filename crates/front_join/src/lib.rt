@@ -6,4 +6,4 @@
 mod joiner;
 pub mod laws;
 
-pub use joiner::Joiner;
+pub use joiner::{Joiner, joined_front};

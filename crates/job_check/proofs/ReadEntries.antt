@@ -6,7 +6,8 @@ use Rattle.std.proofs.lemmas.List.Quantifiers.{position-Some}
 use Rattle.std.proofs.lemmas.List.{length-drop}
 use Rattle.strategy_games.specs.Plans.{Plan}
 use Rattle.strategy_games.specs.Misfits.{node_count}
-use Rattle.strategy_tree.specs.PlanRead.{line_at, said_at, plan_read}
+use Rattle.byte_text.specs.Lines.{line_at, said_at}
+use Rattle.strategy_tree.specs.PlanRead.{plan_read}
 use Rattle.strategy_tree.specs.declared.plan_reader.PlanFault.{PlanFault}
 use Rattle.strategy_tree.specs.declared.plan_reader.PlanFault.TheVariants as plan_faults
 use Rattle.strategy_check.proofs.ReadSizes.{said_later, read_nodes}
@@ -14,7 +15,8 @@ use Rattle.am_report.specs.declared.fault.ReportKind.{ReportKind}
 use Rattle.am_report.specs.declared.fault.ReportKind.TheVariants as kinds
 use Rattle.am_report.specs.Answers.{EntryValue}
 use Rattle.am_report.specs.ReportLines.{vector_said, card_said}
-use Rattle.am_report.specs.Reading.{ReportValue, ◌>>=◌, expected, plan_or_fault, entry_read, entries_read, head_read, end_read, below_read, report_read, has_version}
+use Rattle.am_report.specs.Reading.{ReportValue, expected, plan_or_fault, entry_read, entries_read, head_read, end_read, below_read, report_read, has_version}
+use Rattle.byte_text.specs.Steps.{◌>>=◌}
 
 bind_ok : {A B : Type 0} (r : Result A (ℕ × ReportKind)) (f : A → Result B (ℕ × ReportKind)) (y : B) → (r >>= f) ≡ Ok y → (x : A) × (r ≡ Ok x) × (f x ≡ Ok y)
 bind_ok (Ok x) f y h = (x, refl, h)

@@ -8,7 +8,7 @@ ghost use Rattle.am_answer.specs.Judging.{entry_fault, first_fault, judged, plan
 ghost use Rattle.am_answer.specs.Stages.{IsFileRefusal, IsTextFor};
 
 use am_answer::{Place, Root, Status, report_status};
-use am_outside::Text;
+use byte_text::Text;
 use am_report::{Entry, ReadReport, check_text, head_text, read_report};
 use std::alloc::Global;
 use strategy_check::{Verdict, check};

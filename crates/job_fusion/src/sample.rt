@@ -4,7 +4,7 @@ ghost use Rattle.am_answer.specs.Answers.{Sample, has_choice};
 ghost use Rattle.am_answer.specs.Reports.{IsText};
 
 use am_answer::Root;
-use am_outside::Text;
+use byte_text::Text;
 use am_report::fusion_text;
 use fusion_base::per_card;
 use std::alloc::{AllocError, Global};

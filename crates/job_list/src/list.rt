@@ -5,7 +5,7 @@ ghost use Rattle.am_answer.specs.Answers.{listed_or};
 ghost use Rattle.am_answer.specs.Stages.{IsFileRefusal, IsTextFor};
 
 use am_answer::{Status, make_status};
-use am_outside::Text;
+use byte_text::Text;
 use am_report::list_text;
 use layout_maker::all_layouts;
 use pbn_deal::Board;

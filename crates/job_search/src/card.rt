@@ -5,7 +5,7 @@ ghost use Rattle.am_answer.specs.Answers.{has_choice, NamedCard};
 ghost use Rattle.am_answer.specs.Stages.{IsTaskRefusal, IsTextFor};
 
 use am_answer::{Root, Status, root_status};
-use am_outside::Text;
+use byte_text::Text;
 use am_report::card_text;
 use job_words::Search;
 use root_workers::root_front;

@@ -12,7 +12,7 @@ ghost use Rattle.am_answer.specs.Stages.{IsTaskRefusal, IsTextFor};
 
 use alphamu_core::RootFault;
 use am_answer::{Root, Status, root_status};
-use am_outside::Text;
+use byte_text::Text;
 use am_report::{Entry, SolveAnswer, solve_text};
 use dd_solver::Solver;
 use front_table::NoStore;

@@ -1,9 +1,9 @@
 //! The tests on values, numbers and names of jobs.
 ghost use Rattle.std.specs.Prelude.{◌≡◌, ◌≤◌, ◌^◌, ◌<◌, ◌-◌, IfSome, option_map, true};
-ghost use Rattle.std.specs.Str.{all_ascii_digits};
 ghost use Rattle.job_words.specs.Values.{file_name, is_value, job_named, number_in, number_or};
 
 use crate::table::Job;
+use byte_text::are_digits;
 
 /// The value, where it may name a file: it isn't empty and doesn't begin with a dash.
 #[tactic(auto, unfolding(crate::specs::Values::file_name))]
@@ -28,7 +28,7 @@ pub(crate) fn number_in(least: u64, most: u64, text: &str) -> Option<u64>
     ensures value { result ≡ number_in least most text.now }
     ensures range { IfSome result (λ number. (least ≤ number) × (number ≤ most)) }
 {
-    if !has_digits_alone(text) {
+    if !are_digits(text.as_bytes()) {
         return None;
     }
     let number = text.parse::<u64>().ok()?;
@@ -37,13 +37,6 @@ pub(crate) fn number_in(least: u64, most: u64, text: &str) -> Option<u64>
     } else {
         None
     }
-}
-
-// Whether each byte is a decimal digit.
-fn has_digits_alone(text: &str) -> bool
-    ensures { result ≡ all_ascii_digits text.now }
-{
-    text.bytes().all(|byte| byte.is_ascii_digit())
 }
 
 /// The same of an option that may be left out, for its default.

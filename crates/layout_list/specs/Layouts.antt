@@ -6,7 +6,7 @@ use Rattle.trick_rules.specs.Nodes.{IsNode}
 use Rattle.pbn_deal.specs.declared.board.Played.{Played}
 use Rattle.pbn_deal.specs.Boards.{BoardValue}
 use Rattle.pbn_deal.specs.BoardRead.{together}
-use Rattle.pbn_deal.specs.Tags.{then_read}
+use Rattle.byte_text.specs.Steps.{◌>>=◌}
 use Rattle.layout_list.specs.declared.fault.LayoutFault.{LayoutFault}
 use Rattle.layout_list.specs.declared.fault.LayoutFault.TheVariants.{NoneLeft, Memory}
 use Rattle.layout_list.specs.declared.kept.Dropped.{Dropped}
@@ -58,7 +58,7 @@ kept_of board (first ∷ rest) = kept_over board.plays (first_table board (toget
 
 -- the layouts of a file that the play of a board allows, or the first fault
 unfoldable pub layouts_read : List ℕ → BoardValue → Result KeptValue LayoutFault
-layouts_read bytes board = then_read (lines_read board board.unseen 0 (layout_lines (numbered_lines bytes))) (kept_of board)
+layouts_read bytes board = lines_read board board.unseen 0 (layout_lines (numbered_lines bytes)) >>= kept_of board
 
 -- a fault that may be given where this is to be read: want of memory, or the fault of what is read
 abbrev pub IsFaultOf : {A : Type 0} → Result A LayoutFault → LayoutFault → Type 0

@@ -2,7 +2,8 @@
 use Rattle.std.specs.Prelude.{◌≡◌, ℕ, ◌+◌, Bool, true, false, not, ◌&&◌, ◌||◌, ◌==◌, Option, None, Some, Result, Ok, Err, List, [], ◌∷◌, length, filter, All, ok_or, bytes_eq, if◌then◌else◌}
 use Rattle.std.specs.List.{list_all, slice_split, enumerate_from}
 use Rattle.card_sets.specs.declared.seat.Seat.TheVariants.{Left, Dummy, Right}
-use Rattle.pbn_text.specs.Blanks.{is_blank}
+use Rattle.byte_text.specs.Blanks.{is_blank}
+use Rattle.byte_text.specs.Lines.{is_line_end}
 use Rattle.pbn_deal.specs.declared.deal.DealValue.{DealValue}
 use Rattle.pbn_deal.specs.declared.deal.DealFault.{DealFault}
 use Rattle.card_sets.specs.SetWords.{IsCardSet}
@@ -10,16 +11,12 @@ use Rattle.pbn_deal.specs.Boards.{BoardValue, compass_of, tricks_of, FitsUnseen}
 use Rattle.pbn_deal.specs.BoardRead.{together}
 use Rattle.pbn_deal.specs.Deal.{deal_read, hand_at}
 use Rattle.pbn_deal.specs.Sections.{prepend}
-use Rattle.pbn_deal.specs.Tags.{then_read}
+use Rattle.byte_text.specs.Steps.{◌>>=◌}
 use Rattle.layout_list.specs.declared.fault.LayoutFault.{LayoutFault}
 use Rattle.layout_list.specs.declared.fault.LayoutFault.TheVariants.{BadLine, OtherHands, TooMany}
 use Rattle.layout_list.specs.declared.line.Defenders.{Defenders}
 
 -- ---- lines
-
--- a line feed
-abbrev pub is_line_end : ℕ → Bool
-is_line_end byte = byte == 10
 
 -- a line that begins with a per cent sign
 abbrev pub is_comment : List ℕ → Bool
@@ -86,7 +83,7 @@ abbrev pub lines_read : BoardValue → Option (List ℕ) → ℕ → List (ℕ �
 lines_read board unseen count [] = Ok []
 lines_read board unseen count (line ∷ lines) =
     if count == most_listed then Err (TooMany line.0)
-    else then_read (line_read board unseen line.0 line.1) (λ layout. prepend (layout ∷ []) (lines_read board (Some (together layout.left layout.right)) (count + 1) lines))
+    else line_read board unseen line.0 line.1 >>= (λ layout. prepend (layout ∷ []) (lines_read board (Some (together layout.left layout.right)) (count + 1) lines))
 
 -- ---- what a layout that was read keeps
 

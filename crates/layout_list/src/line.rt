@@ -1,16 +1,14 @@
 //! The lines of a layout file.
-ghost use Rattle.std.specs.Prelude.{◌≡◌, ◌&&◌, ◌<◌, ◌≤◌, ◌-◌, ◌^◌, ◌∷◌, [], Ok, length, MatchOption, MatchResult, IfOk, IfSome};
+ghost use Rattle.std.specs.Prelude.{◌≡◌, ◌&&◌, ◌<◌, ◌≤◌, ◌-◌, ◌^◌, Ok, length, MatchResult, IfOk, IfSome};
 ghost use Rattle.pbn_deal.specs.BoardRead.{together};
-ghost use Rattle.std.specs.List.{slice_split, list_all};
-ghost use Rattle.pbn_text.specs.Blanks.{is_blank};
 ghost use Rattle.pbn_deal.specs.Deal.{IsSoundDeal};
-ghost use Rattle.layout_list.specs.Lines.{is_line_end, is_skipped, same_cards, is_told, defenders_in, line_read, numbered_lines, layout_lines, lines_read, most_listed, FitsBoard, IsTold, IsOneDeal};
+ghost use Rattle.layout_list.specs.Lines.{is_skipped, same_cards, is_told, defenders_in, line_read, numbered_lines, layout_lines, lines_read, most_listed, FitsBoard, IsTold, IsOneDeal};
 ghost use Rattle.layout_list.specs.Layouts.{IsFaultOf};
 
 use crate::fault::LayoutFault;
+use byte_text::{are_blanks, split_line};
 use card_sets::{CardSet, Seat};
 use pbn_deal::{Board, DealValue, read_deal};
-use pbn_text::is_blank;
 use std::alloc::Global;
 
 /// The hands of the two defenders before the first card.
@@ -18,25 +16,6 @@ use std::alloc::Global;
 pub struct Defenders {
     pub left: CardSet,
     pub right: CardSet,
-}
-
-/// The first line of a text, and what follows its line end if it has one.
-pub fn split_line(text: &[u8]) -> (&[u8], Option<&[u8]>)
-    ensures line { MatchOption result.1
-        (slice_split is_line_end text.now ≡ result.0.now ∷ [])
-        (λ rest. slice_split is_line_end text.now ≡ result.0.now ∷ slice_split is_line_end rest.now) }
-    ensures shorter { MatchOption result.1 (length result.0.now ≡ length text.now) (λ rest. length rest.now < length text.now) }
-{
-    match text.iter().position(|byte| *byte == b'\n') {
-        Some(end) => (&text[..end], Some(&text[end + 1..])),
-        None => (text, None),
-    }
-}
-
-fn are_blanks(line: &[u8]) -> bool
-    ensures { result ≡ list_all is_blank line.now }
-{
-    line.iter().all(|byte| is_blank(*byte))
 }
 
 /// Whether a line is no layout: blanks alone, or a line that begins with `%`.

@@ -7,7 +7,7 @@ use Rattle.std.proofs.lemmas.List.{length-map}
 use Rattle.std.proofs.lemmas.List.Elements.{All-weaker}
 use Rattle.std.proofs.lemmas.List.Sorted.{IsPermutation-refl}
 use Rattle.pbn_deal.specs.BoardRead.{together}
-use Rattle.pbn_deal.specs.Tags.{then_read}
+use Rattle.byte_text.specs.Steps.{◌>>=◌}
 use Rattle.layout_list.specs.declared.fault.LayoutFault.{LayoutFault}
 use Rattle.layout_list.specs.declared.line.Defenders.{Defenders}
 use Rattle.layout_list.specs.Kept.{KeptValue}
@@ -63,7 +63,7 @@ layouts_read-made number =
     let board = made_board north south in
     let few : 0 + length all ≤ 64 = omega (arith, length-orders 40 (undealt number)) in
     let lines : lines_read board None 0 (layout_lines (numbered_lines (made_layouts number))) ≡ Ok (map defenders_by all) = lines_read-made north south cards all (each_layout number) None 1 0 refl few in
-    ap (λ (found : Result (List Defenders) LayoutFault). then_read found (kept_of board)) (lines ∙ ap (λ (l : List (List ℕ)). Ok (map defenders_by l)) (orders-suc 39 (undealt number)))
+    ap (λ (found : Result (List Defenders) LayoutFault). found >>= kept_of board) (lines ∙ ap (λ (l : List (List ℕ)). Ok (map defenders_by l)) (orders-suc 39 (undealt number)))
     ∙ kept_of-made north south (first_layout number) (later_layouts number)
 
 -- ---- the whole

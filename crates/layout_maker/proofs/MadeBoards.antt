@@ -2,7 +2,7 @@
 use Rattle.std.proofs.Common.{◌≡◌, ℕ, false, List, [], ◌∷◌, length, Some, None, Ok, refl, arith}
 use Rattle.std.specs.Prelude.{◌==◌, codes}
 use Rattle.std.proofs.lemmas.Bool.{ne_eqb}
-use Rattle.pbn_text.specs.Blanks.{after_blanks}
+use Rattle.byte_text.specs.Blanks.{after_blanks}
 use Rattle.pbn_text.specs.Games.{TagValue, GameValue}
 use Rattle.pbn_deal.specs.Writing.{deal_text}
 use Rattle.pbn_deal.specs.BoardRead.{dealt_in, plays_in, board_read}

@@ -18,7 +18,8 @@ use Rattle.pbn_deal.specs.BoardRead.{together}
 use Rattle.pbn_deal.specs.Writing.{deal_text}
 use Rattle.layout_list.specs.declared.line.Defenders.{Defenders}
 use Rattle.layout_list.specs.Kept.{KeptValue}
-use Rattle.layout_list.specs.Lines.{is_line_end, layout_lines, same_cards, is_told, deal_of_line, line_read, lines_read}
+use Rattle.byte_text.specs.Lines.{is_line_end}
+use Rattle.layout_list.specs.Lines.{layout_lines, same_cards, is_told, deal_of_line, line_read, lines_read}
 use Rattle.layout_list.specs.Layouts.{allowed, dropped, numbers_kept, lefts_kept, kept_of}
 use Rattle.layout_list.specs.Verdicts.{first_table}
 use Rattle.layout_maker.specs.MadeProblem.{set_of, west_hand, east_hand, layout_line, layout_file}

@@ -5,11 +5,12 @@ use Rattle.std.specs.List.{list_all, position_or_len, before_first}
 use Rattle.std.proofs.lemmas.Bool.{and_parts, and_from, not-true, not-false, le-ltb, eqb-true, both_ways, or_cases, false_from_ne_true}
 use Rattle.std.proofs.lemmas.List.{append-nil, length-append, take_at, drop_at, drop-drop}
 use Rattle.std.proofs.lemmas.List.Folds.{list_all-append}
-use Rattle.pbn_text.specs.Blanks.{is_blank, after_blanks}
+use Rattle.byte_text.specs.Blanks.{is_blank, after_blanks}
 use Rattle.pbn_text.specs.Strings.{string_len, unescaped}
-use Rattle.pbn_text.specs.Pieces.{is_line_end, is_name_byte, ends_name, Piece, passed, tag, Ahead, ahead_of, closed_tag, quoted_tag, named_tag, tag_ahead, is_blank_line, piece_ahead, pieces}
+use Rattle.byte_text.specs.Lines.{is_line_end}
+use Rattle.pbn_text.specs.Pieces.{is_name_byte, ends_name, Piece, passed, tag, Ahead, ahead_of, closed_tag, quoted_tag, named_tag, tag_ahead, is_blank_line, piece_ahead, pieces}
 use Rattle.pbn_text.specs.Grammar.{is_no_text, no_text_fault, without_mark, first_fault, games_in, or_fault, unless_fault, text_read, games_read}
-use Rattle.pbn_text.proofs.Words.{position_or_len-cons}
+use Rattle.byte_text.proofs.Places.{position_or_len-cons}
 use Rattle.layout_maker.specs.MadeProblem.{tag_line, deal_file}
 use Rattle.pbn_deal.specs.Writing.{deal_text}
 use Rattle.layout_maker.proofs.MadeTexts.{deal_text-passes, length-deal_text}

@@ -5,7 +5,7 @@ ghost use Rattle.layout_maker.specs.Generator.{orders};
 ghost use Rattle.layout_maker.specs.MadeProblem.{set_of, short_pack, tag_line, deal_file, layout_line, layout_file, made_deal, made_layouts, IsAcceptedProblem};
 
 use crate::generator::Generator;
-use am_outside::Text;
+use byte_text::Text;
 use card_sets::{Card, CardSet, Rank, Suit};
 use pbn_deal::deal_text;
 use std::alloc::{AllocError, Global};

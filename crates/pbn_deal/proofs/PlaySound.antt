@@ -25,7 +25,8 @@ use Rattle.pbn_deal.specs.declared.section.Entry.{Entry}
 use Rattle.pbn_text.specs.Games.{TagValue, GameValue}
 use Rattle.pbn_deal.specs.Boards.{BoardValue, FitsUnseen, IsDealt, IsBoard, first_course, tricks_of, turn_in, declarer_without, dummy_without, next_course, IsFair, IsCourse, course_after}
 use Rattle.pbn_deal.specs.Sections.{prepend, section_read}
-use Rattle.pbn_deal.specs.Tags.{tag_named, then_read}
+use Rattle.byte_text.specs.Steps.{◌>>=◌}
+use Rattle.pbn_deal.specs.Tags.{tag_named}
 use Rattle.pbn_deal.specs.BoardRead.{section_played, is_led_wrongly, entries_played, play_of, plays_in}
 use Rattle.pbn_deal.specs.Rows.{rows_of, first_entry, in_turn, gap_line, hand_fault, card_fault, if_card, unless_fault, row_played, unless_gap, rows_played}
 
@@ -44,7 +45,7 @@ unless_gap-ok : (gap : Option ℕ) (played : Result (List Played) BoardRefusal) 
 unless_gap-ok None played plays is = (refl, is)
 unless_gap-ok (Some line) played plays is = cc
 
-pub then_read-ok : {A B : Type 0} (first : Result A BoardRefusal) (read : A → Result B BoardRefusal) (value : B) → then_read first read ≡ Ok value → (a : A) × (first ≡ Ok a) × (read a ≡ Ok value)
+pub then_read-ok : {A B : Type 0} (first : Result A BoardRefusal) (read : A → Result B BoardRefusal) (value : B) → (first >>= read) ≡ Ok value → (a : A) × (first ≡ Ok a) × (read a ≡ Ok value)
 then_read-ok (Ok a) read value is = (a, refl, is)
 then_read-ok (Err refusal) read value is = cc
 
@@ -311,7 +312,7 @@ rows_split : (trump : Trump) (first : Seat) (tricks : ℕ) (course : Course) (ro
 rows_split trump first tricks course row rows plays read =
     let turned = in_turn first course.trick.leader row in
     let onward = λ (ps : List Played). prepend ps (rows_played trump first (tricks - 1) (course_after trump course ps) rows) in
-    let whole = unless_gap-ok (gap_line turned (first_entry rows)) (then_read (row_played trump tricks course turned) onward) plays read in
+    let whole = unless_gap-ok (gap_line turned (first_entry rows)) (row_played trump tricks course turned >>= onward) plays read in
     let here = then_read-ok (row_played trump tricks course turned) onward plays whole.1 in
     let more = prepend-ok here.0 plays (rows_played trump first (tricks - 1) (course_after trump course here.0) rows) here.2 in
     record { here = here.0; more = more.0; whole = whole.0; read = here.1; later = more.1; split = more.2 }

@@ -17,7 +17,7 @@ use Rattle.card_sets.specs.Cards.{card_of}
 use Rattle.card_sets.specs.SetWords.{has_card, cards_where, IsCardSet, Apart}
 use Rattle.card_sets.proofs.Sets.{has_card-filter, cards_where-agree}
 use Rattle.card_letters.specs.Letters.{rank_letter, rank_read}
-use Rattle.pbn_text.specs.Blanks.{is_blank, after_blanks, words}
+use Rattle.byte_text.specs.Blanks.{is_blank, after_blanks, words}
 use Rattle.pbn_deal.specs.declared.deal.DealValue.{DealValue}
 use Rattle.pbn_deal.specs.Hands.{is_hidden, is_full_stop, suits_of, suit_order, has_four_suits, has_rank_letters, suit_cards, cards_in, hand_cards, hand_read}
 use Rattle.pbn_deal.specs.Deal.{has_repeat, are_one_size, shown_sizes, compass_place, hands_read, deal_read, hand_at, IsSoundDeal}

@@ -11,7 +11,7 @@ use Rattle.pbn_deal.specs.declared.section.Entry.{Entry}
 use Rattle.pbn_deal.specs.Boards.{turn_in, next_course, course_after}
 use Rattle.pbn_deal.specs.Sections.{prepend}
 use Rattle.pbn_deal.specs.Rows.{rows_of, first_entry, in_turn, gap_line, card_fault, if_card, unless_fault, row_played, unless_gap, rows_played}
-use Rattle.pbn_deal.specs.Tags.{then_read}
+use Rattle.byte_text.specs.Steps.{◌>>=◌}
 use Rattle.pbn_deal.proofs.SectionSteps.{prepend-prepend}
 
 -- the entries from a place on, as a row of four
@@ -66,7 +66,7 @@ rows_more trump first tricks left fewer start course next all rest others row pl
     let turned = in_turn first course.trick.leader row in
     let onward = λ (ps : List Played). prepend ps (rows_played trump first (left - 1) (course_after trump course ps) others) in
     let step : rows_played trump first left course (row ∷ others) ≡ onward more =
-    ap (λ g. unless_gap g (then_read (row_played trump left course turned) onward)) whole ∙ ap (λ r. then_read r onward) played in
+    ap (λ g. unless_gap g (row_played trump left course turned >>= onward)) whole ∙ ap (λ r. r >>= onward) played in
     read ∙ ap (λ rs. prepend plays (rows_played trump first left course rs)) split ∙ ap (prepend plays) step
     ∙ sym (prepend-append plays more (rows_played trump first (left - 1) (course_after trump course more) others))
     ∙ sym (ap (λ ps. prepend ps (rows_played trump first fewer next others)) added ∙ ap (λ n. prepend (plays ++ more) (rows_played trump first n next others)) falls ∙ ap (λ k. prepend (plays ++ more) (rows_played trump first (left - 1) k others)) goes)

@@ -9,7 +9,7 @@ use Rattle.card_sets.specs.declared.seat.Compass.{Compass}
 use Rattle.card_sets.specs.declared.seat.Compass.TheVariants.{N, E, S, W}
 use Rattle.card_sets.specs.SetWords.{has_card, cards_where, IsCardSet, Apart}
 use Rattle.card_sets.proofs.Sets.{IsCardSet-cards_where, has_card-cards_where, has_card-below}
-use Rattle.pbn_text.specs.Blanks.{after_blanks, words}
+use Rattle.byte_text.specs.Blanks.{after_blanks, words}
 use Rattle.pbn_deal.specs.declared.deal.DealValue.{DealValue}
 use Rattle.pbn_deal.specs.declared.deal.DealFault.{DealFault}
 use Rattle.pbn_deal.specs.declared.deal.DealFault.TheVariants.{HandCount, SuitCount, RankLetter, Repeated, Sizes}

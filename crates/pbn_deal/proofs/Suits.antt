@@ -8,22 +8,6 @@ use Rattle.std.proofs.lemmas.List.{take_all, drop_all, drop_more}
 use Rattle.card_sets.specs.declared.card.Suit.{Suit}
 use Rattle.pbn_deal.specs.Hands.{is_hidden, is_full_stop, suits_of, suit_order, has_four_suits, suit_cards, cards_in}
 
--- ---- where the first element that passes stands
-
-at_some : (b : Bool) (n at : ℕ) (found : Option ℕ) → found ≡ cond b (Some n) None → found ≡ Some at → at ≡ n
-at_some true n at found is some = cc
-at_some false n at found is some = absurd cc
-
-at_none : (b : Bool) (n : ℕ) (found : Option ℕ) → found ≡ cond b (Some n) None → found ≡ None → b ≡ false
-at_none true n found is none = absurd cc
-at_none false n found is none = refl
-
-pub found_at : (p : ℕ → Bool) (xs : List ℕ) (found : Option ℕ) (at : ℕ) → found ≡ cond (ltb (position_or_len p xs) (length xs)) (Some (position_or_len p xs)) None → found ≡ Some at → at ≡ position_or_len p xs
-found_at p xs found at is some = at_some (ltb (position_or_len p xs) (length xs)) (position_or_len p xs) at found is some
-
-pub found_none : (p : ℕ → Bool) (xs : List ℕ) (found : Option ℕ) → found ≡ cond (ltb (position_or_len p xs) (length xs)) (Some (position_or_len p xs)) None → found ≡ None → length xs ≤ position_or_len p xs
-found_none p xs found is none = ltb-false _ _ (at_none (ltb (position_or_len p xs) (length xs)) (position_or_len p xs) found is none)
-
 -- ---- the tests of a hand
 
 eqb_more : (n : ℕ) → (n == 3) ≡ (n + 1 == 4)

@@ -14,7 +14,8 @@ use Rattle.pbn_deal.specs.declared.section.Entry.{Entry}
 use Rattle.pbn_deal.specs.declared.tags.Contract.{Contract}
 use Rattle.pbn_deal.specs.Deal.{hand_at}
 use Rattle.pbn_deal.specs.Boards.{BoardValue, same_place, compass_of, dealt_board, first_course, tricks_of}
-use Rattle.pbn_deal.specs.Tags.{tag_named, then_read, inherited_line, deal_in, contract_in, declarer_in, seat_named, ending_read}
+use Rattle.byte_text.specs.Steps.{◌>>=◌}
+use Rattle.pbn_deal.specs.Tags.{tag_named, inherited_line, deal_in, contract_in, declarer_in, seat_named, ending_read}
 use Rattle.pbn_deal.specs.Sections.{section_read}
 use Rattle.pbn_deal.specs.Rows.{rows_of, rows_played}
 
@@ -42,9 +43,9 @@ unseen_in deal declarer own dummy =
 
 -- the board before the first card, where the hands of declarer's side are shown
 abbrev pub dealt_of : GameValue → DealValue → Contract → Compass → Option (List ℕ) → Option (List ℕ) → Result BoardValue BoardRefusal
-dealt_of game deal contract declarer (Some own) (Some dummy) =
-    then_read (ending_read (line_named (codes "Deal") game) declarer contract (length own) (tag_named (codes "EndNeed") game) (tag_named (codes "EndLead") game))
-    (λ ending. Ok (dealt_board declarer contract.trump ending.need ending.leader own dummy (unseen_in deal declarer own dummy)))
+dealt_of game deal contract declarer (Some own) (Some dummy) = do
+  ending ← ending_read (line_named (codes "Deal") game) declarer contract (length own) (tag_named (codes "EndNeed") game) (tag_named (codes "EndLead") game)
+  Ok (dealt_board declarer contract.trump ending.need ending.leader own dummy (unseen_in deal declarer own dummy))
 dealt_of game deal contract declarer (Some own) None = Err (Fault (line_named (codes "Deal") game) HandHidden)
 dealt_of game deal contract declarer None dummy = Err (Fault (line_named (codes "Deal") game) HandHidden)
 
@@ -74,7 +75,7 @@ entries_played board tag entries = if is_led_wrongly board tag entries then Err 
 -- the play that the Play tag tells; none where there is no such tag
 abbrev pub play_of : BoardValue → Option TagValue → Result (List Played) BoardRefusal
 play_of board None = Ok []
-play_of board (Some tag) = then_read (section_read tag.tokens) (entries_played board tag)
+play_of board (Some tag) = section_read tag.tokens >>= entries_played board tag
 
 -- the play that the Play section tells
 unfoldable pub plays_in : GameValue → BoardValue → Result (List Played) BoardRefusal
@@ -87,12 +88,16 @@ abbrev pub unless_inherited : Option ℕ → Result BoardValue BoardRefusal → 
 unless_inherited None board = board
 unless_inherited (Some line) board = Err (Fault line Inherited)
 
+-- the board that the tags and the play tell
+abbrev pub board_told : GameValue → Result BoardValue BoardRefusal
+board_told game = do
+  deal ← deal_in game
+  contract ← contract_in game
+  declarer ← declarer_in game
+  board ← dealt_in game deal contract declarer
+  plays ← plays_in game board
+  Ok (record board { plays = plays })
+
 -- the board of a game, or the first fault with its line
 unfoldable pub board_read : GameValue → Result BoardValue BoardRefusal
-board_read game =
-    unless_inherited (inherited_line game)
-    (then_read (deal_in game) (λ deal.
-    then_read (contract_in game) (λ contract.
-    then_read (declarer_in game) (λ declarer.
-    then_read (dealt_in game deal contract declarer) (λ board.
-    then_read (plays_in game board) (λ plays. Ok (record board { plays = plays })))))))
+board_read game = unless_inherited (inherited_line game) (board_told game)

@@ -6,7 +6,7 @@ use Rattle.card_sets.specs.declared.seat.Compass.{Compass}
 use Rattle.card_sets.specs.declared.seat.Compass.TheVariants.{N, E, S, W}
 use Rattle.card_sets.specs.SetWords.{IsCardSet, Apart}
 use Rattle.card_letters.specs.Letters.{compass_read}
-use Rattle.pbn_text.specs.Blanks.{after_blanks, words}
+use Rattle.byte_text.specs.Blanks.{after_blanks, words}
 use Rattle.pbn_deal.specs.declared.deal.DealValue.{DealValue}
 use Rattle.pbn_deal.specs.declared.deal.DealFault.{DealFault}
 use Rattle.pbn_deal.specs.declared.deal.DealFault.TheVariants.{Seat, HandCount, SuitCount, RankLetter, Repeated, Sizes}

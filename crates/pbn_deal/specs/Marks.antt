@@ -1,7 +1,7 @@
 -- What a token of the Play section says.
 use Rattle.std.specs.Prelude.{ℕ, ◌-◌, Bool, false, ◌&&◌, ◌||◌, ◌==◌, nat_lt, Option, None, Some, List, [], ◌∷◌, length, slice_index, slice_range, codes, bytes_eq, if◌then◌else◌}
 use Rattle.std.specs.List.{list_all}
-use Rattle.std.specs.Char.{is_ascii_digit}
+use Rattle.std.specs.Str.{all_ascii_digits}
 use Rattle.card_letters.specs.Letters.{card_read}
 use Rattle.pbn_deal.specs.declared.mark.Mark.{Mark}
 use Rattle.pbn_deal.specs.declared.mark.Mark.TheVariants.{End, Plus, Gap, Note, Card, Other}
@@ -18,7 +18,7 @@ begins_with byte (first ∷ rest) = first == byte
 -- a number between equals signs
 abbrev pub is_numbered : List ℕ → Bool
 is_numbered text =
-    nat_lt 2 (length text) && begins_with 61 text && (slice_index text (length text - 1) == 61) && list_all is_ascii_digit (slice_range text 1 (length text - 1))
+    nat_lt 2 (length text) && begins_with 61 text && (slice_index text (length text - 1) == 61) && all_ascii_digits (slice_range text 1 (length text - 1))
 
 -- what is skipped: a token that begins with a dollar sign, a number between equals signs, and exclamation and question marks alone
 abbrev pub is_note : List ℕ → Bool

@@ -16,7 +16,7 @@ use Rattle.pbn_deal.specs.declared.fault.BoardRefusal.TheVariants.{Fault}
 use Rattle.pbn_deal.specs.declared.section.Entry.{Entry}
 use Rattle.pbn_deal.specs.Boards.{turn_in, next_course, course_after}
 use Rattle.pbn_deal.specs.Sections.{prepend}
-use Rattle.pbn_deal.specs.Tags.{then_read}
+use Rattle.byte_text.specs.Steps.{◌>>=◌}
 
 -- ---- rows
 
@@ -96,5 +96,4 @@ abbrev pub rows_played : Trump → Seat → ℕ → Course → List (List Entry)
 rows_played trump first tricks course [] = Ok []
 rows_played trump first tricks course (row ∷ rows) =
     unless_gap (gap_line (in_turn first course.trick.leader row) (first_entry rows))
-    (then_read (row_played trump tricks course (in_turn first course.trick.leader row))
-    (λ plays. prepend plays (rows_played trump first (tricks - 1) (course_after trump course plays) rows)))
+    (row_played trump tricks course (in_turn first course.trick.leader row) >>= (λ plays. prepend plays (rows_played trump first (tricks - 1) (course_after trump course plays) rows)))

@@ -8,7 +8,8 @@ use Rattle.card_sets.specs.declared.seat.Compass.{Compass}
 use Rattle.card_letters.specs.Letters.{is_letter, suit_read, compass_read}
 use Rattle.trick_rules.specs.declared.trump.Trump.{Trump}
 use Rattle.trick_rules.specs.declared.trump.Trump.TheVariants.{NoTrump, Suit as Suited}
-use Rattle.pbn_text.specs.Blanks.{after_blanks}
+use Rattle.byte_text.specs.Steps.{◌>>=◌}
+use Rattle.byte_text.specs.Blanks.{after_blanks}
 use Rattle.pbn_text.specs.Games.{TagValue, GameValue}
 use Rattle.pbn_deal.specs.declared.deal.DealValue.{DealValue}
 use Rattle.pbn_deal.specs.declared.deal.DealFault.{DealFault}
@@ -36,11 +37,6 @@ first_line (tag ∷ tags) = tag.line
 abbrev pub tag_or : BoardFault → List ℕ → GameValue → Result TagValue BoardRefusal
 tag_or fault name game = ok_or (tag_named name game) (Fault (first_line game.tags) fault)
 
--- what is read of a value, or its refusal
-abbrev pub then_read : {A B E : Type 0} → Result A E → (A → Result B E) → Result B E
-then_read (Ok value) read = read value
-then_read (Err refusal) read = Err refusal
-
 -- ---- inherited values
 
 -- a value that begins with a hash sign
@@ -67,7 +63,9 @@ deal_at line (Err fault) = Err (Fault line (Deal fault))
 
 -- the hands of the Deal tag
 abbrev pub deal_in : GameValue → Result DealValue BoardRefusal
-deal_in game = then_read (tag_or NoDeal (codes "Deal") game) (λ tag. deal_at tag.line (deal_read tag.value))
+deal_in game = do
+  tag ← tag_or NoDeal (codes "Deal") game
+  deal_at tag.line (deal_read tag.value)
 
 -- ---- the contract
 
@@ -107,9 +105,9 @@ contract_read value = at_level (after_blanks value) where
 
 -- the contract of the Contract tag
 abbrev pub contract_in : GameValue → Result Contract BoardRefusal
-contract_in game =
-    then_read (tag_or NoContract (codes "Contract") game)
-    (λ tag. if is_pass tag.value then Err (Fault tag.line PassedOut) else ok_or (contract_read tag.value) (Fault tag.line BadContract))
+contract_in game = do
+  tag ← tag_or NoContract (codes "Contract") game
+  if is_pass tag.value then Err (Fault tag.line PassedOut) else ok_or (contract_read tag.value) (Fault tag.line BadContract)
 
 -- ---- declarer
 
@@ -121,7 +119,9 @@ seat_named (letter ∷ second ∷ rest) = None
 
 -- the seat of the Declarer tag
 abbrev pub declarer_in : GameValue → Result Compass BoardRefusal
-declarer_in game = then_read (tag_or NoDeclarer (codes "Declarer") game) (λ tag. ok_or (seat_named tag.value) (Fault tag.line NoDeclarer))
+declarer_in game = do
+  tag ← tag_or NoDeclarer (codes "Declarer") game
+  ok_or (seat_named tag.value) (Fault tag.line NoDeclarer)
 
 -- ---- how much of the play is left
 
@@ -138,6 +138,7 @@ ending_read line declarer contract tricks None None =
     if tricks == 13 then Ok (record { need = contract.level + 6; leader = Left }) else Err (Fault line EndTags)
 ending_read line declarer contract tricks (Some need) None = Err (Fault need.line EndTags)
 ending_read line declarer contract tricks None (Some lead) = Err (Fault lead.line EndTags)
-ending_read line declarer contract tricks (Some need) (Some lead) =
-    then_read (ok_or (need_read need.value) (Fault need.line EndTags))
-    (λ number. then_read (ok_or (seat_named lead.value) (Fault lead.line EndTags)) (λ seat. Ok (record { need = number; leader = seat_of declarer seat })))
+ending_read line declarer contract tricks (Some need) (Some lead) = do
+  number ← ok_or (need_read need.value) (Fault need.line EndTags)
+  seat ← ok_or (seat_named lead.value) (Fault lead.line EndTags)
+  Ok (record { need = number; leader = seat_of declarer seat })

@@ -2,7 +2,7 @@
 ghost use Rattle.std.specs.Prelude.{◌≡◌};
 ghost use Rattle.pbn_deal.specs.Boards.{compass_of, seat_of, dealt_board, IsDealt, IsBoard, turn_of};
 
-use crate::course::{add_card, turn_in};
+use crate::course::add_card;
 use card_sets::{Card, CardSet, Compass, Seat};
 use std::alloc::Global;
 use std::marker::Model;
@@ -200,6 +200,6 @@ impl Board {
         for play in &self.plays {
             add_card(&mut trick, self.trump, play.card);
         }
-        Some(turn_in(&trick))
+        Some(trick.to_play())
     }
 }

@@ -1,13 +1,13 @@
 //! A value in the Deal form, and the first thing that is wrong with one.
 ghost use Rattle.std.specs.Prelude.{◌≡◌, ◌==◌, false, map, length, option_map, MatchOption, IfOk};
-ghost use Rattle.pbn_text.specs.Blanks.{words};
+ghost use Rattle.byte_text.specs.Blanks.{words};
 ghost use Rattle.pbn_deal.specs.Dealing.{hands_of};
 ghost use Rattle.pbn_deal.specs.Deal.{seat_ahead, from_north, are_one_size, shown_sizes, deal_read, hand_at, IsSoundDeal};
 
 use crate::hands::FourHands;
 use card_letters::read_compass;
 use card_sets::{CardSet, Compass};
-use pbn_text::{first_word, skip_blanks};
+use byte_text::{first_word, skip_blanks};
 use thiserror::Error;
 
 /// The hands that a value in the Deal form shows.

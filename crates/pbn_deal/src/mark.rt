@@ -1,9 +1,9 @@
 //! What a token of the Play section says.
 ghost use Rattle.std.specs.Prelude.{◌≡◌};
 ghost use Rattle.std.specs.List.{list_all};
-ghost use Rattle.std.specs.Char.{is_ascii_digit};
 ghost use Rattle.pbn_deal.specs.Marks.{is_suffix, is_numbered, is_note, card_of_token, mark_of};
 
+use byte_text::are_digits;
 use card_letters::read_card;
 use card_sets::Card;
 
@@ -29,13 +29,6 @@ fn is_suffix(bytes: &[u8]) -> bool
     ensures { result ≡ list_all is_suffix bytes.now }
 {
     bytes.iter().all(|byte| *byte == b'!' || *byte == b'?')
-}
-
-// Whether all bytes are decimal digits.
-fn are_digits(bytes: &[u8]) -> bool
-    ensures { result ≡ list_all is_ascii_digit bytes.now }
-{
-    bytes.iter().all(|byte| byte.is_ascii_digit())
 }
 
 // Whether a token is `=n=` with a number n.

@@ -1,6 +1,5 @@
 //! The rows of a Play section as the play of a board.
 ghost use Rattle.std.specs.Prelude.{◌≡◌, ◌≢◌, ◌<◌, [], ◌∷◌, Ok, length, MatchResult, IfOk, option_copied, slice_index_or, find, is_some};
-ghost use Rattle.trick_rules.specs.Table.{places_on};
 ghost use Rattle.pbn_deal.specs.Boards.{course_after};
 ghost use Rattle.pbn_deal.specs.Sections.{IsRefusalOf};
 ghost use Rattle.pbn_deal.specs.Rows.{
@@ -15,12 +14,12 @@ ghost use Rattle.pbn_deal.specs.Rows.{
 };
 
 use crate::board::Played;
-use crate::course::{Course, legal_cards, turn_in};
+use crate::course::Course;
 use crate::fault::{BoardFault, BoardRefusal};
 use crate::section::Entry;
 use card_sets::{Card, CardSet, Seat};
 use std::alloc::Global;
-use trick_rules::{Trick, Trump};
+use trick_rules::{Trick, Trump, places_on};
 
 // The entry at a place, or one with no card at this line.
 fn entry_at(entries: &[Entry], place: usize, line: u32) -> Entry
@@ -48,21 +47,6 @@ fn split_row(entries: &[Entry]) -> ([Entry; 4], &[Entry])
         entry_at(entries, 3, line),
     ];
     (row, &entries[entries.len().min(4)..])
-}
-
-// How many places a seat sits after another, going clockwise.
-fn places_on(first: Seat, seat: Seat) -> usize
-    ensures { result ≡ places_on first seat }
-{
-    if seat == first {
-        0
-    } else if seat == first.next() {
-        1
-    } else if seat == first.next().next() {
-        2
-    } else {
-        3
-    }
 }
 
 // A row from the trick's leader on. Its first column is that of the seat that leads first.
@@ -104,7 +88,7 @@ fn hand_fault(trick: &Trick, hand: CardSet, card: Card) -> Option<BoardFault>
 {
     if !hand.has(card) {
         Some(BoardFault::PlayNotHeld)
-    } else if !legal_cards(trick, hand).has(card) {
+    } else if !trick.legal(hand).has(card) {
         Some(BoardFault::PlayRevoke)
     } else {
         None
@@ -141,7 +125,7 @@ fn play_row(
         let Some(card) = entry.card else {
             return Ok(plays);
         };
-        let seat = turn_in(&course.trick);
+        let seat = course.trick.to_play();
         if let Some(kind) = card_fault(tricks, course, seat, card) {
             return Err(BoardRefusal::Fault {
                 line: entry.line,

@@ -25,7 +25,8 @@ use crate::deal::{DealValue, read_deal};
 use crate::fault::{BoardFault, BoardRefusal};
 use card_letters::{read_compass, read_suit};
 use card_sets::{Compass, Seat};
-use pbn_text::{Game, Tag, skip_blanks};
+use byte_text::skip_blanks;
+use pbn_text::{Game, Tag};
 use trick_rules::Trump;
 
 /// A contract: its level, 1 to 7, and trumps.

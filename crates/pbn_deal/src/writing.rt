@@ -4,7 +4,7 @@ ghost use Rattle.pbn_deal.specs.declared.deal.DealValue.{DealValue};
 ghost use Rattle.pbn_deal.specs.Deal.{deal_read, IsSoundDeal};
 ghost use Rattle.pbn_deal.specs.Writing.{suit_text, hand_text, shown_text, hands_text, deal_text};
 
-use am_outside::Text;
+use byte_text::Text;
 use card_letters::{compass_letter, rank_letter};
 use card_sets::{Card, CardSet, Compass, Rank, Suit};
 use std::alloc::{AllocError, Global};

@@ -6,11 +6,12 @@ use Rattle.std.proofs.lemmas.Bool.{cases_lt, cond_both, and_parts, or_parts, or_
 use Rattle.std.proofs.lemmas.List.{drop-drop, drop_all, length-drop}
 use Rattle.std.proofs.lemmas.List.Sums.{sum_by-cons}
 use Rattle.pbn_text.specs.declared.fault.Syntax.TheVariants.{BadTag, OpenBrace}
-use Rattle.pbn_text.specs.Blanks.{is_blank, after_blanks}
+use Rattle.byte_text.specs.Blanks.{is_blank, after_blanks}
 use Rattle.pbn_text.specs.Strings.{string_len, unescaped}
-use Rattle.pbn_text.specs.Pieces.{is_line_end, past_line, ends_name, ends_token, Piece, passed, game_end, tag, fault, Ahead, ahead_of, comment_ahead, string_ahead, closed_tag, quoted_tag, named_tag, tag_ahead, token_ahead, in_line_ahead, is_skipped_line, is_blank_line, piece_ahead, pieces}
+use Rattle.byte_text.specs.Lines.{is_line_end}
+use Rattle.pbn_text.specs.Pieces.{past_line, ends_name, ends_token, Piece, passed, game_end, tag, fault, Ahead, ahead_of, comment_ahead, string_ahead, closed_tag, quoted_tag, named_tag, tag_ahead, token_ahead, in_line_ahead, is_skipped_line, is_blank_line, piece_ahead, pieces}
 use Rattle.pbn_text.specs.Reading.{ends_line}
-use Rattle.pbn_text.proofs.Words.{position_or_len-cons}
+use Rattle.byte_text.proofs.Places.{position_or_len-cons}
 
 -- a list is what is left of another after some elements
 pub record IsPart (text rest : List ℕ) : Type 0 where

@@ -1,4 +1,3 @@
-pub mod Words
 pub mod StringLemmas
 pub mod Ahead
 pub mod Collected

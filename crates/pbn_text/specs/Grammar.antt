@@ -1,10 +1,11 @@
 -- Games: groups of tag pairs with their tokens, ended by lines of blanks alone.
-use Rattle.std.specs.Prelude.{ℕ, ◌+◌, Bool, true, false, ◌&&◌, ◌||◌, ◌==◌, nat_lt, nat_le, List, [], ◌∷◌, length, map, filter, take, count_by, Option, Some, None, Result, Ok, Err, if◌then◌else◌}
+use Rattle.std.specs.Prelude.{ℕ, Bool, true, false, ◌&&◌, ◌||◌, ◌==◌, nat_lt, nat_le, List, [], ◌∷◌, length, map, filter, Option, Some, None, Result, Ok, Err, if◌then◌else◌}
 use Rattle.std.specs.List.{slice_split, position_or_len}
 use Rattle.pbn_text.specs.declared.fault.Syntax.{Syntax}
 use Rattle.pbn_text.specs.declared.fault.Syntax.TheVariants.{NotText, StrayToken}
 use Rattle.pbn_text.specs.Games.{TokenValue, TagValue, GameValue}
-use Rattle.pbn_text.specs.Pieces.{is_line_end, Piece, passed, game_end, tag, token, fault, pieces}
+use Rattle.byte_text.specs.Lines.{line_number}
+use Rattle.pbn_text.specs.Pieces.{Piece, passed, game_end, tag, token, fault, pieces}
 
 -- the tokens before the next tag pair
 abbrev pub tokens_ahead : List Piece → List TokenValue
@@ -66,7 +67,7 @@ is_no_text byte = nat_le byte 8 || byte == 12 || (nat_le 14 byte && nat_le byte 
 unfoldable pub no_text_fault : List ℕ → Option (ℕ × Syntax)
 no_text_fault bytes =
     let place = position_or_len is_no_text bytes in
-    if nat_lt place (length bytes) then Some (1 + count_by is_line_end (take place bytes), NotText) else None
+    if nat_lt place (length bytes) then Some (line_number bytes place, NotText) else None
 
 -- a text without the UTF-8 byte order mark at its front
 abbrev pub without_mark : List ℕ → List ℕ

@@ -1,4 +1,3 @@
-pub mod Blanks
 pub mod Strings
 pub mod Games
 pub mod Pieces

@@ -4,12 +4,9 @@ use Rattle.std.specs.List.{list_all, position_or_len, before_first, after_first}
 use Rattle.pbn_text.specs.declared.fault.Syntax.{Syntax}
 use Rattle.pbn_text.specs.declared.fault.Syntax.TheVariants.{OpenString, BadTag, OpenBrace}
 use Rattle.pbn_text.specs.Games.{TokenValue}
-use Rattle.pbn_text.specs.Blanks.{is_blank, after_blanks}
+use Rattle.byte_text.specs.Blanks.{is_blank, after_blanks}
+use Rattle.byte_text.specs.Lines.{is_line_end}
 use Rattle.pbn_text.specs.Strings.{string_len, unescaped}
-
--- a line feed
-abbrev pub is_line_end : ℕ → Bool
-is_line_end byte = byte == 10
 
 -- what follows up to the end of the line
 abbrev pub line_of : List ℕ → List ℕ

@@ -11,7 +11,8 @@ use Rattle.pbn_text.specs.declared.game.Game.{Game}
 use Rattle.pbn_text.specs.declared.items.Item.{Item}
 use Rattle.pbn_text.specs.declared.items.Item.TheVariants as items
 use Rattle.pbn_text.specs.declared.reader.Reader.{Reader}
-use Rattle.pbn_text.specs.Pieces.{Piece, passed, game_end, tag, token, fault, Ahead, pieces, is_line_end}
+use Rattle.pbn_text.specs.Pieces.{Piece, passed, game_end, tag, token, fault, Ahead, pieces}
+use Rattle.byte_text.specs.Lines.{is_line_end}
 use Rattle.pbn_text.specs.Games.{TokenValue, TagValue, GameValue}
 use Rattle.pbn_text.specs.Grammar.{has_tag}
 

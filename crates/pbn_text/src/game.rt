@@ -1,6 +1,6 @@
 //! What a text holds: games of tag pairs and tokens.
 
-use am_outside::Text;
+use byte_text::Text;
 use std::marker::Model;
 
 /// A string, or a run of bytes without blanks.

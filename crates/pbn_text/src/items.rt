@@ -4,13 +4,10 @@ ghost use Rattle.pbn_text.specs.Pieces.{token_ahead, comment_ahead, string_ahead
 ghost use Rattle.pbn_text.specs.Strings.{string_len};
 ghost use Rattle.pbn_text.specs.Reading.{Finds};
 
-use crate::blanks::skip_blanks;
 use crate::fault::{Syntax, TextFault};
 use crate::game::Token;
-use crate::scan::{
-    is_blank_line, name_len, past_line, place_of, string_len, text_of, token_len, unescaped,
-};
-use am_outside::Text;
+use crate::scan::{is_blank_line, name_len, past_line, place_of, string_len, token_len, unescaped};
+use byte_text::{Text, skip_blanks};
 use std::alloc::Global;
 
 /// What stands at the front of a text.
@@ -52,7 +49,7 @@ fn string_ahead(alloc: Global, line: u32, text: &[u8]) -> Result<(Item, &[u8]), 
         });
     };
     let (inside, rest) = text.split_at(len);
-    let mut token = text_of(alloc, b"\"")?;
+    let mut token = Text::from_bytes(alloc, b"\"")?;
     token.push(inside)?;
     Ok((Item::Token(Token { text: token, line }), rest))
 }
@@ -85,7 +82,7 @@ fn tag_ahead(alloc: Global, line: u32, text: &[u8]) -> Result<(Item, &[u8]), Tex
         return Err(bad);
     };
     let tag = Item::Tag {
-        name: text_of(alloc, name)?,
+        name: Text::from_bytes(alloc, name)?,
         value: unescaped(alloc, &value[..len - 1])?,
         line,
     };
@@ -97,7 +94,7 @@ fn token_ahead(alloc: Global, line: u32, text: &[u8]) -> Result<(Item, &[u8]), T
     ensures { Finds result (token_ahead line text.now) }
 {
     let (token, rest) = text.split_at(token_len(text));
-    let text = text_of(alloc, token)?;
+    let text = Text::from_bytes(alloc, token)?;
     Ok((Item::Token(Token { text, line }), rest))
 }
 

@@ -1,9 +1,8 @@
 //! PBN text: bytes as games of tag pairs and tokens.
-//! It stands on `am_outside`, whose texts hold what was read.
+//! It stands on `byte_text`, whose texts hold what was read.
 //! Its contract promises that what the grammar accepts is read as the grammar says, and that all else is refused with the first fault and its line.
 #![tactic(auto)]
 
-pub mod blanks;
 mod collector;
 pub mod fault;
 pub mod game;
@@ -12,7 +11,6 @@ mod reader;
 mod reading;
 mod scan;
 
-pub use blanks::{first_word, is_blank, skip_blanks};
 pub use fault::{Syntax, TextFault};
 pub use game::{Game, Tag, Token};
 pub use reading::games;

@@ -4,7 +4,8 @@ ghost use Rattle.pbn_text.specs.Reading.{Reads};
 
 use crate::fault::TextFault;
 use crate::items::{Item, piece_ahead};
-use crate::scan::{count_line_ends, ends_line};
+use crate::scan::ends_line;
+use byte_text::count_line_ends;
 use std::alloc::Global;
 
 /// A text that is being read: what is left of it, and where that begins.

@@ -9,7 +9,7 @@ use crate::collector::Collector;
 use crate::fault::{Syntax, TextFault};
 use crate::game::Game;
 use crate::reader::Reader;
-use crate::scan::count_line_ends;
+use byte_text::line_number;
 use std::alloc::Global;
 
 // How many bytes stand before the first that stands in no text.
@@ -31,7 +31,7 @@ fn no_text_line(bytes: &[u8]) -> Option<u32>
 {
     let len = text_len(bytes);
     if len < bytes.len() {
-        Some(1 + count_line_ends(&bytes[..len]) as u32)
+        Some(line_number(bytes, len))
     } else {
         None
     }

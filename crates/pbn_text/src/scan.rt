@@ -1,12 +1,11 @@
 //! Where things end: lines, comments, names, tokens and strings.
-ghost use Rattle.std.specs.Prelude.{◌≡◌, ◌==◌, ◌≤◌, length, count_by, IfOk, IfSome};
-ghost use Rattle.std.specs.List.{position_or_len, after_first};
-ghost use Rattle.pbn_text.specs.Pieces.{is_line_end, is_name_byte, ends_name, ends_token, past_line, is_blank_line};
+ghost use Rattle.std.specs.Prelude.{◌≡◌, ◌==◌, ◌≤◌, length, IfOk, IfSome};
+ghost use Rattle.std.specs.List.{position_or_len};
+ghost use Rattle.pbn_text.specs.Pieces.{ends_name, ends_token, past_line, is_blank_line};
 ghost use Rattle.pbn_text.specs.Reading.{ends_line};
 ghost use Rattle.pbn_text.specs.Strings.{string_len, unescaped};
 
-use crate::blanks::is_blank;
-use am_outside::Text;
+use byte_text::{Text, are_blanks, is_blank};
 use std::alloc::{AllocError, Global};
 
 /// How many bytes stand before the first byte of this value, or in the whole text.
@@ -28,16 +27,7 @@ pub fn past_line(text: &[u8]) -> &[u8]
 pub fn is_blank_line(text: &[u8]) -> bool
     ensures { result ≡ is_blank_line text.now }
 {
-    text[..place_of(text, b'\n')]
-        .iter()
-        .all(|byte| is_blank(*byte))
-}
-
-/// How many line ends a text has.
-pub fn count_line_ends(text: &[u8]) -> usize
-    ensures { result ≡ count_by is_line_end text.now }
-{
-    text.iter().filter(|byte| **byte == b'\n').count()
+    are_blanks(&text[..place_of(text, b'\n')])
 }
 
 /// Whether the last byte ends a line.
@@ -113,13 +103,4 @@ pub fn unescaped(alloc: Global, text: &[u8]) -> Result<Text, AllocError>
         at += 1;
     }
     Ok(value)
-}
-
-/// A text of these bytes.
-pub fn text_of(alloc: Global, bytes: &[u8]) -> Result<Text, AllocError>
-    ensures { IfOk result (λ text. text ≡ bytes.now) }
-{
-    let mut text = Text::new(alloc);
-    text.push(bytes)?;
-    Ok(text)
 }

@@ -16,7 +16,7 @@ use Rattle.strategy_tree.proofs.CardLists.{has_card-from_Contains}
 use Rattle.strategy_tree.proofs.Rules.{going_on}
 use Rattle.strategy_tree.proofs.BridgeLaws.{recursion, steps}
 use Rattle.strategy_tree.proofs.BridgeNodes.{stops-bridge, length-states, mask-bridge, length-child_lefts, our_mask, cards_left-child}
-use Rattle.plain_fronts.proofs.Meets.{same_front}
+use Rattle.plain_fronts.proofs.SameFronts.{same_front}
 
 -- ---- the card in hand
 

@@ -1,3 +1,3 @@
 pub mod Results
-pub mod Meets
+pub mod SameFronts
 pub mod CardByCard

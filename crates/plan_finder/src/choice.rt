@@ -1,18 +1,15 @@
 //! The card that a plan takes at declarer's side, by the fronts after each card.
-ghost use Rattle.std.specs.Prelude.{◌≡◌, ◌<◌, ◌≤◌, ℕ, true, false, IfOk, IsErrOf};
+ghost use Rattle.std.specs.Prelude.{◌≡◌, ◌≤◌, ℕ, true, false, IfOk, IsErrOf};
 ghost use Rattle.trick_rules.specs.Nodes.{IsNode};
-ghost use Rattle.strategy_games.specs.Plans.{stops, tree_size};
+ghost use Rattle.strategy_games.specs.Plans.{stops};
 ghost use Rattle.strategy_tree.specs.Bridge.{bridge};
-ghost use Rattle.front_table.specs.Proven.{IsFrontAt};
 ghost use Rattle.plan_finder.specs.Choices.{IsFirstChoice, IsSpentAt};
 ghost use Rattle.plan_finder.specs.Targets.{IsOfFront};
 
-use alphamu_core::{Budget, Found, RootFault, SearchFault, search};
+use alphamu_core::{RootFault, SearchFault, exact_front};
 use card_sets::Card;
-use cut_rules::CutRules;
 use dd_solver::Solver;
 use front_table::FrontStore;
-use pareto_fronts::Front;
 use std::alloc::Global;
 use trick_rules::Node;
 use win_vectors::WinVector;
@@ -48,7 +45,7 @@ pub fn first_choice<S: FrontStore>(
     let mut cards = node.choices();
     'cards: while let Some(card) = cards.pop_first() {
         let (child, _) = node.child(alloc, card)?;
-        let front = match front_of(alloc, store, solver, &child, moves - 1, nodes) {
+        let front = match exact_front(alloc, store, solver, &child, moves - 1, nodes) {
             Ok(front) => front,
             Err(fault) => return Err(at_card(fault, card)),
         };
@@ -61,37 +58,6 @@ pub fn first_choice<S: FrontStore>(
         }
     }
     unreachable!()
-}
-
-/// The front of a node, by a search with a budget of its own.
-pub fn front_of<S: FrontStore>(
-    alloc: Global,
-    store: &mut S,
-    solver: &mut Solver,
-    node: &Node,
-    moves: u8,
-    nodes: u64,
-) -> Result<Front, SearchFault>
-    requires { moves ≤ 26 }
-    ensures front { IfOk result (IsFrontAt node.now moves) }
-    ensures spent { IsErrOf result SearchFault.Spent → nodes < tree_size bridge node.now moves }
-    ensures grown { S.grown store.old store.new }
-{
-    let mut budget = Budget::new(nodes);
-    let alpha = Front::new(alloc, node.width());
-    match search(
-        alloc,
-        store,
-        solver,
-        &mut budget,
-        node,
-        moves,
-        &alpha,
-        CutRules::none(),
-    )? {
-        Found::Exact(front) => Ok(front),
-        Found::Below => unreachable!(),
-    }
 }
 
 /// The fault of a search after a root card.

@@ -8,8 +8,8 @@ ghost use Rattle.strategy_tree.specs.PlanMeaning.{plan_of, replies_of};
 ghost use Rattle.plan_finder.specs.Targets.{IsOfFront};
 ghost use Rattle.plan_finder.specs.TooLarge.{IsTooLarge};
 
-use crate::choice::{at_card, first_choice, front_of, without_card};
-use alphamu_core::{RootFault, SearchFault};
+use crate::choice::{at_card, first_choice, without_card};
+use alphamu_core::{RootFault, SearchFault, exact_front};
 use dd_solver::Solver;
 use front_table::FrontStore;
 use std::alloc::Global;
@@ -120,7 +120,7 @@ fn replies<S: FrontStore>(
     let mut cards = node.choices();
     'cards: while let Some(card) = cards.pop_first() {
         let (child, mask) = node.child(alloc, card)?;
-        let front = front_of(alloc, store, solver, &child, moves, nodes)?;
+        let front = exact_front(alloc, store, solver, &child, moves, nodes)?;
         let part = vector.restrict(mask);
         let above = front.pick(&part).unwrap();
         let plan = plan_below(alloc, store, solver, &child, moves, &above, nodes)?;

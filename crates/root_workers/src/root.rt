@@ -1,18 +1,15 @@
 //! The loop over root cards.
-ghost use Rattle.std.specs.Prelude.{◌≡◌, ◌<◌, ◌≤◌, ◌∷◌, ℕ, List, true, false, length, IfOk, IsErrOf};
+ghost use Rattle.std.specs.Prelude.{◌≡◌, ◌≤◌, ◌∷◌, ℕ, List, true, false, length, IfOk, IsErrOf};
 ghost use Rattle.win_vectors.specs.Vectors.{ones_of};
 ghost use Rattle.win_vectors.specs.Fronts.{Vector};
-ghost use Rattle.trick_rules.specs.Nodes.{Layouts};
-ghost use Rattle.strategy_games.specs.Plans.{IsFront, stops, tree_size};
 ghost use Rattle.strategy_games.specs.Choosing.{IsBestCount, IsNamedCard};
 ghost use Rattle.strategy_tree.specs.Bridge.{bridge};
 ghost use Rattle.front_table.specs.Proven.{IsFrontAt};
 ghost use Rattle.root_workers.specs.Roots.{IsSpentAt, AllFit};
 ghost use Rattle.root_workers.specs.Leaders.{leader};
 
-use alphamu_core::{Budget, Found, RootFault, SearchFault, search};
+use alphamu_core::{RootFault, SearchFault, exact_front};
 use card_sets::Card;
-use cut_rules::CutRules;
 use dd_solver::Solver;
 use front_table::NoStore;
 use pareto_fronts::Front;
@@ -25,36 +22,6 @@ pub struct RootFront {
     pub front: Front,
     pub card: Card,
     pub count: u16,
-}
-
-// The front after a root card, by a search with a budget of its own.
-fn card_front(
-    alloc: Global,
-    solver: &mut Solver,
-    child: &Node,
-    moves: u8,
-    nodes: u64,
-) -> Result<Front, SearchFault>
-    requires { moves ≤ 26 }
-    ensures front { IfOk result (IsFrontAt child.now moves) }
-    ensures fits { IfOk result (λ _. tree_size bridge child.now moves ≤ nodes) }
-    ensures spent { IsErrOf result SearchFault.Spent → nodes < tree_size bridge child.now moves }
-{
-    let alpha = Front::new(alloc, child.width());
-    let mut budget = Budget::new(nodes);
-    match search(
-        alloc,
-        &mut NoStore,
-        solver,
-        &mut budget,
-        child,
-        moves,
-        &alpha,
-        CutRules::none(),
-    )? {
-        Found::Exact(front) => Ok(front),
-        Found::Below => unreachable!(),
-    }
 }
 
 // How many layouts the first vector of a front wins.
@@ -109,7 +76,7 @@ pub fn root_front(alloc: Global, node: &Node, moves: u8, nodes: u64) -> Result<R
     let mut cards = node.choices();
     'cards: while let Some(card) = cards.pop_first() {
         let (child, _) = node.child(alloc, card)?;
-        let won = match card_front(alloc, &mut solver, &child, moves - 1, nodes) {
+        let won = match exact_front(alloc, &mut NoStore, &mut solver, &child, moves - 1, nodes) {
             Ok(won) => won,
             Err(SearchFault::Spent) => return Err(RootFault::Spent(card)),
             Err(SearchFault::Memory) => return Err(RootFault::Memory),

@@ -7,7 +7,9 @@ use Rattle.strategy_games.specs.Misfits.{node_count, node_counts}
 use Rattle.strategy_tree.specs.declared.plan_reader.PlanFault.{PlanFault}
 use Rattle.strategy_tree.specs.declared.plan_reader.PlanLine.{PlanLine}
 use Rattle.strategy_tree.specs.declared.plan_reader.PlanLine.TheVariants.{Stop, Play, Hear}
-use Rattle.strategy_tree.specs.PlanRead.{◌>>=◌, plan_line, reply_line, line_at, said_at, line_or_fault, replies_read, below_line, node_read, plan_read}
+use Rattle.byte_text.specs.Steps.{◌>>=◌}
+use Rattle.strategy_tree.specs.PlanRead.{plan_line, reply_line, line_or_fault, replies_read, below_line, node_read, plan_read}
+use Rattle.byte_text.specs.Lines.{line_at, said_at}
 
 bind_ok : {A B : Type 0} (r : Result A PlanFault) (f : A → Result B PlanFault) (y : B) → (r >>= f) ≡ Ok y → (x : A) × (r ≡ Ok x) × (f x ≡ Ok y)
 bind_ok (Ok x) f y h = (x, refl, h)

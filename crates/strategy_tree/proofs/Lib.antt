@@ -1,5 +1,4 @@
 pub mod Meanings
-pub mod Reading
 pub mod ReadingNodes
 pub mod ReadBack
 pub mod CardLists

@@ -1,5 +1,5 @@
 -- A strategy is a plan that is read back from its lines.
-use Rattle.std.proofs.Common.{◌≡◌, ℕ, zero, suc, ◌+◌, ◌<◌, ◌≤◌, max, Bool, true, false, is_some, ◌||◌, List, [], ◌∷◌, length, Contains, refl, sym, ap, subst, ◌∙◌, ◌⊎◌, inl, inr, arith}
+use Rattle.std.proofs.Common.{◌≡◌, ℕ, zero, suc, ◌+◌, ◌<◌, ◌≤◌, Bool, true, false, is_some, ◌||◌, List, length, Contains, refl, sym, subst, ◌∙◌, ◌⊎◌, inl, inr, arith}
 use Rattle.std.proofs.lemmas.Bool.{false≢true}
 use Rattle.card_sets.specs.SetWords.{has_card, cards_where, IsCardSet, Apart}
 use Rattle.card_sets.proofs.Sets.{IsCardSet-cards_where, has_card-cards_where, has_card-below}

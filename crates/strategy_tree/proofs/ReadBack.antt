@@ -1,13 +1,10 @@
 -- What is written of a plan is read back.
-use Rattle.std.proofs.Common.{◌≡◌, ℕ, zero, suc, ◌+◌, ◌-◌, ◌/◌, ◌%◌, ◌<◌, ◌≤◌, Bool, true, false, not, ◌&&◌, ◌==◌, Option, Some, None, Result, Ok, List, [], ◌∷◌, ◌++◌, length, get_or, codes, bytes_eq, position, find, inl, inr, refl, sym, ap, subst, ◌∙◌, arith, append_assoc, append-nil, length-append}
+use Rattle.std.proofs.Common.{◌≡◌, ℕ, suc, ◌+◌, ◌-◌, ◌<◌, ◌≤◌, Bool, true, false, ◌&&◌, ◌==◌, Option, Some, None, Result, Ok, List, ◌++◌, length, get_or, codes, refl, sym, ap, ◌∙◌, arith, append_assoc, append-nil}
 use Rattle.std.specs.Option.{option_map, option_or}
-use Rattle.std.specs.List.{list_all, range_with_len, position_or_len}
+use Rattle.std.specs.List.{list_all, range_with_len}
 use Rattle.std.specs.Fmt.{decimal}
-use Rattle.std.proofs.lemmas.Fmt.{decimal_injective}
-use Rattle.std.proofs.lemmas.Bool.{cases_eq, cases_lt, ne_eqb, false≢true}
-use Rattle.std.proofs.lemmas.Bool.Decides.{Decides-eqb, Decides-ltb}
-use Rattle.std.proofs.lemmas.Slice.Eq.{bytes_eq-Decides}
-use Rattle.std.proofs.lemmas.List.{drop_at, take_at}
+use Rattle.std.proofs.lemmas.Bool.{false≢true, and_parts}
+use Rattle.std.proofs.lemmas.Bool.Decides.{Decides-eqb}
 use Rattle.std.proofs.lemmas.List.Folds.{list_all_at}
 use Rattle.std.proofs.lemmas.List.FromFn.{get_or-range_with_len, length-range_with_len}
 use Rattle.card_letters.specs.Letters.{card_text}
@@ -15,44 +12,12 @@ use Rattle.strategy_games.specs.Plans as games
 use Rattle.strategy_games.specs.Plans.{Plan, Replies, cards_of}
 use Rattle.strategy_tree.specs.declared.plan_reader.PlanFault.{PlanFault}
 use Rattle.strategy_tree.specs.declared.plan_reader.PlanLine.TheVariants.{Stop, Play, Hear}
-use Rattle.strategy_tree.specs.PlanText.{line_of, stop_line, play_line, hear_line, on_line, plan_text, replies_text, levels_of, levels_below, HasReplies, HaveReplies, HasCards, HaveCards}
-use Rattle.strategy_tree.specs.PlanRead.{card_named, number_named, play_said, hear_said, plan_line, reply_line, line_at, said_at, replies_read, node_read, plan_read}
-use Rattle.strategy_tree.proofs.Reading.{decimal_one, decimal_two}
+use Rattle.byte_text.specs.Lines.{line_of, said_at}
+use Rattle.strategy_tree.specs.PlanText.{stop_line, play_line, hear_line, on_line, plan_text, replies_text, levels_of, levels_below, HasReplies, HaveReplies, HasCards, HaveCards}
+use Rattle.strategy_tree.specs.PlanRead.{card_named, play_said, hear_said, plan_line, reply_line, replies_read, node_read, plan_read}
+use Rattle.byte_text.proofs.ReadNumbers.{number_within-decimal}
+use Rattle.byte_text.proofs.PlainLines.{is_plain, decimal_plain, said_at-here}
 use Rattle.strategy_tree.proofs.ReadingNodes.{node_read-stop, node_read-play, node_read-hear}
-
--- ---- lines
-
--- no byte ends a line
-abbrev is_line : List ℕ → Bool
-is_line text = list_all (λ b. not (b == 10)) text
-
-and_parts : (a b : Bool) → (a && b) ≡ true → (a ≡ true) × (b ≡ true)
-and_parts true b h = (refl, h)
-and_parts false b h = absurd (false≢true h)
-
-position_or_len-line : (text rest : List ℕ) → is_line text ≡ true → position_or_len (λ b. b == 10) (text ++ 10 ∷ rest) ≡ length text
-position_or_len-line [] rest line = refl
-position_or_len-line (b ∷ text) rest line = let parts = and_parts (not (b == 10)) (is_line text) line in rw parts.0 (omega (arith, position_or_len-line text rest parts.1))
-
-position_is : (p : ℕ → Bool) (xs : List ℕ) (i : ℕ) → position_or_len p xs ≡ i → i < length xs → position p xs ≡ Some i
-position_is p xs i is low = rw (is, (Decides-ltb i (length xs)).1 low) refl
-
-position-line : (text rest : List ℕ) → is_line text ≡ true → position (λ b. b == 10) (text ++ 10 ∷ rest) ≡ Some (length text)
-position-line text rest line =
-    position_is (λ b. b == 10) (text ++ 10 ∷ rest) (length text) (position_or_len-line text rest line) (omega (arith, length-append text (10 ∷ rest)))
-
--- the line that begins behind these bytes
-line_at-here : (before text rest : List ℕ) → is_line text ≡ true → line_at (before ++ (text ++ 10 ∷ rest)) (length before) ≡ Some text
-unfolding line_at
-line_at-here before text rest line = rw (drop_at before (text ++ 10 ∷ rest) (length before) refl, position-line text rest line, take_at text (10 ∷ rest) (length text) refl) refl
-
--- what it says, and where the next one begins
-said_at-here : {A : Type 0} (says : List ℕ → Option A) (before text rest : List ℕ) (x : A) → is_line text ≡ true → says text ≡ Some x
-    → said_at says (before ++ (line_of text ++ rest)) (length before) ≡ Some (x, length (before ++ line_of text))
-said_at-here says before text rest x line said =
-    let here : line_at (before ++ (line_of text ++ rest)) (length before) ≡ Some text = subst (λ bytes. line_at (before ++ bytes) (length before) ≡ Some text) (sym (append_assoc text (10 ∷ []) rest)) (line_at-here before text rest line) in
-    let next : length before + length text + 1 ≡ length (before ++ line_of text) = omega (arith, length-append before (line_of text), length-append text (10 ∷ [])) in
-    rw (here, said, next) refl
 
 -- ---- what each line says
 
@@ -78,43 +43,14 @@ below_limit p limit n all low = go (p n) refl
 
 -- each card is read from its two letters, which end no line
 abbrev reads_card : ℕ → Bool
-reads_card card = is_number (card_named (card_text card)) card && is_line (card_text card)
+reads_card card = is_number (card_named (card_text card)) card && is_plain (card_text card)
 
 reads_each_card : list_all reads_card (range_with_len 0 52) ≡ true
 reads_each_card = refl
 
-card_named-card_text : (card : ℕ) → card < 52 → (card_named (card_text card) ≡ Some card) × (is_line (card_text card) ≡ true)
+card_named-card_text : (card : ℕ) → card < 52 → (card_named (card_text card) ≡ Some card) × (is_plain (card_text card) ≡ true)
 card_named-card_text card low =
     let parts = and_parts _ _ (below_limit reads_card 52 card reads_each_card low) in (number_is _ card parts.0, parts.1)
-
--- the first number that passes
-find-range : (p : ℕ → Bool) (a len n : ℕ) → a ≤ n → n < a + len → p n ≡ true → ((k : ℕ) → k < n → p k ≡ false) → find p (range_with_len a len) ≡ Some n
-find-range p a zero n from low holds fails = absurd (omega arith)
-find-range p a (suc len) n from low holds fails = elim (cases_eq a n) [
-  | inl same ↦ rw (subst (λ x. p x ≡ true) (sym same) holds) (ap (λ x. Some x) same)
-  | inr other ↦ let past : a < n = omega arith in rw (fails a past) (find-range p (a + 1) len n (omega arith) (omega arith) holds fails)
-]
-
-number_named-decimal : (most n : ℕ) → 1 ≤ n → n ≤ most → n < 100 → number_named most (decimal n) ≡ Some n
-unfolding number_named
-number_named-decimal most n from to small =
-    find-range (λ k. bytes_eq (decimal n) (decimal k)) 1 most n from (omega arith) ((bytes_eq-Decides (decimal n) (decimal n)).1 refl) other
-  where
-    other : (k : ℕ) → k < n → bytes_eq (decimal n) (decimal k) ≡ false
-    other k below = go (bytes_eq (decimal n) (decimal k)) refl
-      where
-        go : (b : Bool) → bytes_eq (decimal n) (decimal k) ≡ b → b ≡ false
-        go false is = refl
-        go true is = let same : n ≡ k = decimal_injective n k (omega arith) (omega arith) ((bytes_eq-Decides (decimal n) (decimal k)).0 is) in absurd (omega arith)
-
-digit_line : (d : ℕ) (rest : List ℕ) → d < 10 → is_line rest ≡ true → is_line ((48 + d) ∷ rest) ≡ true
-digit_line d rest low line = let other : (48 + d == 10) ≡ false = ne_eqb (48 + d) 10 (λ e. omega arith) in rw other line
-
-is_line-decimal : (n : ℕ) → n < 100 → is_line (decimal n) ≡ true
-is_line-decimal n small = elim (cases_lt n 10) [
-  | inl one ↦ rw (decimal_one n one) (digit_line (n % 10) [] (omega arith) refl)
-  | inr two ↦ rw (decimal_two n two small) (digit_line (n / 10 % 10) ((48 + n % 10) ∷ []) (omega arith) (digit_line (n % 10) [] (omega arith) refl))
-]
 
 -- ---- the four lines
 
@@ -132,12 +68,12 @@ on-said card low = (card_named-card_text card low).0
 
 hear-said : (count : ℕ) → 1 ≤ count → count ≤ 52 → plan_line (codes "hear " ++ decimal count) ≡ Some (Hear count)
 unfolding plan_line hear_said play_said
-hear-said count from to = ap (λ named. option_map Hear named) (number_named-decimal 52 count from to (omega arith))
+hear-said count from to = ap (λ named. option_map Hear named) (number_within-decimal 1 52 count from to (omega arith))
 
 -- ---- plans
 
 -- a node's line behind these bytes, and what follows it
-line_here : {A : Type 0} (says : List ℕ → Option A) (bytes before text rest more : List ℕ) (x : A) → is_line text ≡ true → says text ≡ Some x → more ≡ line_of text ++ rest → bytes ≡ before ++ more
+line_here : {A : Type 0} (says : List ℕ → Option A) (bytes before text rest more : List ℕ) (x : A) → is_plain text ≡ true → says text ≡ Some x → more ≡ line_of text ++ rest → bytes ≡ before ++ more
     → Some (x, length (before ++ line_of text)) ≡ said_at says bytes (length before)
 line_here says bytes before text rest more x line said is bytes_are = rw (bytes_are, is) (sym (said_at-here says before text rest x line said))
 
@@ -163,7 +99,7 @@ mutual
       node_read-play levels bytes (length before) card (length (before ++ play_line card)) plan _ (omega arith) said below ∙ ap (λ text. Ok (games.Play card plan, length text)) (append_assoc before (play_line card) (plan_text plan))
   reads_plan (games.Hear rs) levels bytes before rest fits replies cards are =
       let count = length (cards_of rs) in
-      let said = line_here plan_line bytes before (codes "hear " ++ decimal count) (replies_text rs ++ rest) _ (Hear count) (is_line-decimal count (omega (arith, replies.1))) (hear-said count replies.0 replies.1) (append_assoc (hear_line count) (replies_text rs) rest) are in
+      let said = line_here plan_line bytes before (codes "hear " ++ decimal count) (replies_text rs ++ rest) _ (Hear count) (decimal_plain count) (hear-said count replies.0 replies.1) (append_assoc (hear_line count) (replies_text rs) rest) are in
       let below = reads_replies rs (levels - 1) bytes (before ++ hear_line count) rest (omega arith) replies.2 cards (part before (hear_line count) (replies_text rs) rest bytes are) in
       node_read-hear levels bytes (length before) count (length (before ++ hear_line count)) rs _ (omega arith) said below ∙ ap (λ text. Ok (games.Hear rs, length text)) (append_assoc before (hear_line count) (replies_text rs))
 

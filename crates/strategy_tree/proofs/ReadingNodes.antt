@@ -7,7 +7,9 @@ use Rattle.strategy_tree.specs.declared.plan_reader.PlanFault.TheVariants.{Line,
 use Rattle.strategy_tree.specs.declared.plan_reader.PlanLine.{PlanLine}
 use Rattle.strategy_tree.specs.declared.plan_reader.PlanLine.TheVariants.{Stop, Play, Hear}
 use Rattle.strategy_tree.specs.PlanMeaning.{Answer, answers_of}
-use Rattle.strategy_tree.specs.PlanRead.{◌>>=◌, plan_line, reply_line, said_at, line_or_fault, replies_read, below_line, node_read}
+use Rattle.byte_text.specs.Steps.{◌>>=◌}
+use Rattle.strategy_tree.specs.PlanRead.{plan_line, reply_line, line_or_fault, replies_read, below_line, node_read}
+use Rattle.byte_text.specs.Lines.{said_at}
 
 -- a fault of one step is the fault of the whole, and memory is free
 pub same_fault : {A B : Type 0} {x : Result A PlanFault} {y : Result B PlanFault} {fault : PlanFault} → (fault ≡ Memory) ⊎ (x ≡ Err fault) → (x ≡ Err fault → y ≡ Err fault) → (fault ≡ Memory) ⊎ (y ≡ Err fault)

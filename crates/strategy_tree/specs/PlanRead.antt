@@ -1,8 +1,9 @@
 -- How a plan is read: its lines in order, each node before those below it. The first fault is the answer.
-use Rattle.std.specs.Prelude.{ℕ, zero, suc, ◌+◌, Option, None, Some, option_and_then, Result, Ok, Err, List, [], ◌∷◌, length, take, drop, find, position, if◌then◌else◌, ◌==◌, bytes_eq, codes}
+use Rattle.std.specs.Prelude.{ℕ, zero, suc, Option, None, Some, option_and_then, Result, Ok, Err, List, [], ◌∷◌, if◌then◌else◌, bytes_eq, codes}
 use Rattle.std.specs.Option.{option_map, option_or}
-use Rattle.std.specs.List.{range_with_len}
-use Rattle.std.specs.Fmt.{decimal}
+use Rattle.byte_text.specs.Lines.{text_after, said_at}
+use Rattle.byte_text.specs.Numerals.{number_within}
+use Rattle.byte_text.specs.Steps.{◌>>=◌}
 use Rattle.card_letters.specs.Letters.{card_read}
 use Rattle.strategy_games.specs.Plans as games
 use Rattle.strategy_games.specs.Plans.{Plan, Replies}
@@ -13,32 +14,18 @@ use Rattle.strategy_tree.specs.declared.plan_reader.PlanLine.TheVariants.{Stop, 
 
 -- ---- one line
 
--- what follows a word at the front of a text
-abbrev pub text_after : List ℕ → List ℕ → Option (List ℕ)
-text_after [] text = Some text
-text_after (w ∷ word) [] = None
-text_after (w ∷ word) (b ∷ text) = if w == b then text_after word text else None
-
 -- a card by its two letters, in either case
 abbrev pub card_named : List ℕ → Option ℕ
 card_named (suit ∷ rank ∷ []) = card_read suit rank
 card_named _ = None
 
--- a decimal number from 1 to the greatest allowed
-unfoldable pub number_named : ℕ → List ℕ → Option ℕ
-number_named most text = find (λ n. bytes_eq text (decimal n)) (range_with_len 1 most)
-
--- a number of replies
-abbrev pub count_named : List ℕ → Option ℕ
-count_named text = number_named 52 text
-
 -- `play` and a card
 unfoldable pub play_said : List ℕ → Option PlanLine
 play_said text = option_map Play (option_and_then card_named (text_after (codes "play ") text))
 
--- `hear` and a number of replies
+-- `hear` and a number of replies, from 1 to 52
 unfoldable pub hear_said : List ℕ → Option PlanLine
-hear_said text = option_map Hear (option_and_then count_named (text_after (codes "hear ") text))
+hear_said text = option_map Hear (option_and_then (number_within 1 52) (text_after (codes "hear ") text))
 
 -- the line of a node
 unfoldable pub plan_line : List ℕ → Option PlanLine
@@ -48,20 +35,7 @@ plan_line text = if bytes_eq text (codes "stop") then Some Stop else option_or (
 unfoldable pub reply_line : List ℕ → Option ℕ
 reply_line text = option_and_then card_named (text_after (codes "on ") text)
 
--- the line that begins at a place, without its end; nothing where the text ends before the line does
-unfoldable pub line_at : List ℕ → ℕ → Option (List ℕ)
-line_at bytes at = option_map (λ n. take n (drop at bytes)) (position (λ b. b == 10) (drop at bytes))
-
--- what the line that begins at a place says, and the place after it
-abbrev pub said_at : {A : Type 0} → (List ℕ → Option A) → List ℕ → ℕ → Option (A × ℕ)
-said_at says bytes at = option_and_then (λ line. option_map (λ said. (said, at + length line + 1)) (says line)) (line_at bytes at)
-
 -- ---- one node after another
-
-infixl 10 ◌>>=◌
-abbrev pub ◌>>=◌ : {A B : Type 0} → Result A PlanFault → (A → Result B PlanFault) → Result B PlanFault
-Ok x >>= f = f x
-Err fault >>= f = Err fault
 
 -- a line that has to stand at a place
 abbrev pub line_or_fault : {A : Type 0} → ℕ → Option A → Result A PlanFault

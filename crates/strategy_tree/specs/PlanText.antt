@@ -1,12 +1,9 @@
 -- How a plan is written: one line a node, and one before each reply.
-use Rattle.std.specs.Prelude.{ℕ, ◌+◌, ◌<◌, ◌≤◌, max, ⊤, List, [], ◌∷◌, ◌++◌, length, codes}
+use Rattle.std.specs.Prelude.{ℕ, ◌+◌, ◌<◌, ◌≤◌, max, ⊤, List, [], ◌++◌, length, codes}
 use Rattle.std.specs.Fmt.{decimal}
+use Rattle.byte_text.specs.Lines.{line_of}
 use Rattle.card_letters.specs.Letters.{card_text}
 use Rattle.strategy_games.specs.Plans.{Plan, Replies, Stop, Play, Hear, NoReply, Reply, cards_of}
-
--- a text and the line's end
-abbrev pub line_of : List ℕ → List ℕ
-line_of text = text ++ 10 ∷ []
 
 unfoldable pub stop_line : List ℕ
 stop_line = line_of (codes "stop")

@@ -1,13 +1,12 @@
 //! A plan read from text.
-ghost use Rattle.std.specs.Prelude.{◌≡◌, ◌≤◌, ◌<◌, ◌⊎◌, ◌+◌, ◌++◌, length, IfOk, IfErr, IfSome, bytes_eq, position, ◌==◌, Ok, Err, List, ℕ};
-ghost use Rattle.std.specs.Fmt.{decimal};
-ghost use Rattle.std.specs.Option.{option_copied};
+ghost use Rattle.std.specs.Prelude.{◌≡◌, ◌≤◌, ◌<◌, ◌⊎◌, ◌+◌, ◌++◌, length, IfOk, IfErr, IfSome, ◌==◌, Ok, Err, List, ℕ};
 ghost use Rattle.strategy_tree.specs.PlanMeaning.{plan_of, replies_of};
 ghost use Rattle.strategy_tree.specs.PlanText.{plan_text, levels_of, HasReplies};
-ghost use Rattle.strategy_tree.specs.PlanRead.{text_after, number_named, card_named, play_said, hear_said, plan_line, reply_line, line_at, said_at, node_read, replies_read, plan_read};
+ghost use Rattle.byte_text.specs.Lines.{said_at};
+ghost use Rattle.strategy_tree.specs.PlanRead.{card_named, play_said, hear_said, plan_line, reply_line, node_read, replies_read, plan_read};
 
 use crate::plan::{Plan, Reply};
-use am_outside::Text;
+use byte_text::{Text, line_at, read_number, text_after};
 use card_letters::read_card;
 use card_sets::Card;
 use std::alloc::{AllocError, Global};
@@ -167,24 +166,6 @@ fn reply_line_at(bytes: &[u8], at: usize) -> Option<(Card, usize)>
     Some((card, at + text.len() + 1))
 }
 
-// The line that begins at a place, without its end; None where the text ends before the line does.
-fn line_at(bytes: &[u8], at: usize) -> Option<&[u8]>
-    requires { at ≤ length bytes.now }
-    ensures value { option_copied result ≡ line_at bytes.now at }
-    ensures within { IfSome result (λ line. at + length line.now + 1 ≤ length bytes.now) }
-{
-    let rest = &bytes[at..];
-    Some(&rest[..line_end(rest)?])
-}
-
-// The place of the first line end.
-fn line_end(text: &[u8]) -> Option<usize>
-    ensures value { result ≡ position (λ b. b == 10) text.now }
-    ensures within { IfSome result (λ end. end < length text.now) }
-{
-    text.iter().position(|byte| *byte == b'\n')
-}
-
 #[tactic(auto, unfolding(crate::specs::PlanRead::plan_line))]
 fn read_plan_line(text: &[u8]) -> Option<PlanLine>
     ensures { result ≡ plan_line text.now }
@@ -207,8 +188,8 @@ fn read_play(text: &[u8]) -> Option<PlanLine>
 fn read_hear(text: &[u8]) -> Option<PlanLine>
     ensures { result ≡ hear_said text.now }
 {
-    let count = text_after(text, b"hear ")?;
-    Some(PlanLine::Hear(read_number(count, MAX_REPLIES)?))
+    let count = read_number(text_after(text, b"hear ")?, 1, u32::from(MAX_REPLIES))?;
+    Some(PlanLine::Hear(count as u8))
 }
 
 #[tactic(auto, unfolding(crate::specs::PlanRead::reply_line))]
@@ -218,42 +199,11 @@ fn read_reply_line(text: &[u8]) -> Option<Card>
     read_named_card(text_after(text, b"on ")?)
 }
 
-// What follows a word at the front of a text.
-fn text_after<'a>(text: &'a [u8], word: &[u8]) -> Option<&'a [u8]>
-    ensures { option_copied result ≡ text_after word.now text.now }
-{
-    text.strip_prefix(word)
-}
-
 fn read_named_card(text: &[u8]) -> Option<Card>
     ensures { result ≡ card_named text.now }
 {
     match text {
         [suit, rank] => read_card(*suit, *rank),
         _ => None,
-    }
-}
-
-// A number from 1 to the greatest allowed.
-#[tactic(auto, unfolding(crate::specs::PlanRead::number_named))]
-fn read_number(text: &[u8], most: u8) -> Option<u8>
-    requires { most < 255 }
-    ensures { result ≡ number_named most text.now }
-{
-    (1..most + 1).find(|number| is_decimal(text, *number))
-}
-
-// Whether a text is the decimal number, without leading zeros.
-fn is_decimal(text: &[u8], number: u8) -> bool
-    ensures { result ≡ bytes_eq text.now (decimal number) }
-{
-    let ones = b'0' + number % 10;
-    let tens = b'0' + number / 10 % 10;
-    if number < 10 {
-        text == [ones].as_slice()
-    } else if number < 100 {
-        text == [tens, ones].as_slice()
-    } else {
-        text == [b'0' + number / 100, tens, ones].as_slice()
     }
 }

@@ -2,10 +2,11 @@
 ghost use Rattle.std.specs.Prelude.{◌≡◌, ◌<◌, ◌++◌, OnOk, OnErr};
 ghost use Rattle.card_letters.specs.Letters.{card_text};
 ghost use Rattle.strategy_tree.specs.PlanMeaning.{plan_of, replies_of};
-ghost use Rattle.strategy_tree.specs.PlanText.{line_of, hear_line, plan_text, replies_text, HasCards, HaveCards};
+ghost use Rattle.byte_text.specs.Lines.{line_of};
+ghost use Rattle.strategy_tree.specs.PlanText.{hear_line, plan_text, replies_text, HasCards, HaveCards};
 
 use crate::plan::{Plan, Reply};
-use am_outside::Text;
+use byte_text::Text;
 use card_letters::card_text;
 use card_sets::Card;
 use std::alloc::{AllocError, Global};
@@ -72,6 +73,7 @@ fn write_card(word: &[u8], card: Card, out: &mut Text) -> Result<(), AllocError>
 fn write_hear(count: usize, alloc: Global, out: &mut Text) -> Result<(), AllocError>
     ensures { OnOk result (out.new ≡ out.old ++ hear_line count) }
 {
-    let line = format!(in alloc; "hear {count}\n")?;
-    out.push(line.as_bytes())
+    out.push(b"hear ")?;
+    out.push_number(alloc, count as u64)?;
+    out.push(b"\n")
 }

@@ -1,6 +1,6 @@
 //! All layouts of small endings, and of a slam before and after seven tricks.
 use crate::endings::{HIDDEN, SHOWN, SLAM, TWO_SUITS_SHOWN, board_of, ending};
-use am_outside::Text;
+use byte_text::Text;
 use layout_maker::all_layouts;
 use pbn_deal::hand_text;
 use std::alloc::Global;

@@ -1,6 +1,6 @@
 //! Games as boards: the boards of small files, and the first fault of damaged ones.
 use crate::endings::{ENDING, HIDDEN, SHOWN, SLAM, TWO_SUITS, board_or_refusal, ending};
-use am_outside::Text;
+use byte_text::Text;
 use card_letters::{card_text, compass_letter, suit_letter};
 use pbn_deal::{Board, BoardRefusal, hand_text};
 use std::alloc::Global;

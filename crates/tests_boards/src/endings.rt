@@ -1,5 +1,5 @@
 //! The boards and layouts that the tests work with.
-use am_outside::Text;
+use byte_text::Text;
 use layout_list::{Kept, layouts};
 use pbn_deal::{Board, BoardRefusal, read_board};
 use pbn_text::games;

@@ -3,7 +3,7 @@ use crate::endings::{
     ENDING, ENDING_LAYOUTS, HIDDEN, SHOWN, SLAM, SLAM_LAYOUTS, TWO_SUITS, TWO_SUITS_LAYOUTS,
     board_of, ending,
 };
-use am_outside::Text;
+use byte_text::Text;
 use card_letters::{card_text, compass_letter};
 use layout_list::{Kept, LayoutFault, layouts};
 use pbn_deal::{Board, hand_text};

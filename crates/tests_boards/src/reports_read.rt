@@ -1,6 +1,6 @@
 //! Reports of a worked ending read back, and texts that are refused.
 
-use am_outside::Text;
+use byte_text::Text;
 use am_report::{Entry, ReadReport, ReportFault, ReportKind, read_report};
 use card_letters::card_text;
 use std::alloc::{AllocError, Global};

@@ -1,7 +1,7 @@
 //! Plans in text: the strategy of a worked example both ways, and what is refused.
 ghost use Rattle.std.specs.Prelude.{◌≤◌};
 
-use am_outside::Text;
+use byte_text::Text;
 use card_sets::{Card, Rank, Suit};
 use std::alloc::{AllocError, Global};
 use std::process::Abort;

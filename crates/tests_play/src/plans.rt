@@ -1,7 +1,7 @@
 //! The plan for one vector of a small ending, which was worked out by hand.
 use crate::given::{GUESS, card, node_of, vector};
 use alphamu_core::RootFault;
-use am_outside::Text;
+use byte_text::Text;
 use dd_solver::Solver;
 use front_table::NoStore;
 use plan_finder::plan_for;

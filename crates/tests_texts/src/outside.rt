@@ -3,7 +3,7 @@ ghost use Rattle.std.specs.Prelude.{Some};
 
 use am_outside::{
     FileShelf, Gate, MemoryShelf, MemorySink, OpenGate, Shelf, ShelfFault, Sink, SinkFailed,
-    StdSink, Text, write_whole,
+    StdSink, write_whole,
 };
 use card_sets::{Card, Rank, Suit};
 use copy::{CopyFault, copy, join};
@@ -13,16 +13,6 @@ use std::thread::Threads;
 use std::{fs, process, thread};
 
 mod copy;
-
-#[test]
-fn a_pushed_text_has_the_bytes(rt: HostRuntime) -> Result<(), Fail> {
-    let mut text = Text::new(rt.alloc());
-    text.push(b"xy")?;
-    assert_eq!(rt; text.bytes(), b"xy".as_slice());
-    text.push(b"z")?;
-    assert_eq!(rt; text.bytes(), b"xyz".as_slice());
-    Ok(())
-}
 
 #[test]
 fn a_file_is_read_within_its_limit(rt: HostRuntime) -> Result<(), Fail> {

@@ -1,5 +1,5 @@
 //! PBN text: the games of a file, and the first fault of a damaged one.
-use am_outside::Text;
+use byte_text::Text;
 use pbn_text::{Game, TextFault, games};
 use std::alloc::Global;
 use std::test::Fail;

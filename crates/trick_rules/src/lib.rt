@@ -10,6 +10,6 @@ pub mod trick;
 pub mod trump;
 
 pub use node::Node;
-pub use position::{Position, legal, play};
+pub use position::{Position, legal, places_on, play};
 pub use trick::{Trick, winner};
 pub use trump::Trump;

@@ -4,7 +4,7 @@ ghost use Rattle.card_sets.specs.SetWords.{has_card, IsCardSet};
 ghost use Rattle.trick_rules.specs.Table.{to_play as seat_to_play, tricks_left as count_of_tricks, has_played as seat_has_played, places_on as count_of_places, seat_place, IsSound, FitsLeft, HandsFit, table_between_tricks};
 ghost use Rattle.trick_rules.specs.Play.{is_over, decided as result_of, is_declarers, legal_cards, legal_in as legal_cards_in, held_by as cards_held_by, hand_of, after_card, CanPlay};
 
-use crate::trick::{Trick, seat_after, winner};
+use crate::trick::{Trick, winner};
 use crate::trump::Trump;
 use card_sets::card::Card;
 use card_sets::seat::Seat;
@@ -83,7 +83,7 @@ impl Position {
         ensures value { result ≡ seat_to_play self.now }
         ensures sound { IsSound self.now }
     {
-        seat_after(self.trick.cards.len(), self.trick.leader)
+        self.trick.to_play()
     }
 
     /// The tricks left, the present one among them.
@@ -203,8 +203,8 @@ fn hands_fit(declarer: CardSet, dummy: CardSet, unseen: CardSet) -> bool
         && unseen.count() == declarer.count() + declarer.count()
 }
 
-// How many places a seat sits after the leader, clockwise.
-fn places_on(leader: Seat, seat: Seat) -> u8
+/// How many places a seat sits after the leader, clockwise.
+pub fn places_on(leader: Seat, seat: Seat) -> u8
     ensures value { result ≡ count_of_places leader seat }
     ensures below { result < 4 }
 {
@@ -224,20 +224,11 @@ fn place(seat: Seat) -> u8
     }
 }
 
-/// The cards of a hand that may be played to the trick: those of the suit led if the hand has any, else the whole hand;
-/// the whole hand for the leader.
+/// The cards of a hand that may be played to the present trick.
 pub fn legal(position: &Position, hand: CardSet) -> CardSet
     ensures { result ≡ legal_cards position.now.trick.cards hand }
 {
-    let Some(suit) = position.trick.suit_led() else {
-        return hand;
-    };
-    let following = hand.of_suit(suit);
-    if following.is_empty() {
-        hand
-    } else {
-        following
-    }
+    position.trick.legal(hand)
 }
 
 // Whether the seat is declarer's or dummy's.

@@ -1,12 +1,13 @@
 //! A trick, and who takes it.
 ghost use Rattle.std.specs.Prelude.{◌≡◌, ◌≤◌, ◌<◌, length, [], IsTrue, ◌↔◌};
 ghost use Rattle.trick_rules.specs.Table.{seat_after as seat_that_many_on};
-ghost use Rattle.trick_rules.specs.Play.{suit_led, is_trump as is_trump_card, strength as strength_of, winner_of};
+ghost use Rattle.trick_rules.specs.Play.{suit_led, legal_cards, is_trump as is_trump_card, strength as strength_of, winner_of};
 
 use crate::trump::Trump;
 use arrayvec::ArrayVec;
 use card_sets::card::{Card, Suit};
 use card_sets::seat::Seat;
+use card_sets::set::CardSet;
 use std::marker::Model;
 
 /// A trick: who led to it, and its cards in the order of play.
@@ -40,6 +41,29 @@ impl Trick {
         ensures { result ≡ suit_led self.now.cards }
     {
         Some(self.cards.first()?.suit())
+    }
+
+    /// The seat to play: clockwise from the leader, past the cards of the trick.
+    pub fn to_play(&self) -> Seat
+        ensures { result ≡ seat_that_many_on (length self.now.cards) self.now.leader }
+    {
+        seat_after(self.cards.len(), self.leader)
+    }
+
+    /// The cards of a hand that may be played to the trick: those of the suit led if the hand has any, else the whole
+    /// hand; the whole hand for the leader.
+    pub fn legal(&self, hand: CardSet) -> CardSet
+        ensures { result ≡ legal_cards self.now.cards hand }
+    {
+        let Some(suit) = self.suit_led() else {
+            return hand;
+        };
+        let following = hand.of_suit(suit);
+        if following.is_empty() {
+            hand
+        } else {
+            following
+        }
     }
 
     /// An equal trick. It takes no memory.
@@ -83,7 +107,7 @@ fn is_trump(trump: Trump, card: Card) -> bool
 
 // The seat that many places on, clockwise.
 #[tactic(auto, using(crate::proofs::Turns::seat_after_more))]
-pub(crate) fn seat_after(places: usize, seat: Seat) -> Seat
+fn seat_after(places: usize, seat: Seat) -> Seat
     ensures { result ≡ seat_that_many_on places seat }
 {
     let mut there = seat;

@@ -2,7 +2,8 @@ use Rattle.std.proofs.Common.{◌≡◌, ◌++◌}
 use Rattle.std.specs.Prelude.{option_to_list}
 use Rattle.std.specs.Option.{option_map}
 use Rattle.std.specs.List.{slice_split, filter_map}
-use Rattle.am_report.specs.ReportLines.{is_line_end, moves_said}
+use Rattle.byte_text.specs.Lines.{is_line_end}
+use Rattle.am_report.specs.ReportLines.{moves_said}
 use Rattle.am_report.proofs.ReportSteps.{moves_left, size_left}
 use Rattle.am_report.proofs.reading.moves_in.Given as goal
 

@@ -1,6 +1,6 @@
 use Rattle.std.proofs.Common.{◌≡◌, ◌++◌, ◌∙◌, Ok, take, sym, ap}
 use Rattle.std.proofs.lemmas.Result.{err_from_is_err_and}
-use Rattle.strategy_tree.specs.PlanRead.{said_at}
+use Rattle.byte_text.specs.Lines.{said_at}
 use Rattle.am_report.specs.declared.fault.ReportKind.TheVariants as kinds
 use Rattle.am_report.specs.ReportLines.{card_said}
 use Rattle.am_report.specs.Reading.{expected, head_read, entries_read, end_read, below_read}
@@ -42,6 +42,6 @@ returns-clause-read c =
     let bytes = c.args.bytes.now in
     let head = c.in_ok-head.head in
     let named = c.in_ok-named.named in
-    let text : c.push.new.self ≡ take head.place bytes = c.in_ok-push.ensures.appended ∙ ap (λ start. start ++ take head.place bytes) c.new-text.ensures in
+    let text = c.in_ok-text.ensures in
     below_read-whole bytes head c.in_ok-head.ensures.read c.in_ok-entries.entries.items c.in_ok-entries.at c.in_ok-entries.ensures.read named c.in_ok-named.next c.in_ok-named.ensures.read c.in_ok-read_end.field-0 c.in_ok-read_end.ensures
     ∙ ap (λ text. Ok (record { head = text; moves = head.moves; entries = c.in_ok-entries.entries.items; card = named.0; count = named.1 })) (sym text)

@@ -1,6 +1,7 @@
 use Rattle.std.proofs.Common.{◌+◌, arith}
 use Rattle.am_report.specs.declared.fault.ReportKind.TheVariants as kinds
-use Rattle.am_report.specs.Reading.{line_number, end_read}
+use Rattle.byte_text.specs.Lines.{line_number}
+use Rattle.am_report.specs.Reading.{end_read}
 use Rattle.am_report.proofs.ReportSteps.{at_fault, end_read-missing, end_read-done, end_read-more}
 use Rattle.am_report.proofs.reading.read_end.Goals as goal
 

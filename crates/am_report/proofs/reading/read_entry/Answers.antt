@@ -1,7 +1,7 @@
 use Rattle.std.proofs.Common.{◌∙◌, Ok, sym, ap, subst}
 use Rattle.std.proofs.lemmas.Result.{err_from_is_err_and}
 use Rattle.strategy_tree.specs.PlanMeaning.{plan_of}
-use Rattle.strategy_tree.specs.PlanRead.{said_at}
+use Rattle.byte_text.specs.Lines.{said_at}
 use Rattle.am_report.specs.declared.fault.ReportFault.{ReportFault}
 use Rattle.am_report.specs.declared.fault.ReportKind.TheVariants as kinds
 use Rattle.am_report.specs.ReportLines.{vector_said}

@@ -1,7 +1,7 @@
 use Rattle.std.proofs.Common.{◌∙◌, rules, tests}
 use Rattle.std.proofs.lemmas.Iterator.{YieldsList-from_slice}
 use Rattle.std.proofs.lemmas.Iterator.Search.{position_from_yields_List}
-use Rattle.pbn_text.proofs.Words.{end_from_position}
+use Rattle.byte_text.proofs.Places.{end_from_position}
 use Rattle.am_report.specs.ReportLines.{ends_bits}
 use Rattle.am_report.proofs.report_lines.bits_len.Goals as goal
 

@@ -2,7 +2,7 @@ use Rattle.std.proofs.Common.{◌≡◌, ◌∙◌, length, get_or, take, map, r
 use Rattle.std.proofs.lemmas.List.{length-map, length-take-le}
 use Rattle.std.proofs.Math.ListN.{length-set}
 use Rattle.am_report.specs.ReportLines.{is_one}
-use Rattle.am_report.proofs.Numbers.{bit_more}
+use Rattle.am_report.proofs.Bits.{bit_more}
 use Rattle.am_report.proofs.report_lines.vector_of.Goals as goal
 
 pub loop-place-preserved : goal.loop-place-preserved

@@ -3,7 +3,7 @@ use Rattle.std.proofs.lemmas.Iterator.{YieldsList-from_slice}
 use Rattle.std.proofs.lemmas.Iterator.Search.{position_from_yields_List}
 use Rattle.std.proofs.lemmas.List.{take_all, drop_all, take_rest}
 use Rattle.pbn_deal.specs.Hands.{is_full_stop}
-use Rattle.pbn_deal.proofs.Suits.{found_at, found_none}
+use Rattle.byte_text.proofs.Places.{found_at, found_none}
 use Rattle.pbn_deal.proofs.hands.first_suit.Goals as goal
 
 pub returns-in-Some-clause-letters : goal.returns-in-Some-clause-letters

@@ -15,12 +15,12 @@ loop-entry-preserved c =
     let next : suc i ≡ i + 1 = omega arith in
     let split = drop-cons row i entry lt ∙ ap (λ x. x ∷ drop (suc i) row) (sym c.entry-item.is) ∙ ap (λ k. entry ∷ drop k row) next in
     let ok : is_ok c.push.result ≡ true = sym c.map_err.ensures.variant ∙ ap is_ok c.in_ok-map_err.was in
-    let pushed = c.push.ensures.items ∙ ap (λ b. cond b (c.loop-entry.plays.items ++ record { seat = c.turn_in-seat.result; card = c.in-Some.card } ∷ []) c.loop-entry.plays.items) ok in
+    let pushed = c.push.ensures.items ∙ ap (λ b. cond b (c.loop-entry.plays.items ++ record { seat = c.to_play-seat.result; card = c.in-Some.card } ∷ []) c.loop-entry.plays.items) ok in
     let fair = sym c.card_fault.ensures ∙ c.in_default-card_fault.is in
     record {
       short = c.play.ensures.short;
       after =
           c.play.ensures.value ∙ ap (λ k. next_course c.args.trump k c.in-Some.card) c.loop-entry.invariant.after
-          ∙ sym (ap (course_after c.args.trump c.args.course.now) pushed ∙ course_after-append c.args.trump c.args.course.now c.loop-entry.plays.items (record { seat = c.turn_in-seat.result; card = c.in-Some.card } ∷ []));
-      read = row_more c.args.trump c.args.tricks c.args.course.now c.loop-entry.course c.play.new.self row (drop i row) (drop (i + 1) row) entry c.in-Some.card c.turn_in-seat.result c.loop-entry.plays.items c.push.new.self.items c.loop-entry.invariant.read split c.in-Some.is c.turn_in-seat.ensures fair c.play.ensures.value pushed;
+          ∙ sym (ap (course_after c.args.trump c.args.course.now) pushed ∙ course_after-append c.args.trump c.args.course.now c.loop-entry.plays.items (record { seat = c.to_play-seat.result; card = c.in-Some.card } ∷ []));
+      read = row_more c.args.trump c.args.tricks c.args.course.now c.loop-entry.course c.play.new.self row (drop i row) (drop (i + 1) row) entry c.in-Some.card c.to_play-seat.result c.loop-entry.plays.items c.push.new.self.items c.loop-entry.invariant.read split c.in-Some.is c.to_play-seat.ensures fair c.play.ensures.value pushed;
     }

@@ -2,7 +2,7 @@ use Rattle.std.proofs.Common.{◌∙◌, rules, tests}
 use Rattle.std.proofs.lemmas.Iterator.{YieldsList-from_slice}
 use Rattle.std.proofs.lemmas.Iterator.Search.{position_from_yields_List}
 use Rattle.pbn_text.specs.Grammar.{is_no_text}
-use Rattle.pbn_text.proofs.Words.{end_from_position}
+use Rattle.byte_text.proofs.Places.{end_from_position}
 use Rattle.pbn_text.proofs.reading.text_len.Goals as goal
 
 pub returns-clause-len : goal.returns-clause-len

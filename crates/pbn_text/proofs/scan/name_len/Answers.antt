@@ -3,7 +3,7 @@ use Rattle.std.proofs.lemmas.Iterator.{YieldsList-from_slice}
 use Rattle.std.proofs.lemmas.Iterator.Search.{position_from_yields_List}
 use Rattle.std.proofs.lemmas.List.Sums.{prefix_len-le-length}
 use Rattle.pbn_text.specs.Pieces.{ends_name}
-use Rattle.pbn_text.proofs.Words.{end_from_position}
+use Rattle.byte_text.proofs.Places.{end_from_position}
 use Rattle.pbn_text.proofs.scan.name_len.Goals as goal
 
 pub returns : goal.returns

@@ -18,13 +18,13 @@ pick-requires g c =
 
 pub returns-in-Some-pick-clause-grown : goal.returns-in-Some-pick-clause-grown
 returns-in-Some-pick-clause-grown g c =
-    g.met.S.FrontStore.grown_more c.args.store.now c.cards.store c.front_of.new.store c.cards.invariant.grown c.in-Ok.ensures.grown
+    g.met.S.FrontStore.grown_more c.args.store.now c.cards.store c.exact_front.new.store c.cards.invariant.grown c.in-Ok.ensures.grown
 
 pub cards-preserved : goal.cards-preserved
 cards-preserved g c = record {
   so = none_more c.args.node.now c.args.moves c.args.vector.now c.cards.invariant.so c.in-Some.ensures.value c.in_ok-child.ensures.node c.in-Ok.front c.in-Ok.ensures.front
       (λ covers. let some = c.in_default-pick.ensures.found.1 covers in cc);
-  grown = g.met.S.FrontStore.grown_more c.args.store.now c.cards.store c.front_of.new.store c.cards.invariant.grown c.in-Ok.ensures.grown;
+  grown = g.met.S.FrontStore.grown_more c.args.store.now c.cards.store c.exact_front.new.store c.cards.invariant.grown c.in-Ok.ensures.grown;
 }
 
 pub unreachable-requires : goal.unreachable-requires

@@ -19,7 +19,7 @@ cards-preserved c =
     subst (λ best. RootSoFar c.args.node.now (c.args.moves - 1) c.args.nodes c.pop_first.new.self c.union.new.self best) (sym c.leader-best.ensures)
     (subst (λ (count : ℕ). RootSoFar c.args.node.now (c.args.moves - 1) c.args.nodes c.pop_first.new.self c.union.new.self (leader c.cards.best c.in-Some.card count)) (sym first.3)
     (root_more c.args.node.now (c.args.moves - 1) c.cards.invariant c.in-Some.ensures.value _ c.in-Ok.won c.union.new.self first.0 first.1
-    c.in_ok-child.ensures.node c.in-Ok.ensures.front c.in-Ok.ensures.fits first.2 c.in_ok-union.ensures.ok c.in_ok-union.ensures.width))
+    c.in_ok-child.ensures.node c.in-Ok.ensures.front (c.in-Ok.ensures.fits refl) first.2 c.in_ok-union.ensures.ok c.in_ok-union.ensures.width))
 
 pub unreachable-requires : goal.unreachable-requires
 unreachable-requires c = root_some c.args.node.now (c.args.moves - 1) c.cards.invariant c.width.ensures.a_node c.requires.goes_on c.requires.ours c.in_default.ensures.value.0 c.in-None.is
@@ -46,4 +46,4 @@ returns-in-Err-Spent-clause-spent c = λ card same.
     let here : c.in-Some.card ≡ card = spent_same _ c.in-Some.card card refl same in
     subst (λ (named : ℕ). IsSpentAt c.args.node.now c.args.moves c.args.nodes named) here
     (root_spent c.args.node.now (c.args.moves - 1) c.cards.invariant c.in-Some.ensures.value _ c.in_ok-child.ensures.node
-    (c.card_front.ensures.spent (c.in-Err-Spent.is ∙ ap Err c.in-Err-Spent.field-0-is)))
+    (c.exact_front.ensures.spent (c.in-Err-Spent.is ∙ ap Err c.in-Err-Spent.field-0-is)))

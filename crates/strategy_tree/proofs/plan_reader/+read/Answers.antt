@@ -6,7 +6,8 @@ use Rattle.strategy_games.specs.Plans.{Plan, Replies}
 use Rattle.strategy_tree.specs.declared.plan_reader.PlanFault.{PlanFault}
 use Rattle.strategy_tree.specs.declared.plan.Plan.TheViews.{roll-Reply}
 use Rattle.strategy_tree.specs.PlanMeaning.{answer_of, plan_of}
-use Rattle.strategy_tree.specs.PlanRead.{said_at, plan_line, reply_line, node_read, replies_read}
+use Rattle.byte_text.specs.Lines.{said_at}
+use Rattle.strategy_tree.specs.PlanRead.{plan_line, reply_line, node_read, replies_read}
 use Rattle.strategy_tree.proofs.Meanings.{plan_of-Stop, plan_of-Play, plan_of-Hear}
 use Rattle.strategy_tree.proofs.ReadingNodes.{same_fault, node_read-zero, node_read-none, node_read-stop, node_read-play, node_read-play_fault, node_read-hear, node_read-hear_fault, replies_read-stray, replies_read-broken, replies_read-turn, replies_read-end}
 use Rattle.strategy_tree.proofs.plan_reader.+read.Goals as goal

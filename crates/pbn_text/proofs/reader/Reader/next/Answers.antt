@@ -2,7 +2,8 @@ use Rattle.std.proofs.Common.{◌-◌, length, take, ◌+◌, sym, ap, ap₂, �
 use Rattle.std.proofs.lemmas.Result.{err_from_is_err_and}
 use Rattle.std.proofs.lemmas.List.{length-take}
 use Rattle.std.proofs.lemmas.List.Sums.{count_by-le-length}
-use Rattle.pbn_text.specs.Pieces.{is_line_end, piece_ahead, pieces}
+use Rattle.byte_text.specs.Lines.{is_line_end}
+use Rattle.pbn_text.specs.Pieces.{piece_ahead, pieces}
 use Rattle.pbn_text.proofs.Ahead.{pieces-next, pieces-fault}
 use Rattle.pbn_text.proofs.reader.Reader.next.Goals as goal
 
@@ -22,11 +23,11 @@ pub returns-clause-reads : goal.returns-clause-reads
 returns-clause-reads c =
     let s = c.args.self.now in
     let next = pieces-next s.at_front s.line s.rest.now c.in_ok-item.rest.now c.requires.left c.in_ok-item.ensures.1 in
-    (next.0 ∙ ap₂ ◌∷◌ c.in_ok-item.ensures.0 (ap₂ (λ f n. pieces f n 0 c.in_ok-item.rest.now) (sym c.ends_line-self.ensures) (ap (λ n. s.line + n) (sym c.count_line_ends.ensures))), next.1)
+    (next.0 ∙ ap₂ ◌∷◌ c.in_ok-item.ensures.0 (ap₂ (λ f n. pieces f n 0 c.in_ok-item.rest.now) (sym c.ends_line-self.ensures) (ap (λ n. s.line + n) (sym c.count_line_ends.ensures.value))), next.1)
 
 pub returns-clause-lines : goal.returns-clause-lines
 returns-clause-lines c =
     let s = c.args.self.now in
     let taken = take (length s.rest.now - length c.in_ok-item.rest.now) s.rest.now in
     let next = pieces-next s.at_front s.line s.rest.now c.in_ok-item.rest.now c.requires.left c.in_ok-item.ensures.1 in
-    omega (arith, next.1, c.count_line_ends.ensures, count_by-le-length is_line_end taken, length-take (length s.rest.now - length c.in_ok-item.rest.now) s.rest.now, c.requires.lines)
+    omega (arith, next.1, c.count_line_ends.ensures.value, count_by-le-length is_line_end taken, length-take (length s.rest.now - length c.in_ok-item.rest.now) s.rest.now, c.requires.lines)

@@ -1,9 +1,0 @@
-use Rattle.std.proofs.Common.{◌≡◌, ◌≤◌, take}
-use Rattle.std.specs.Str.Parse.{digits_value}
-use Rattle.am_report.proofs.report_lines.digits_value.Given as goal
-
-abbrev pub invariant-loop-digit : goal.invariant-loop-digit
-invariant-loop-digit l = record {
-  so_far : l.number ≡ digits_value 10 (take l.digit-index l.text);
-  within : l.number ≤ l.most;
-}

@@ -1,0 +1,5 @@
+pub mod Places
+pub mod Words
+pub mod ReadLines
+pub mod ReadNumbers
+pub mod PlainLines
