@@ -6,14 +6,10 @@ ghost use Rattle.trick_rules.specs.Play.{is_declarers};
 ghost use Rattle.trick_rules.specs.Nodes.{IsNode, stops as stops_at, choices as choices_of, child as child_of, child_mask};
 
 use crate::position::{Position, play};
-use card_sets::card::Card;
-use card_sets::set::CardSet;
+use card_sets::{Card, CardSet};
 use std::alloc::{AllocError, Global};
 use std::marker::Model;
 use win_vectors::WinVector;
-
-/// The most layouts of a node.
-pub const MAX_LAYOUTS: usize = 64;
 
 /// A sound position and 1 to 64 layouts, each by Left's hand, a part of the unseen cards with Left's number of cards.
 /// Right holds the rest.

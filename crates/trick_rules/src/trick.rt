@@ -5,8 +5,7 @@ ghost use Rattle.trick_rules.specs.Play.{suit_led, is_trump as is_trump_card, st
 
 use crate::trump::Trump;
 use arrayvec::ArrayVec;
-use card_sets::card::{Card, Suit};
-use card_sets::seat::Seat;
+use card_sets::{Card, Seat, Suit};
 use std::marker::Model;
 
 /// A trick: who led to it, and its cards in the order of play.
