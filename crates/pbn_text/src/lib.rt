@@ -3,10 +3,10 @@
 //! Its contract promises that what the grammar accepts is read as the grammar says, and that all else is refused with the first fault and its line.
 #![tactic(auto)]
 
-pub mod blanks;
+mod blanks;
 mod collector;
-pub mod fault;
-pub mod game;
+mod fault;
+mod game;
 mod items;
 mod reader;
 mod reading;
