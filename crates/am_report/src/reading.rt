@@ -11,7 +11,7 @@ use crate::fault::{ReportFault, ReportKind};
 use crate::report_lines::{card_at, front_at, read_moves, text_after, vector_at};
 use am_outside::Text;
 use card_sets::Card;
-use layout_list::line::split_line;
+use layout_list::split_line;
 use std::alloc::Global;
 use strategy_tree::{Plan, PlanFault, read_plan};
 use win_vectors::WinVector;

@@ -8,7 +8,7 @@ use crate::allowed::may_hold;
 use crate::dividing::{Choices, fitting_choices};
 use crate::fault::MakeFault;
 use card_sets::CardSet;
-use layout_list::line::Defenders;
+use layout_list::Defenders;
 use pbn_deal::Board;
 use std::alloc::Global;
 
