@@ -3,19 +3,19 @@
 //! Its contract promises each text whole, byte for byte, what a report says or its first fault, unless memory is refused, and that a written report is read back.
 #![tactic(auto)]
 
-pub mod answer;
-pub mod card;
-pub mod check;
-pub mod fault;
-pub mod fusion;
-pub mod head;
+mod answer;
+mod card;
+mod check;
+mod fault;
+mod fusion;
+mod head;
 pub mod laws;
 mod lines;
-pub mod list;
-pub mod made;
-pub mod reading;
+mod list;
+mod made;
+mod reading;
 mod report_lines;
-pub mod solve;
+mod solve;
 
 pub use answer::{Entry, SolveAnswer};
 pub use card::card_text;

@@ -4,9 +4,8 @@ ghost use Rattle.am_report.specs.LayoutFile.{dealt_hand, hand_of, layout_line, l
 
 use byte_text::Text;
 use card_sets::{CardSet, Compass, Seat};
-use layout_list::line::Defenders;
-use pbn_deal::board::seat_of;
-use pbn_deal::{Board, deal_text};
+use layout_list::Defenders;
+use pbn_deal::{Board, deal_text, seat_of};
 use std::alloc::{AllocError, Global};
 
 // The hand of a seat before the first card.

@@ -3,9 +3,9 @@
 //! Each contract speaks of a card as its place in card order, and of a set as the list of its cards in card order.
 #![tactic(auto)]
 
-pub mod card;
-pub mod seat;
-pub mod set;
+mod card;
+mod seat;
+mod set;
 
 pub use card::{Card, Rank, Suit};
 pub use seat::{Compass, Seat};

@@ -3,13 +3,13 @@
 //! Its contract promises the kept layouts with their root node, or the first fault with its line.
 #![tactic(auto)]
 
-pub mod fault;
-pub mod kept;
-pub mod line;
-pub mod list;
-pub mod verdict;
+mod fault;
+mod kept;
+mod line;
+mod list;
+mod verdict;
 
 pub use fault::LayoutFault;
 pub use kept::{Cause, Dropped, Kept};
-pub use line::MOST_LISTED;
+pub use line::{Defenders, MOST_LISTED, read_lines};
 pub use list::layouts;

@@ -19,7 +19,7 @@ pub struct Defenders {
 }
 
 /// Whether a line is no layout: blanks alone, or a line that begins with `%`.
-pub fn is_skipped(line: &[u8]) -> bool
+fn is_skipped(line: &[u8]) -> bool
     ensures { result ≡ is_skipped line.now }
 {
     are_blanks(line) || matches!(line, [b'%', ..])

@@ -7,8 +7,7 @@ ghost use Rattle.pbn_deal.specs.Boards.{first_trick};
 ghost use Rattle.layout_maker.specs.Choosing.{shows_void, narrowed, after_plays};
 
 use card_sets::{Card, CardSet, Seat, Suit};
-use pbn_deal::Board;
-use pbn_deal::course::add_card;
+use pbn_deal::{Board, add_card};
 use trick_rules::Trick;
 
 /// The unseen cards that Left may hold before the first card, and those that Right may.

@@ -7,7 +7,7 @@ ghost use Rattle.layout_maker.specs.Choosing.{fitting_hands, ways};
 
 use crate::allowed::MayHold;
 use card_sets::CardSet;
-use layout_list::line::Defenders;
+use layout_list::Defenders;
 use std::alloc::{AllocError, Global};
 
 /// Left's hands: each has the sure cards, and so many of the free ones.

@@ -35,7 +35,7 @@ impl Generator {
     }
 
     /// A number below the bound: the generator moves on, and what is left of its new number by the bound is drawn.
-    pub fn draw(&mut self, bound: usize) -> usize
+    fn draw(&mut self, bound: usize) -> usize
         requires { 0 < bound }
         ensures state { self.new ≡ next_state self.old }
         ensures drawn { result ≡ next_state self.old % bound }

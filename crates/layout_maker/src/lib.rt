@@ -5,13 +5,13 @@
 
 mod allowed;
 mod dividing;
-pub mod fault;
+mod fault;
 mod generator;
 pub mod laws;
-pub mod list;
-pub mod made;
+mod list;
+mod made;
 
 pub use fault::MakeFault;
-pub use layout_list::line::Defenders;
+pub use layout_list::Defenders;
 pub use list::all_layouts;
-pub use made::{Made, made_problem};
+pub use made::{Made, made_problem, made_problems_are_accepted};

@@ -8,8 +8,7 @@ use crate::allowed::may_hold;
 use crate::dividing::{Choices, fitting_choices};
 use crate::fault::MakeFault;
 use card_sets::CardSet;
-use layout_list::MOST_LISTED;
-use layout_list::line::Defenders;
+use layout_list::{Defenders, MOST_LISTED};
 use pbn_deal::Board;
 use std::alloc::Global;
 

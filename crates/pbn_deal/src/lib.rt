@@ -3,20 +3,21 @@
 //! Its contract promises that a value or a game is read as the grammar says or refused with its first fault, and that what is written is read back.
 #![tactic(auto)]
 
-pub mod board;
-pub mod course;
-pub mod deal;
-pub mod fault;
+mod board;
+mod course;
+mod deal;
+mod fault;
 mod hands;
-pub mod mark;
-pub mod read;
+mod mark;
+mod read;
 mod row;
-pub mod section;
-pub mod tags;
-pub mod writing;
+mod section;
+mod tags;
+mod writing;
 
-pub use board::{Board, Played};
+pub use board::{Board, Played, seat_of};
+pub use course::add_card;
 pub use deal::{DealFault, DealValue, read_deal};
 pub use fault::{BoardFault, BoardRefusal};
 pub use read::read_board;
-pub use writing::{deal_text, hand_text};
+pub use writing::{deal_text, deal_text_reads_back, hand_text};

@@ -4,8 +4,8 @@
 #![tactic(auto)]
 
 mod collector;
-pub mod fault;
-pub mod game;
+mod fault;
+mod game;
 mod items;
 mod reader;
 mod reading;

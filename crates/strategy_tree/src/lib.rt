@@ -4,9 +4,9 @@
 #![tactic(auto)]
 
 pub mod laws;
-pub mod plan;
-pub mod plan_reader;
-pub mod plan_text;
+mod plan;
+mod plan_reader;
+mod plan_text;
 
 pub use plan::{Plan, Reply};
 pub use plan_reader::{PlanFault, plan_text_reads_back, read_plan};

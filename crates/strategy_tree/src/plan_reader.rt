@@ -44,10 +44,10 @@ pub enum PlanLine {
 }
 
 /// The most levels that a plan may have, from its root to a leaf, both counted.
-pub const MAX_LEVELS: u8 = 64;
+const MAX_LEVELS: u8 = 64;
 
 /// The most replies that a defender's node may have: one for each card.
-pub const MAX_REPLIES: u8 = 52;
+const MAX_REPLIES: u8 = 52;
 
 /// The plan whose first line begins at a place in a text, and the place after its last line.
 /// The place is at most the text's length.

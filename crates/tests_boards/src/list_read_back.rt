@@ -1,8 +1,7 @@
 //! A list of all layouts is a layout file: it is read back as the same layouts, and none is dropped.
 use crate::endings::{SHOWN, TWO_SUITS_SHOWN, board_of, ending};
 use am_report::list_text;
-use layout_list::layouts;
-use layout_list::line::read_lines;
+use layout_list::{layouts, read_lines};
 use layout_maker::all_layouts;
 use std::test::Fail;
 

@@ -10,7 +10,7 @@ use am_report::{
 };
 use card_sets::{Card, Rank, Suit};
 use fusion_base::CardVector;
-use layout_list::line::{Defenders, read_lines};
+use layout_list::{Defenders, read_lines};
 use pbn_deal::Board;
 use std::alloc::Global;
 use std::test::Fail;

@@ -4,10 +4,10 @@
 #![tactic(auto)]
 
 pub mod laws;
-pub mod node;
-pub mod position;
-pub mod trick;
-pub mod trump;
+mod node;
+mod position;
+mod trick;
+mod trump;
 
 pub use node::Node;
 pub use position::{Position, legal, places_on, play};

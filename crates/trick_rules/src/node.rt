@@ -6,8 +6,7 @@ ghost use Rattle.trick_rules.specs.Play.{is_declarers};
 ghost use Rattle.trick_rules.specs.Nodes.{IsNode, stops as stops_at, choices as choices_of, child as child_of, child_mask};
 
 use crate::position::{Position, play};
-use card_sets::card::Card;
-use card_sets::set::CardSet;
+use card_sets::{Card, CardSet};
 use std::alloc::{AllocError, Global};
 use std::marker::Model;
 use win_vectors::WinVector;

@@ -6,9 +6,7 @@ ghost use Rattle.trick_rules.specs.Play.{is_over, decided as result_of, is_decla
 
 use crate::trick::{Trick, winner};
 use crate::trump::Trump;
-use card_sets::card::Card;
-use card_sets::seat::Seat;
-use card_sets::set::CardSet;
+use card_sets::{Card, CardSet, Seat};
 use std::marker::Model;
 
 /// A position: declarer's and dummy's hands, the cards that the two defenders hold together, the present trick, the
@@ -101,7 +99,7 @@ impl Position {
     }
 
     /// Whether the seat has a card in the trick.
-    pub fn has_played(&self, seat: Seat) -> bool
+    fn has_played(&self, seat: Seat) -> bool
         ensures { result ≡ seat_has_played self.now seat }
     {
         usize::from(places_on(self.trick.leader, seat)) < self.trick.cards.len()

@@ -5,9 +5,7 @@ ghost use Rattle.trick_rules.specs.Play.{suit_led, legal_cards, is_trump as is_t
 
 use crate::trump::Trump;
 use arrayvec::ArrayVec;
-use card_sets::card::{Card, Suit};
-use card_sets::seat::Seat;
-use card_sets::set::CardSet;
+use card_sets::{Card, CardSet, Seat, Suit};
 use std::marker::Model;
 
 /// A trick: who led to it, and its cards in the order of play.

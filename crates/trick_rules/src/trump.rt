@@ -1,5 +1,5 @@
 //! Trumps.
-use card_sets::card::Suit;
+use card_sets::Suit;
 
 /// The trump suit, or none.
 #[derive(Clone, Copy, Debug, PartialEq, Eq, Hash)]
