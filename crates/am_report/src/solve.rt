@@ -55,7 +55,7 @@ fn push_entries(text: &mut Text, alloc: Global, entries: &[Entry]) -> Result<(),
     Ok(())
 }
 
-fn push_count_line(text: &mut Text, alloc: Global, card: Card, count: u8) -> Result<(), AllocError>
+fn push_count_line(text: &mut Text, alloc: Global, card: Card, count: u16) -> Result<(), AllocError>
     ensures { OnOk result (text.new ≡ text.old ++ line_of (count_text card count)) }
 {
     push_count(text, alloc, card, count)?;

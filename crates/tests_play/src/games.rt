@@ -4,9 +4,9 @@ ghost use Rattle.strategy_games.specs.Plans.{IsFront};
 ghost use Rattle.strategy_games.specs.Finesse.{Spot, Deal, ToGuess, finesse, Any, same_hand, finesse_lawful, finesse_double_dummy, finesse_settled, hands_told};
 
 use strategy_games::{
-    HiddenGame, best_count_is_most, chosen_plan_wins, cuts_hold, first_misfit_tells,
-    front_more_moves, front_recursion, front_steps, named_card_wins, one_front, strategy_ends,
-    tree_size_laws,
+    HiddenGame, best_count_is_most, best_measure_is_most, best_weight_is_most,
+    card_named_by_measure_wins, chosen_plan_wins, cuts_hold, first_misfit_tells, front_more_moves,
+    front_recursion, front_steps, named_card_wins, one_front, strategy_ends, tree_size_laws,
 };
 
 // A queen in one of two hands, and one guess.

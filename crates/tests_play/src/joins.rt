@@ -14,7 +14,7 @@ struct Child {
 
 #[derive(Drop)]
 struct Row {
-    width: u8,
+    width: u16,
     first: Child,
     second: Child,
     third: Child,
