@@ -7,7 +7,7 @@ ghost use Rattle.trick_rules.specs.Table.{to_play};
 ghost use Rattle.trick_rules.specs.Play.{is_declarers, makes};
 ghost use Rattle.trick_rules.specs.Nodes.{states, stops};
 ghost use Rattle.strategy_games.specs.Joins.{spreads};
-ghost use Rattle.plain_fronts.specs.NodeFront.{IsFrontAt};
+ghost use Rattle.front_table.specs.Proven.{IsFrontAt};
 
 use dd_solver::makes_plain;
 use pareto_fronts::Front;

@@ -22,7 +22,7 @@ front_at_declarer-cards-preserved t c =
     let are = so_far.1 ∙ ap (λ cards. so_far.0 ++ cards) c.in-Some.ensures.value in
     record {
       width = c.in_ok-union.ensures.width ∙ c.cards.invariant.width;
-      so_far = declarer_turn c.args.node.now c.in_ok-child.child (c.args.moves - 1) so_far.0 c.pop_first.new.self c.in-Some.card c.cards.front.vectors c.in_ok-won.won.vectors c.union.new.self.vectors are so_far.2 c.in_ok-child.ensures.node c.in_ok-won.ensures.vectors c.in_ok-union.ensures.ok;
+      so_far = declarer_turn c.args.node.now c.in_ok-child.child (c.args.moves - 1) so_far.0 c.pop_first.new.self c.in-Some.card c.cards.front.vectors c.in_ok-won.won.vectors c.union.new.self.vectors are so_far.2 c.in_ok-child.ensures.node c.in_ok-won.ensures.front c.in_ok-union.ensures.ok;
     }
 
 pub front_at_declarer-returns : goal.front_at_declarer-returns
@@ -30,7 +30,7 @@ front_at_declarer-returns t c =
     let so_far = c.cards.invariant.so_far in
     record {
       width = c.cards.invariant.width;
-      vectors = declarer_end c.args.node.now c.args.moves so_far.0 c.cards.cards c.cards.front.vectors c.width.ensures.a_node c.requires.goes_on c.requires.ours so_far.1 (search rules) so_far.2;
+      front = declarer_end c.args.node.now c.args.moves so_far.0 c.cards.cards c.cards.front.vectors c.width.ensures.a_node c.requires.goes_on c.requires.ours so_far.1 (search rules) so_far.2;
     }
 
 pub front_at_defender-cards-init : goal.front_at_defender-cards-init
@@ -60,7 +60,7 @@ front_at_defender-cards-preserved t c =
     let are = so_far.1 ∙ ap (λ cards. so_far.0 ++ cards) c.in-Some.ensures.value in
     record {
       width = c.in_ok-front.ensures.width ∙ c.cards.invariant.width;
-      so_far = defender_turn c.args.node.now c.in_ok-child.child c.args.moves so_far.0 c.pop_first.new.self c.in-Some.card c.in_ok-child.mask c.cards.front.vectors c.in_ok-won.won.vectors c.in_ok-front.front.vectors c.width.ensures.a_node are so_far.2 c.in_ok-child.ensures.node c.in_ok-child.ensures.mask c.in_ok-won.ensures.vectors c.in_ok-front.ensures.best;
+      so_far = defender_turn c.args.node.now c.in_ok-child.child c.args.moves so_far.0 c.pop_first.new.self c.in-Some.card c.in_ok-child.mask c.cards.front.vectors c.in_ok-won.won.vectors c.in_ok-front.front.vectors c.width.ensures.a_node are so_far.2 c.in_ok-child.ensures.node c.in_ok-child.ensures.mask c.in_ok-won.ensures.front c.in_ok-front.ensures.best;
     }
 
 pub front_at_defender-returns : goal.front_at_defender-returns
@@ -68,5 +68,5 @@ front_at_defender-returns t c =
     let so_far = c.cards.invariant.so_far in
     record {
       width = c.cards.invariant.width;
-      vectors = defender_end c.args.node.now c.args.moves so_far.0 c.cards.cards c.cards.front.vectors c.width.ensures.a_node c.requires.goes_on c.requires.theirs so_far.1 (search rules) so_far.2;
+      front = defender_end c.args.node.now c.args.moves so_far.0 c.cards.cards c.cards.front.vectors c.width.ensures.a_node c.requires.goes_on c.requires.theirs so_far.1 (search rules) so_far.2;
     }
