@@ -1,6 +1,6 @@
 //! A card by its place in card order, its suit and its rank.
-ghost use Rattle.std.specs.Prelude.{◌≡◌, ◌<◌, ◌≤◌};
-ghost use Rattle.card_sets.specs.Cards.{card_of, suit_of, rank_of};
+ghost use Rattle.std.specs.Prelude.{◌≡◌, ◌<◌, ◌≤◌, ◌∷◌, [], map};
+ghost use Rattle.card_sets.specs.Cards.{suit_place, card_of, suit_of, rank_of};
 
 use std::marker::Model;
 
@@ -17,6 +17,11 @@ impl Suit {
     /// The four suits in card order.
     pub const ALL: [Suit; 4] = [Suit::Spades, Suit::Hearts, Suit::Diamonds, Suit::Clubs];
 }
+
+/// `Suit::ALL` has each suit at its place in card order. The call does nothing: its contract is the law.
+pub fn suits_are_in_card_order()
+    ensures { map suit_place Suit.ALL ≡ 0 ∷ 1 ∷ 2 ∷ 3 ∷ [] }
+{}
 
 /// A rank: 2 to 10, and 11 to 14 for the jack, queen, king and ace.
 #[derive(Clone, Copy, Debug, PartialEq, Eq, PartialOrd, Ord, Hash)]
