@@ -2,7 +2,7 @@
 use Rattle.std.proofs.Common.{◌≡◌, ◌∙◌, ◌+◌, ◌≤◌, ℕ, List, [], ◌∷◌, ◌++◌, Contains, Result, Ok, Err, IsErrAnd, sum_by, sym, ap, subst, arith, append_assoc}
 use Rattle.std.proofs.lemmas.List.{append-nil}
 use Rattle.std.proofs.lemmas.List.Sums.{sum_by-append, sum_by-cons, sum_by_push}
-use Rattle.trick_rules.specs.Nodes.{Layouts, choices, child}
+use Rattle.trick_rules.specs.Nodes.{NodeValue, choices, child}
 use Rattle.strategy_games.specs.Plans.{tree_size}
 use Rattle.strategy_games.proofs.Lists.{Contains-here, Contains-append_second}
 use Rattle.strategy_tree.specs.Bridge.{bridge}
@@ -11,15 +11,15 @@ use Rattle.alphamu_core.specs.declared.answers.SearchFault.TheVariants.{Spent, M
 use Rattle.alphamu_core.specs.Costs.{Costs}
 
 -- the size of the tree below a card
-abbrev pub size_after : Layouts → ℕ → ℕ → ℕ
+abbrev pub size_after : NodeValue → ℕ → ℕ → ℕ
 size_after n moves card = tree_size bridge (child n card) moves
 
 -- the cards gone through, each with so many moves after it, and the nodes paid for
-pub record HasTried (n : Layouts) (moves : ℕ) (tried rest : List ℕ) (before after : ℕ) : Type 0 where
+pub record HasTried (n : NodeValue) (moves : ℕ) (tried rest : List ℕ) (before after : ℕ) : Type 0 where
   pub split : choices n ≡ tried ++ rest
   pub paid : after + sum_by (size_after n moves) tried ≡ before
 
-module _ (n : Layouts) (moves : ℕ) where
+module _ (n : NodeValue) (moves : ℕ) where
   pub tried_none : (cards : List ℕ) (before : ℕ) → cards ≡ choices n → HasTried n moves [] cards before before
   tried_none cards before e = record { split = sym e; paid = omega arith }
 
@@ -53,7 +53,7 @@ passed_on whole before after (Ok found) fault is costs = absurd is
 passed_on {T} whole before after (Err e) fault is costs = subst (λ e. Costs {T = T} whole before after (Err e)) (sym is) costs
 
 -- What a search of the node costs, once the node itself was paid for
-module _ (n : Layouts) (moves below : ℕ) (size : tree_size bridge n moves ≡ 1 + sum_by (size_after n below) (choices n)) where
+module _ (n : NodeValue) (moves below : ℕ) (size : tree_size bridge n moves ≡ 1 + sum_by (size_after n below) (choices n)) where
   module _ {tried cards : List ℕ} {before mid : ℕ} (t : HasTried n below tried cards before mid) where
     memory : {T : Type 0} → Costs {T = T} (tree_size bridge n moves) (before + 1) mid (Err Memory)
     memory =
@@ -79,7 +79,7 @@ module _ (n : Layouts) (moves below : ℕ) (size : tree_size bridge n moves ≡ 
           falls = omega (arith, size);
         }
 
-    module _ {card : ℕ} {rest : List ℕ} {m : Layouts} {after : ℕ} (taken : cards ≡ card ∷ rest) (is_child : m ≡ child n card) where
+    module _ {card : ℕ} {rest : List ℕ} {m : NodeValue} {after : ℕ} (taken : cards ≡ card ∷ rest) (is_child : m ≡ child n card) where
       -- where a search below a card ends with no answer,
       pub costs_below : {T U : Type 0} (result : Result T SearchFault) (fault : SearchFault) → Costs {T = U} (tree_size bridge m below) mid after (Err fault) → IsErrAnd result (λ e. e ≡ fault)
           → Costs (tree_size bridge n moves) (before + 1) after result

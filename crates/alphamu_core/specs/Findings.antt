@@ -1,7 +1,7 @@
 -- What a search finds.
 use Rattle.std.specs.Prelude.{⊤, ℕ, List}
 use Rattle.win_vectors.specs.Fronts.{Vector}
-use Rattle.trick_rules.specs.Nodes.{Layouts}
+use Rattle.trick_rules.specs.Nodes.{NodeValue}
 use Rattle.strategy_games.specs.Plans.{IsBelow}
 use Rattle.strategy_tree.specs.Bridge.{bridge}
 use Rattle.front_table.specs.Proven.{IsFrontAt}
@@ -9,7 +9,7 @@ use Rattle.alphamu_core.specs.declared.answers.Found.{Found}
 use Rattle.alphamu_core.specs.declared.answers.Found.TheVariants.{Exact, Below}
 
 -- an exact answer is the front of the node with these moves; an answer below says that alpha dominates what every strategy wins
-abbrev pub IsFound : Layouts → ℕ → List Vector → Found → Type 0
+abbrev pub IsFound : NodeValue → ℕ → List Vector → Found → Type 0
 IsFound n moves alpha (Exact front) = IsFrontAt n moves front
 IsFound n moves alpha Below = IsBelow bridge n moves alpha
 

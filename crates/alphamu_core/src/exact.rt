@@ -3,6 +3,7 @@ ghost use Rattle.std.specs.Prelude.{◌≡◌, ◌<◌, ◌≤◌, true, IfOk, I
 ghost use Rattle.strategy_games.specs.Plans.{tree_size};
 ghost use Rattle.strategy_tree.specs.Bridge.{bridge};
 ghost use Rattle.front_table.specs.Proven.{IsFrontAt};
+ghost use Rattle.trick_rules.specs.Nodes.{most_moves};
 
 use crate::answers::{Found, SearchFault};
 use crate::budget::Budget;
@@ -14,7 +15,8 @@ use pareto_fronts::Front;
 use std::alloc::Global;
 use trick_rules::Node;
 
-/// The front of a node with so many moves of declarer's side, at most 26: searched to its end, within so many nodes.
+/// The front of a node with so many moves of declarer's side, at most 26: searched to its end,
+/// within so many nodes.
 pub fn exact_front<S: FrontStore>(
     alloc: Global,
     store: &mut S,
@@ -23,7 +25,7 @@ pub fn exact_front<S: FrontStore>(
     moves: u8,
     nodes: u64,
 ) -> Result<Front, SearchFault>
-    requires { moves ≤ 26 }
+    requires { moves ≤ most_moves }
     ensures front { IfOk result (IsFrontAt node.now moves) }
     ensures fits { S.blind ≡ true → IfOk result (λ _. tree_size bridge node.now moves ≤ nodes) }
     ensures spent { IsErrOf result SearchFault.Spent → nodes < tree_size bridge node.now moves }

@@ -4,6 +4,7 @@ ghost use Rattle.strategy_games.specs.Plans.{tree_size};
 ghost use Rattle.strategy_tree.specs.Bridge.{bridge};
 ghost use Rattle.cut_rules.specs.Rules.{no_cuts};
 ghost use Rattle.alphamu_core.specs.Findings.{IsFound, IsExact};
+ghost use Rattle.trick_rules.specs.Nodes.{most_moves};
 
 use crate::answers::{Found, SearchFault};
 use crate::budget::Budget;
@@ -17,8 +18,9 @@ use trick_rules::Node;
 
 /// Searches a node with so many moves of declarer's side, at most 26.
 ///
-/// A list of vectors, alpha, may spare work: a node may be left where alpha dominates what every strategy wins there.
-/// The store may hold fronts already, and may be given some. The budget pays for each node that is entered.
+/// A list of vectors, alpha, may spare work: a node may be left where alpha dominates what every
+/// strategy wins there. The store may hold fronts already, and may be given some. The budget pays
+/// for each node that is entered.
 pub fn search<S: FrontStore>(
     alloc: Global,
     store: &mut S,
@@ -30,12 +32,13 @@ pub fn search<S: FrontStore>(
     rules: CutRules,
 ) -> Result<Found, SearchFault>
     requires width { alpha.now.width ≡ length node.now.lefts }
-    requires few_moves { moves ≤ 26 }
+    requires few_moves { moves ≤ most_moves }
     ensures found { IfOk result (IsFound node.now moves alpha.now.vectors) }
     ensures never { (alpha.now.vectors ≡ []) ⊎ (rules ≡ no_cuts) → IfOk result IsExact }
 
     // Each node entered costs one.
-    ensures spent { IsErrOf result SearchFault.Spent → budget.old < tree_size bridge node.now moves }
+    ensures spent { IsErrOf result SearchFault.Spent
+        → budget.old < tree_size bridge node.now moves }
     ensures counts { rules ≡ no_cuts → S.blind ≡ true
         → IfOk result (λ _. budget.new + tree_size bridge node.now moves ≡ budget.old) }
     ensures entered { IfOk result (λ _. budget.new < budget.old) }

@@ -38,7 +38,8 @@ pub fn node_front(
     }
 }
 
-// The best of the fronts after each card of declarer's side, each with a move less. The node itself is paid for.
+// The best of the fronts after each card of declarer's side, each with a move less. The node itself
+// is paid for.
 #[cycle(front)]
 fn declarers_front(
     alloc: Global,

@@ -1,13 +1,13 @@
 -- A job in which no root card's tree is too large isn't spent.
 use Rattle.std.proofs.Common.{ℕ, arith}
 use Rattle.strategy_games.proofs.Lists.{first_is_member}
-use Rattle.trick_rules.specs.Nodes.{Layouts as LayoutsNode, choices}
+use Rattle.trick_rules.specs.Nodes.{NodeValue, choices}
 use Rattle.root_workers.specs.Roots.{IsTooLarge, IsSpentAt, AllFit}
 use Rattle.am_answer.specs.Answers.{TaskValue, Report, NamedCard, Sample, Good, AllLayouts, Problem}
 use Rattle.am_answer.specs.Endings.{IsSpentOn, IsWithinNodes}
 use Rattle.am_answer.specs.Reports.{made_moves}
 
-fits-not_spent : (node : LayoutsNode) (moves nodes card : ℕ) → AllFit node moves nodes → IsSpentAt node moves nodes card → ⊥
+fits-not_spent : (node : NodeValue) (moves nodes card : ℕ) → AllFit node moves nodes → IsSpentAt node moves nodes card → ⊥
 fits-not_spent node moves nodes card fits spent =
     let member = first_is_member (IsTooLarge node moves nodes) (choices node) card spent in
     omega (arith, fits card member, spent.3)

@@ -9,15 +9,15 @@ use Rattle.pbn_deal.specs.declared.fault.BoardRefusal.{BoardRefusal}
 use Rattle.pbn_deal.specs.Boards.{BoardValue}
 use Rattle.pbn_deal.specs.BoardRead.{board_read}
 use Rattle.layout_list.specs.declared.fault.LayoutFault.{LayoutFault}
-use Rattle.layout_list.specs.declared.line.Defenders.{Defenders}
+use Rattle.layout_list.specs.declared.line.Layout.{Layout}
 use Rattle.layout_list.specs.Kept.{KeptValue}
 use Rattle.layout_list.specs.Layouts.{layouts_read}
 use Rattle.layout_maker.specs.declared.fault.MakeFault.{MakeFault}
 use Rattle.layout_maker.specs.Divisions.{layouts_made}
 use Rattle.layout_maker.specs.MadeProblem.{made_deal, made_layouts}
-use Rattle.trick_rules.specs.Table.{to_play}
+use Rattle.trick_rules.specs.Positions.{to_play}
 use Rattle.trick_rules.specs.Play.{is_declarers, is_over}
-use Rattle.trick_rules.specs.Nodes.{Layouts as LayoutsNode}
+use Rattle.trick_rules.specs.Nodes.{NodeValue}
 use Rattle.am_answer.specs.declared.inputs.Inputs.{Inputs}
 use Rattle.am_answer.specs.declared.inputs.Inputs.TheVariants as inputs
 use Rattle.am_answer.specs.declared.inputs.Work.{Work}
@@ -57,8 +57,8 @@ unfoldable pub kept_in : List ℕ → BoardValue → Result KeptValue Status
 kept_in bytes board = kept_or (layouts_read bytes board)
 
 -- whether the play goes on and declarer's side is to play
-abbrev pub has_choice : LayoutsNode → Bool
-has_choice node = not (is_over node.table) && is_declarers (to_play node.table)
+abbrev pub has_choice : NodeValue → Bool
+has_choice node = not (is_over node.position) && is_declarers (to_play node.position)
 
 abbrev pub with_turn : Root → Result Root Status
 with_turn root = if has_choice root.kept.node then Ok root else Err NoTurn
@@ -83,7 +83,7 @@ pub data TaskValue : Type 0 where
   -- a report with so many plans, all of which are good
   Good : ℕ → TaskValue
   -- all layouts of a board
-  AllLayouts : BoardValue → List Defenders → TaskValue
+  AllLayouts : BoardValue → List Layout → TaskValue
   -- the root of the problem made from a number, and a search
   Problem : ℕ → Root → Search → TaskValue
 
@@ -96,7 +96,7 @@ task_at root (works.Check report) = do
   plans ← plans_in root report
   Ok (Good plans)
 
-abbrev pub listed_or : BoardValue → Result (List Defenders) MakeFault → Result TaskValue Status
+abbrev pub listed_or : BoardValue → Result (List Layout) MakeFault → Result TaskValue Status
 listed_or board (Ok layouts) = Ok (AllLayouts board layouts)
 listed_or board (Err fault) = Err (make_status fault)
 

@@ -29,7 +29,7 @@ unfoldable pub file_read : Files → FileWord → List ℕ → Result (List ℕ)
 file_read files file name = within_limit file (get files name)
 
 -- a job on layouts, with the bytes of the report that it judges
-unfoldable pub work_read : Files → asks.JobValue → Result Work Status
+unfoldable pub work_read : Files → asks.LayoutsJobValue → Result Work Status
 work_read files (asks.Solve moves search) = Ok (works.Solve moves search)
 work_read files (asks.Card moves search) = Ok (works.Card moves search)
 work_read files asks.Fusion = Ok works.Fusion
@@ -58,15 +58,15 @@ inputs_read words files = do
 -- ---- the names of files
 
 -- the report that a job names
-abbrev pub report_of : asks.JobValue → Option (List ℕ)
-report_of (asks.Check name) = Some name
-report_of _ = None
+abbrev pub report_named : asks.LayoutsJobValue → Option (List ℕ)
+report_named (asks.Check name) = Some name
+report_named _ = None
 
 -- the name that the words give a file
 abbrev pub name_of : asks.AskValue → FileWord → Option (List ℕ)
 name_of (asks.OnLayouts deal layouts job) Deal = Some deal
 name_of (asks.OnLayouts deal layouts job) Layouts = Some layouts
-name_of (asks.OnLayouts deal layouts job) Report = report_of job
+name_of (asks.OnLayouts deal layouts job) Report = report_named job
 name_of (asks.ListOf deal) Deal = Some deal
 name_of _ _ = None
 

@@ -1,14 +1,14 @@
 -- A report that is judged: its head, then each plan with its vector.
 use Rattle.std.specs.Prelude.{ℕ, ◌+◌, ◌==◌, List, [], ◌∷◌, length, Option, None, Some, Result, Ok, Err, bytes_eq, if◌then◌else◌}
 use Rattle.win_vectors.specs.Fronts.{Vector}
-use Rattle.trick_rules.specs.Nodes.{Layouts}
+use Rattle.trick_rules.specs.Nodes.{NodeValue}
 use Rattle.strategy_games.specs.Plans.{wins_vector}
 use Rattle.strategy_games.specs.Misfits.{first_misfit}
 use Rattle.strategy_tree.specs.Bridge.{bridge}
 use Rattle.am_report.specs.declared.fault.ReportKind.{ReportKind}
 use Rattle.am_report.specs.Answers.{EntryValue}
 use Rattle.am_report.specs.Head.{head_text}
-use Rattle.am_report.specs.Reading.{ReportValue, report_read}
+use Rattle.am_report.specs.Reading.{ReadReportValue, report_read}
 use Rattle.am_answer.specs.declared.root.Root.{Root}
 use Rattle.am_answer.specs.declared.status.Place.{Place}
 use Rattle.am_answer.specs.declared.status.Place.TheVariants.{Head, Width, Node, Layout}
@@ -30,37 +30,37 @@ plan_fault (Some node) won vector = Some (Node node)
 plan_fault None won vector = first_difference 1 won vector
 
 -- a vector that isn't as wide as there are kept layouts, or a fault of its plan
-unfoldable pub entry_fault : Layouts → ℕ → EntryValue → Option Place
+unfoldable pub entry_fault : NodeValue → ℕ → EntryValue → Option Place
 entry_fault node moves entry =
     if length entry.vector == length node.lefts
     then plan_fault (first_misfit bridge ◌==◌ entry.plan node moves) (wins_vector bridge entry.plan node) entry.vector
     else Some Width
 
 -- what is found at this plan, or else at the later ones
-abbrev pub or_later : ℕ → Option Place → Option (ℕ × Place) → Option (ℕ × Place)
-or_later number None later = later
-or_later number (Some place) later = Some (number, place)
+abbrev pub or_later_plan : ℕ → Option Place → Option (ℕ × Place) → Option (ℕ × Place)
+or_later_plan number None later = later
+or_later_plan number (Some place) later = Some (number, place)
 
 -- the first plan at fault, counted from this number, and where
-abbrev pub first_fault : Layouts → ℕ → ℕ → List EntryValue → Option (ℕ × Place)
-first_fault node moves number [] = None
-first_fault node moves number (entry ∷ entries) =
-    or_later number (entry_fault node moves entry) (first_fault node moves (number + 1) entries)
+abbrev pub first_plan_fault : NodeValue → ℕ → ℕ → List EntryValue → Option (ℕ × Place)
+first_plan_fault node moves number [] = None
+first_plan_fault node moves number (entry ∷ entries) =
+    or_later_plan number (entry_fault node moves entry) (first_plan_fault node moves (number + 1) entries)
 
 -- so many plans, where none is at fault
-abbrev pub unless_fault : ℕ → Option (ℕ × Place) → Result ℕ Status
-unless_fault plans None = Ok plans
-unless_fault plans (Some found) = Err (Refuted found.0 found.1)
+abbrev pub unless_plan_fault : ℕ → Option (ℕ × Place) → Result ℕ Status
+unless_plan_fault plans None = Ok plans
+unless_plan_fault plans (Some found) = Err (Refuted found.0 found.1)
 
 -- the number of plans of a report on these layouts, where its head is that of the files and each plan wins its vector
-unfoldable pub judged : Root → ReportValue → Result ℕ Status
+unfoldable pub judged : Root → ReadReportValue → Result ℕ Status
 judged root report =
     if bytes_eq report.head (head_text root.board root.kept report.moves)
-    then unless_fault (length report.entries) (first_fault root.kept.node report.moves 1 report.entries)
+    then unless_plan_fault (length report.entries) (first_plan_fault root.kept.node report.moves 1 report.entries)
     else Err (Refuted 0 Head)
 
 -- a report that was read, or the status of its fault
-abbrev pub report_or : Result ReportValue (ℕ × ReportKind) → Result ReportValue Status
+abbrev pub report_or : Result ReadReportValue (ℕ × ReportKind) → Result ReadReportValue Status
 report_or (Ok report) = Ok report
 report_or (Err fault) = Err (BadReport fault.0 fault.1)
 

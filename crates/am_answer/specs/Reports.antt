@@ -3,9 +3,9 @@ use Rattle.std.specs.Prelude.{◌≡◌, ℕ, Bool, List, map, length, All}
 use Rattle.strategy_games.specs.Plans.{IsFront}
 use Rattle.strategy_games.specs.Choosing.{IsChosenPlan, IsBestCount, IsNamedCard}
 use Rattle.strategy_tree.specs.Bridge.{bridge}
-use Rattle.trick_rules.specs.Nodes.{Layouts}
+use Rattle.trick_rules.specs.Nodes.{NodeValue}
 use Rattle.fusion_base.specs.Sampling.{card_vectors}
-use Rattle.am_report.specs.Answers.{AnswerValue}
+use Rattle.am_report.specs.Answers.{SolveAnswerValue}
 use Rattle.am_report.specs.Card.{card_text}
 use Rattle.am_report.specs.Check.{check_text}
 use Rattle.am_report.specs.Fusion.{fusion_text}
@@ -16,7 +16,7 @@ use Rattle.am_answer.specs.declared.root.Root.{Root}
 use Rattle.am_answer.specs.Answers.{TaskValue, Report, NamedCard, Sample, Good, AllLayouts, Problem}
 
 -- the vectors of the front in order, each with the plan that is chosen for it; the named card; and the best count
-pub record IsSolveAnswer (n : Layouts) (moves : ℕ) (found : AnswerValue) : Type 0 where
+pub record IsSolveAnswer (n : NodeValue) (moves : ℕ) (found : SolveAnswerValue) : Type 0 where
   pub vectors : IsFront bridge n moves (map (λ e. e.vector) found.entries)
   pub plans : All (λ e. IsChosenPlan bridge e.plan n moves e.vector) found.entries
   pub card : IsNamedCard bridge n moves found.card
@@ -24,7 +24,7 @@ pub record IsSolveAnswer (n : Layouts) (moves : ℕ) (found : AnswerValue) : Typ
 
 -- the report of a root: no number of workers, size of a table or rule of cuts stands in it
 abbrev pub IsSolveText : Root → ℕ → List ℕ → Type 0
-IsSolveText root moves text = (found : AnswerValue) × IsSolveAnswer root.kept.node moves found
+IsSolveText root moves text = (found : SolveAnswerValue) × IsSolveAnswer root.kept.node moves found
     × (text ≡ solve_text root.board root.kept moves found)
 
 -- the card to play, its count, and the number of kept layouts

@@ -5,7 +5,7 @@ ghost use Rattle.am_outside.specs.Faults.{Rose};
 ghost use Rattle.job_words.specs.Asks.{ask_of, job_of, texts_of, IsWithinLimits, IsJobWithinLimits};
 ghost use Rattle.job_words.specs.Words.{words_read};
 ghost use Rattle.am_answer.specs.Files.{file_read, inputs_read, limit_of, name_of, named_read};
-ghost use Rattle.am_answer.specs.Files.{report_of, work_read, AreWithin, IsWithin};
+ghost use Rattle.am_answer.specs.Files.{report_named, work_read, AreWithin, IsWithin};
 ghost use Rattle.am_answer.specs.Refusals.{IsUnread};
 ghost use Rattle.am_answer.specs.Stages.{IsOfFiles, IsOfReading, IsReadRefusal};
 
@@ -64,7 +64,7 @@ fn read_work<S: Shelf>(alloc: Global, shelf: &mut S, job: LayoutsJob<'_>) -> Res
     ensures only { IfErr result IsOfFiles }
     ensures unread { (file : FileWord) → IsErrOf result (Status.Unread file)
         → (file ≡ FileWord.Report)
-        × IsSomeAnd (report_of (job_of job.entry)) (λ name.
+        × IsSomeAnd (report_named (job_of job.entry)) (λ name.
         Rose (S.faults shelf.old name) (S.faults shelf.new name)) }
     ensures never_falls { (other : List ℕ) → S.faults shelf.old other ≤ S.faults shelf.new other }
     ensures same_files { S.told shelf.new ≡ S.told shelf.old }

@@ -6,7 +6,7 @@ use Rattle.am_outside.specs.Sink.{AppendsPart}
 use Rattle.am_outside.specs.declared.sink.SinkFailed.{SinkFailed}
 use Rattle.std.specs.List.{concat}
 use Rattle.std.specs.Fmt.{decimal}
-use Rattle.card_letters.specs.Letters.{card_text}
+use Rattle.card_letters.specs.Letters.{letters_of}
 use Rattle.layout_list.specs.declared.fault.LayoutFault as layouts
 use Rattle.layout_maker.specs.declared.fault.MakeFault as make
 use Rattle.am_answer.specs.declared.status.Place as place
@@ -15,8 +15,8 @@ use Rattle.am_answer.specs.declared.status.Status.TheVariants.{Done, Refuted, Ba
 use Rattle.am_line.specs.Names.{file_name, deal_name, kind_name, report_name}
 
 -- pieces of a line, one after another
-abbrev pub joined : List (List ℕ) → List ℕ
-joined pieces = concat pieces
+abbrev pub joined_pieces : List (List ℕ) → List ℕ
+joined_pieces pieces = concat pieces
 
 -- the layout file and why it is refused
 abbrev pub layouts_line : layouts.LayoutFault → List (List ℕ)
@@ -28,7 +28,7 @@ layouts_line layouts.TheVariants.Memory = codes "alphamu: out of memory\n" ∷ [
 
 -- the root card whose tree is too large
 abbrev pub spent_line : ℕ → List (List ℕ)
-spent_line card = codes "alphamu: nodes spent at " ∷ card_text card ∷ codes "\n" ∷ []
+spent_line card = codes "alphamu: nodes spent at " ∷ letters_of card ∷ codes "\n" ∷ []
 
 -- the plan of a report that is at fault, by its number, and where
 abbrev pub refuted_line : ℕ → place.Place → List (List ℕ)
@@ -61,8 +61,8 @@ pieces_of (BadReport line kind) = codes "alphamu: report line " ∷ decimal line
 pieces_of (BadMake fault) = make_line fault
 
 -- the line of a status
-unfoldable pub line_of : Status → List ℕ
-line_of status = joined (pieces_of status)
+unfoldable pub status_line : Status → List ℕ
+status_line status = joined_pieces (pieces_of status)
 
 -- the whole text came after what was told before; or, where a write failed, a proper prefix of it
 abbrev pub IsWritten : Option (List ℕ) → List ℕ → Option (List ℕ) → Result (Unit {0}) SinkFailed → Type 0

@@ -1,13 +1,13 @@
 //! The line to standard error that says why a run was refused. It takes no memory.
 ghost use Rattle.std.specs.Prelude.{◌≡◌, ◌≤◌, map, codes, if◌then◌else◌, OnErr};
 ghost use Rattle.am_outside.specs.Faults.{Rose};
-ghost use Rattle.am_line.specs.Lines.{joined, layouts_line, make_line, refuted_line, spent_line};
-ghost use Rattle.am_line.specs.Lines.{line_of, IsSaid, IsWritten};
+ghost use Rattle.am_line.specs.Lines.{joined_pieces, layouts_line, make_line, refuted_line, spent_line};
+ghost use Rattle.am_line.specs.Lines.{status_line, IsSaid, IsWritten};
 
 use crate::names::{deal_name, file_name, kind_name, report_name};
 use am_answer::{Place, Status};
 use am_outside::{Sink, SinkFailed, write_whole};
-use card_letters::card_text;
+use card_letters::letters_of;
 use card_sets::Card;
 use itoa::Buffer;
 use layout_list::LayoutFault;
@@ -15,7 +15,7 @@ use layout_maker::MakeFault;
 
 // Writes pieces one after another, up to the first fault.
 fn write_pieces<O: Sink>(out: &mut O, pieces: &[&[u8]]) -> Result<(), SinkFailed>
-    ensures written { IsWritten (O.told out.old) (joined (map (λ p. p.now) pieces.now))
+    ensures written { IsWritten (O.told out.old) (joined_pieces (map (λ p. p.now) pieces.now))
         (O.told out.new) result }
     ensures failed { OnErr result (Rose (O.faults out.old) (O.faults out.new)) }
     ensures never_falls { O.faults out.old ≤ O.faults out.new }
@@ -28,7 +28,7 @@ fn write_pieces<O: Sink>(out: &mut O, pieces: &[&[u8]]) -> Result<(), SinkFailed
 
 // Writes the line for a layout file that isn't taken.
 fn write_layouts<O: Sink>(out: &mut O, fault: LayoutFault) -> Result<(), SinkFailed>
-    ensures written { IsWritten (O.told out.old) (joined (layouts_line fault))
+    ensures written { IsWritten (O.told out.old) (joined_pieces (layouts_line fault))
         (O.told out.new) result }
     ensures failed { OnErr result (Rose (O.faults out.old) (O.faults out.new)) }
 {
@@ -67,7 +67,7 @@ fn write_layouts<O: Sink>(out: &mut O, fault: LayoutFault) -> Result<(), SinkFai
 
 // Writes the line for a plan of a report that is at fault.
 fn write_refuted<O: Sink>(out: &mut O, plan: u32, place: Place) -> Result<(), SinkFailed>
-    ensures written { IsWritten (O.told out.old) (joined (refuted_line plan place))
+    ensures written { IsWritten (O.told out.old) (joined_pieces (refuted_line plan place))
         (O.told out.new) result }
     ensures failed { OnErr result (Rose (O.faults out.old) (O.faults out.new)) }
 {
@@ -109,7 +109,7 @@ fn bit_end(bit: bool) -> &'static [u8]
 
 // Writes the line for a board whose layouts aren't listed.
 fn write_make<O: Sink>(out: &mut O, fault: MakeFault) -> Result<(), SinkFailed>
-    ensures written { IsWritten (O.told out.old) (joined (make_line fault))
+    ensures written { IsWritten (O.told out.old) (joined_pieces (make_line fault))
         (O.told out.new) result }
     ensures failed { OnErr result (Rose (O.faults out.old) (O.faults out.new)) }
 {
@@ -130,9 +130,9 @@ fn write_make<O: Sink>(out: &mut O, fault: MakeFault) -> Result<(), SinkFailed>
 }
 
 // Writes the line of a status.
-#[tactic(auto, unfolding(crate::specs::Lines::line_of))]
+#[tactic(auto, unfolding(crate::specs::Lines::status_line))]
 fn write_line<O: Sink>(out: &mut O, status: &Status) -> Result<(), SinkFailed>
-    ensures written { IsWritten (O.told out.old) (line_of status.now) (O.told out.new) result }
+    ensures written { IsWritten (O.told out.old) (status_line status.now) (O.told out.new) result }
     ensures failed { OnErr result (Rose (O.faults out.old) (O.faults out.new)) }
 {
     let mut number = Buffer::new();
@@ -177,11 +177,11 @@ fn write_line<O: Sink>(out: &mut O, status: &Status) -> Result<(), SinkFailed>
 
 // Writes the line for a root card whose tree is too large.
 fn write_spent<O: Sink>(out: &mut O, card: Card) -> Result<(), SinkFailed>
-    ensures written { IsWritten (O.told out.old) (joined (spent_line card))
+    ensures written { IsWritten (O.told out.old) (joined_pieces (spent_line card))
         (O.told out.new) result }
     ensures failed { OnErr result (Rose (O.faults out.old) (O.faults out.new)) }
 {
-    let letters = card_text(card);
+    let letters = letters_of(card);
     write_pieces(out, &[b"alphamu: nodes spent at ", &letters, b"\n"])
 }
 
@@ -189,7 +189,7 @@ fn write_spent<O: Sink>(out: &mut O, card: Card) -> Result<(), SinkFailed>
 /// it where writing fails.
 pub fn refuse<E: Sink>(status: Status, err: &mut E) -> Status
     ensures same { result ≡ status }
-    ensures said { IsSaid (line_of status) (E.told err.old) (E.told err.new) (E.faults err.old)
+    ensures said { IsSaid (status_line status) (E.told err.old) (E.told err.new) (E.faults err.old)
         (E.faults err.new) }
 {
     let _ = write_line(err, &status);

@@ -7,10 +7,10 @@ use Rattle.std.specs.Str.{bytes_eq}
 use Rattle.std.specs.FinMap.{get, insert, from_entries}
 use Rattle.am_outside.specs.declared.memory_shelf.StoredFile.{StoredFile}
 use Rattle.am_outside.specs.Faults.{one_more}
-use Rattle.am_outside.specs.MemoryShelf.{ShelfState, faults_at, with_file, with_fault}
+use Rattle.am_outside.specs.MemoryShelf.{MemoryShelfValue, faults_at, with_file, with_fault}
 use Rattle.am_outside.proofs.Places.{get-mapped, get-mapped_none, mapped-set, mapped-push, insert-present}
 
-abbrev pub seen : List StoredFile → ℕ → ℕ → List ℕ → ShelfState
+abbrev pub seen : List StoredFile → ℕ → ℕ → List ℕ → MemoryShelfValue
 seen files shared calls fail_list = record {
   files = from_entries (map (λ f. (f.name, f.bytes)) files);
   own_faults = from_entries (map (λ f. (f.name, f.faults)) files);

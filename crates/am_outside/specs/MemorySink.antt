@@ -3,7 +3,7 @@ use Rattle.std.specs.Prelude.{ℕ, ◌-◌, Bool, ◌&&◌, ◌||◌, ◌==◌, 
 use Rattle.am_outside.specs.Faults.{one_more}
 
 -- what a sink in memory holds
-pub record SinkState : Type 0 where
+pub record MemorySinkValue : Type 0 where
   -- what was written
   pub bytes : List ℕ
   -- how many bytes fit in all
@@ -16,19 +16,19 @@ pub record SinkState : Type 0 where
   pub faults : ℕ
 
 -- whether the next write is the one that fails
-abbrev pub fails_next : SinkState → Bool
-fails_next sink = one_more sink.calls == sink.fail_at
+abbrev pub next_write_fails : MemorySinkValue → Bool
+next_write_fails sink = one_more sink.calls == sink.fail_at
 
 -- the part of a piece that the next write takes: none where it fails, and else what fits
-abbrev pub part_taken : SinkState → List ℕ → List ℕ
-part_taken sink piece = if fails_next sink then [] else take (sink.room - length sink.bytes) piece
+abbrev pub part_taken : MemorySinkValue → List ℕ → List ℕ
+part_taken sink piece = if next_write_fails sink then [] else take (sink.room - length sink.bytes) piece
 
 -- whether the next write counts a fault: it fails, or the piece has bytes and none of them fits
-abbrev pub counts_fault : SinkState → List ℕ → Bool
-counts_fault sink piece = fails_next sink || (nat_lt 0 (length piece) && (sink.room - length sink.bytes == 0))
+abbrev pub counts_fault : MemorySinkValue → List ℕ → Bool
+counts_fault sink piece = next_write_fails sink || (nat_lt 0 (length piece) && (sink.room - length sink.bytes == 0))
 
 -- the sink after a write of this piece
-abbrev pub after_write : SinkState → List ℕ → SinkState
+abbrev pub after_write : MemorySinkValue → List ℕ → MemorySinkValue
 after_write sink piece = record sink {
   bytes = sink.bytes ++ part_taken sink piece;
   calls = one_more sink.calls;

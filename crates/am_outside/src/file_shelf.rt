@@ -57,12 +57,13 @@ impl<R: Files> Shelf for FileShelf<'_, R> {
     }
 }
 
-// Reads to the end, unless there are more bytes than the limit: at most one byte past it, at least one a turn.
-// `Failed` is an error of the reader.
+// Reads to the end, unless there are more bytes than the limit: at most one byte past it, at least
+// one a turn. `Failed` is an error of the reader.
 fn read_all<R: Read>(alloc: Global, reader: &mut R, limit: u64) -> Result<Text, ShelfFault>
     ensures within { IfOk result (λ text. length text ≤ limit) }
     ensures whole { IfSome (R.remaining reader.old) (λ bytes. IfOk result (λ text. text ≡ bytes)) }
-    ensures too_long { IfSome (R.remaining reader.old) (λ bytes. IsErrOf result ShelfFault.TooLong → limit < length bytes) }
+    ensures too_long { IfSome (R.remaining reader.old)
+        (λ bytes. IsErrOf result ShelfFault.TooLong → limit < length bytes) }
     ensures few { IfSome (R.remaining reader.old) (λ bytes. IfSome (R.remaining reader.new) (λ rest.
         length bytes ≤ length rest + limit + 1)) }
 {

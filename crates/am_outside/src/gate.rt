@@ -1,8 +1,8 @@
 // Who is told where the workers are.
 use card_sets::Card;
 
-/// Is told when a worker takes up a root card and when it is done with it. Several threads call it at once.
-/// It has no meaning: no answer depends on what it does. It may hold a worker up.
+/// Is told when a worker takes up a root card and when it is done with it. Several threads call it
+/// at once. It has no meaning: no answer depends on what it does. It may hold a worker up.
 pub trait Gate: Sync {
     /// The worker of that number takes up a card.
     fn enter(&self, worker: u32, card: Card);

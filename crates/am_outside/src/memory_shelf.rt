@@ -4,7 +4,7 @@ ghost use Rattle.std.specs.FinMap.{get};
 ghost use Rattle.std.specs.Option.{option_copied};
 ghost use Rattle.std.specs.Str.{bytes_eq};
 ghost use Rattle.am_outside.specs.Shelf.{IsLonger};
-ghost use Rattle.am_outside.specs.MemoryShelf.{new_shelf, faults_at, with_file, is_listed, fails_next, with_call, with_fault, after_read};
+ghost use Rattle.am_outside.specs.MemoryShelf.{new_shelf, faults_at, with_file, is_listed, next_read_fails, with_call, with_fault, after_read};
 
 use crate::counts::count_one;
 use crate::{Shelf, ShelfFault, Text};
@@ -31,9 +31,9 @@ pub struct MemoryShelf {
 impl Model for MemoryShelf {
     ghost use Rattle.std.specs.Prelude.{map};
     ghost use Rattle.std.specs.FinMap.{from_entries};
-    ghost use Rattle.am_outside.specs.MemoryShelf.{ShelfState, shelf_state_code};
+    ghost use Rattle.am_outside.specs.MemoryShelf.{MemoryShelfValue, shelf_state_code};
 
-    ghost Value = { ShelfState };
+    ghost Value = { MemoryShelfValue };
 
     ghost coded = { shelf_state_code };
 
@@ -60,8 +60,8 @@ impl MemoryShelf {
         }
     }
 
-    /// Puts a file under a name, in the place of one that is there. A new name starts with the faults that
-    /// the names without files share.
+    /// Puts a file under a name, in the place of one that is there. A new name starts with the
+    /// faults that the names without files share.
     pub fn add(&mut self, name: &str, bytes: &[u8]) -> Result<(), AllocError>
         ensures added { OnOk result (self.new ≡ with_file self.old name.now bytes.now) }
         ensures unchanged { OnErr result (self.new ≡ self.old) }
@@ -83,7 +83,8 @@ impl MemoryShelf {
 
     /// Makes the read of that number fail. The first read is number 1.
     pub fn fail_at(&mut self, call: u64) -> Result<(), AllocError>
-        ensures listed { OnOk result (self.new ≡ record self.old { fail_list = self.old.fail_list ++ call ∷ [] }) }
+        ensures listed { OnOk result
+            (self.new ≡ record self.old { fail_list = self.old.fail_list ++ call ∷ [] }) }
         ensures unchanged { OnErr result (self.new ≡ self.old) }
     {
         self.fail_list.push(call)?;
@@ -142,9 +143,10 @@ impl Shelf for MemoryShelf {
     ghost faults = { faults_at };
 
     fn read(&mut self, alloc: Global, name: &str, limit: u64) -> Result<Text, ShelfFault>
-        ensures failed { IsErrOf result ShelfFault.Failed ↔ IsTrue (fails_next self.old name.now) }
+        ensures failed { IsErrOf result ShelfFault.Failed
+            ↔ IsTrue (next_read_fails self.old name.now) }
         ensures too_long { IsErrOf result ShelfFault.TooLong ↔
-            (IsFalse (fails_next self.old name.now) × IsLonger self.old.files name.now limit) }
+            (IsFalse (next_read_fails self.old name.now) × IsLonger self.old.files name.now limit) }
         ensures file { IfOk result (λ text. get self.old.files name.now ≡ Some text) }
         ensures within { IfOk result (λ text. length text ≤ limit) }
         ensures after { self.new ≡ after_read self.old name.now }

@@ -1,6 +1,6 @@
 // A sink that keeps what is written in memory.
 ghost use Rattle.std.specs.Prelude.{◌≡◌, [], ◌↔◌, Some, length, IfOk, IsErr, IsTrue};
-ghost use Rattle.am_outside.specs.MemorySink.{fails_next, part_taken, after_write};
+ghost use Rattle.am_outside.specs.MemorySink.{next_write_fails, part_taken, after_write};
 
 use crate::counts::count_one;
 use crate::{Sink, SinkFailed};
@@ -19,19 +19,28 @@ pub struct MemorySink {
 
 impl Model for MemorySink {
     ghost use Rattle.std.specs.Prelude.{◌≤◌, length, vec_len, vec_capacity};
-    ghost use Rattle.am_outside.specs.MemorySink.{SinkState};
+    ghost use Rattle.am_outside.specs.MemorySink.{MemorySinkValue};
 
-    ghost Value = { SinkState };
+    ghost Value = { MemorySinkValue };
 
-    ghost view = { λ s. record { bytes = s.content.items; room = s.room; fail_at = s.fail_at; calls = s.calls; faults = s.faults } };
+    ghost view = { λ s. record {
+      bytes = s.content.items;
+      room = s.room;
+      fail_at = s.fail_at;
+      calls = s.calls;
+      faults = s.faults;
+    } };
 
     ghost invariant = { λ s. (vec_len s.content ≤ s.room) × (s.room ≤ vec_capacity s.content) };
 }
 
 impl MemorySink {
-    /// An empty sink for at most `room` bytes. The write of number `fail_at`, from 1, fails; at 0 none does.
+    /// An empty sink for at most `room` bytes. The write of number `fail_at`, from 1, fails; at 0
+    /// none does.
     pub fn new(alloc: Global, room: usize, fail_at: u64) -> Result<Self, AllocError>
-        ensures { IfOk result (λ sink. sink ≡ record { bytes = []; room = room; fail_at = fail_at; calls = 0; faults = 0 }) }
+        ensures { IfOk result
+            (λ sink. sink
+            ≡ record { bytes = []; room = room; fail_at = fail_at; calls = 0; faults = 0 }) }
     {
         Ok(MemorySink {
             content: Vec::with_capacity(alloc, room)?,
@@ -65,7 +74,7 @@ impl Sink for MemorySink {
     ghost writes = { λ sink. sink.calls };
 
     fn write(&mut self, piece: &[u8]) -> Result<usize, SinkFailed>
-        ensures failed { IsErr result ↔ IsTrue (fails_next self.old) }
+        ensures failed { IsErr result ↔ IsTrue (next_write_fails self.old) }
         ensures taken { IfOk result (λ n. n ≡ length (part_taken self.old piece.now)) }
         ensures after { self.new ≡ after_write self.old piece.now }
     {

@@ -22,14 +22,16 @@ pub trait Sink {
     /// How many writes were asked for, where the sink counts them.
     ghost writes: { Self → ℕ } = { λ _. 0 };
 
-    /// Writes the first bytes of a piece, and answers how many: 0 of a piece that has bytes only by a fault.
-    /// An error is a fault too, and wrote nothing.
+    /// Writes the first bytes of a piece, and answers how many: 0 of a piece that has bytes only by
+    /// a fault. An error is a fault too, and wrote nothing.
     fn write(&mut self, piece: &[u8]) -> Result<usize, SinkFailed>
         ensures within { IfOk result (λ n. n ≤ length piece.now) }
-        ensures appended { IfOk result (λ n. told self.new ≡ append_known (told self.old) (take n piece.now)) }
+        ensures appended { IfOk result
+            (λ n. told self.new ≡ append_known (told self.old) (take n piece.now)) }
         ensures nothing { OnErr result (told self.new ≡ told self.old) }
         ensures failed { OnErr result (Rose (faults self.old) (faults self.new)) }
-        ensures stuck { IfOk result (λ n. n ≡ 0 → 0 < length piece.now → Rose (faults self.old) (faults self.new)) }
+        ensures stuck { IfOk result
+            (λ n. n ≡ 0 → 0 < length piece.now → Rose (faults self.old) (faults self.new)) }
         ensures never_falls { faults self.old ≤ faults self.new }
         ensures one_write { writes self.new ≤ writes self.old + 1 };
 }

@@ -8,7 +8,8 @@ use crate::{Sink, SinkFailed};
 use std::io::Print;
 use std::marker::Model;
 
-/// A stream as a sink, which tells nothing: `StdSink::new(rt.stdout())` or `StdSink::new(rt.stderr())`.
+/// A stream as a sink, which tells nothing: `StdSink::new(rt.stdout())` or
+/// `StdSink::new(rt.stderr())`.
 #[derive(Drop)]
 pub struct StdSink<P: Print + Drop> {
     stream: P,
@@ -38,10 +39,12 @@ impl<P: Print + Drop> Sink for StdSink<P> {
 
     ghost faults = { λ faults. faults };
 
-    /// One write. Each error is a fault, and so is a write that takes nothing of a piece that has bytes.
+    /// One write. Each error is a fault, and so is a write that takes nothing of a piece that has
+    /// bytes.
     fn write(&mut self, piece: &[u8]) -> Result<usize, SinkFailed>
         ensures within { IfOk result (λ n. n ≤ length piece.now) }
-        ensures counted { self.new ≡ (if is_fault result piece.now then one_more self.old else self.old) }
+        ensures counted { self.new
+            ≡ (if is_fault result piece.now then one_more self.old else self.old) }
     {
         let written = self.stream.write_some(piece);
         if written.is_err() || !piece.is_empty() && matches!(written, Ok(0)) {

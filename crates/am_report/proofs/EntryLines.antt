@@ -9,7 +9,7 @@ use Rattle.std.proofs.lemmas.List.Elements.{All-head, All-tail}
 use Rattle.std.proofs.lemmas.List.Folds.{list_all_at}
 use Rattle.std.proofs.lemmas.List.FromFn.{get_or-range_with_len, length-range_with_len}
 use Rattle.win_vectors.specs.Vectors.{ones_of}
-use Rattle.card_letters.specs.Letters.{card_text, card_read}
+use Rattle.card_letters.specs.Letters.{letters_of, card_read}
 use Rattle.strategy_games.specs.Plans.{Plan}
 use Rattle.byte_text.specs.Lines.{line_of, line_at, said_at}
 use Rattle.strategy_tree.specs.PlanText.{plan_text}
@@ -156,11 +156,11 @@ abbrev card_ahead : List ℕ → Option ℕ
 card_ahead (suit ∷ rank ∷ text) = card_read suit rank
 card_ahead _ = None
 
-reads_each_card : list_all (λ card. is_number (card_ahead (card_text card)) card) (range_with_len 0 52) ≡ true
+reads_each_card : list_all (λ card. is_number (card_ahead (letters_of card)) card) (range_with_len 0 52) ≡ true
 reads_each_card = refl
 
-card_ahead-card_text : (card : ℕ) → card < 52 → card_ahead (card_text card) ≡ Some card
-card_ahead-card_text card low = number_is _ card (below_limit (λ c. is_number (card_ahead (card_text c)) c) 52 card reads_each_card low)
+card_ahead-card_text : (card : ℕ) → card < 52 → card_ahead (letters_of card) ≡ Some card
+card_ahead-card_text card low = number_is _ card (below_limit (λ c. is_number (card_ahead (letters_of c)) c) 52 card reads_each_card low)
 
 pub card_is_said : (card count : ℕ) → card < 52 → count ≤ 64 → card_said (count_text card count) ≡ Some (card, count)
 unfolding card_said count_text
@@ -169,5 +169,5 @@ card_is_said card count low few = rw (card_ahead-card_text card low, count_is_sa
 pub card_plain : (card count : ℕ) → is_plain (count_text card count) ≡ true
 unfolding count_text
 card_plain card count =
-    plain_both (codes "card ") (card_text card ++ codes " count " ++ decimal count) refl
-    (plain_both (card_text card) (codes " count " ++ decimal count) (card_text_plain card) (plain_both (codes " count ") (decimal count) refl (decimal_plain count)))
+    plain_both (codes "card ") (letters_of card ++ codes " count " ++ decimal count) refl
+    (plain_both (letters_of card) (codes " count " ++ decimal count) (card_text_plain card) (plain_both (codes " count ") (decimal count) refl (decimal_plain count)))

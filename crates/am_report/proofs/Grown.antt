@@ -5,8 +5,8 @@ use Rattle.std.proofs.lemmas.Grind.{take_at_read, flat_map-append}
 use Rattle.std.proofs.lemmas.Option.{slice_get_within, get_or_from_slice_get}
 use Rattle.std.specs.Fmt.{decimal}
 use Rattle.card_sets.specs.declared.seat.Seat.TheVariants.{Declarer, Dummy}
-use Rattle.card_letters.specs.Letters.{card_text}
-use Rattle.trick_rules.specs.Table.{Table, to_play}
+use Rattle.card_letters.specs.Letters.{letters_of}
+use Rattle.trick_rules.specs.Positions.{PositionValue, to_play}
 use Rattle.pbn_deal.specs.Boards.{BoardValue}
 use Rattle.win_vectors.specs.Vectors.{ones_of}
 use Rattle.fusion_base.specs.declared.table.CardVector.{CardVector}
@@ -15,7 +15,7 @@ use Rattle.strategy_tree.specs.PlanText.{plan_text}
 use Rattle.am_report.specs.Answers.{EntryValue}
 use Rattle.am_report.specs.Card.{count_text}
 use Rattle.am_report.specs.Fusion.{most_ones}
-use Rattle.am_report.specs.Head.{seat_text, trump_text, hand_line, trick_line, table_text}
+use Rattle.am_report.specs.Head.{seat_text, trump_text, hand_line, trick_line, position_text}
 use Rattle.am_report.specs.Solve.{bit_letter, vector_line, entry_text}
 
 -- the first elements of a list, and one more
@@ -61,7 +61,7 @@ entry_more start now lined next entries k entry inside is so_far line plan =
 
 -- ---- pieces one after another
 
-pub count_grown : (start word named counting : List ℕ) (card count number : ℕ) → word ≡ start ++ codes "card " → named ≡ word ++ card_text card → counting ≡ named ++ codes " count " → number ≡ count
+pub count_grown : (start word named counting : List ℕ) (card count number : ℕ) → word ≡ start ++ codes "card " → named ≡ word ++ letters_of card → counting ≡ named ++ codes " count " → number ≡ count
     → counting ++ decimal number ≡ start ++ count_text card count
 unfolding count_text
 count_grown start word named counting card count number word-is named-is counting-is number-is = rw (number-is, counting-is, named-is, word-is) (simp append_assoc)
@@ -70,15 +70,15 @@ seven_pieces : (start a b c d e f g : List ℕ) → ((((((start ++ a) ++ b) ++ c
 seven_pieces start a b c d e f g = simp append_assoc
 
 -- the lines of the contract, the hands, the trick and the turn
-pub table_grown : (start t1 t2 t3 t4 t5 t6 : List ℕ) (board : BoardValue) (table : Table)
+pub position_grown : (start t1 t2 t3 t4 t5 t6 : List ℕ) (board : BoardValue) (table : PositionValue)
     → t1 ≡ start ++ line_of (codes "declarer " ++ seat_text board Declarer)
     → t2 ≡ t1 ++ line_of (codes "trump " ++ trump_text table.trump)
     → t3 ≡ t2 ++ line_of (codes "need " ++ decimal table.need)
     → t4 ≡ t3 ++ hand_line board Declarer table.declarer
     → t5 ≡ t4 ++ hand_line board Dummy table.dummy
     → t6 ≡ t5 ++ trick_line board table.trick
-    → t6 ++ line_of (codes "turn " ++ seat_text board (to_play table)) ≡ start ++ table_text board table
-unfolding table_text
-table_grown start t1 t2 t3 t4 t5 t6 board table e1 e2 e3 e4 e5 e6 =
+    → t6 ++ line_of (codes "turn " ++ seat_text board (to_play table)) ≡ start ++ position_text board table
+unfolding position_text
+position_grown start t1 t2 t3 t4 t5 t6 board table e1 e2 e3 e4 e5 e6 =
     rw (e6, e5, e4, e3, e2, e1)
     (seven_pieces start (line_of (codes "declarer " ++ seat_text board Declarer)) (line_of (codes "trump " ++ trump_text table.trump)) (line_of (codes "need " ++ decimal table.need)) (hand_line board Declarer table.declarer) (hand_line board Dummy table.dummy) (trick_line board table.trick) (line_of (codes "turn " ++ seat_text board (to_play table))))

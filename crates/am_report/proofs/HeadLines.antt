@@ -10,10 +10,10 @@ use Rattle.std.proofs.lemmas.List.Splits.{slice_split_at}
 use Rattle.std.proofs.lemmas.Grind.{flat_map-append}
 use Rattle.card_sets.specs.declared.seat.Seat.{Seat}
 use Rattle.card_sets.specs.declared.seat.Seat.TheVariants.{Declarer, Dummy}
-use Rattle.card_letters.specs.Letters.{card_text}
+use Rattle.card_letters.specs.Letters.{letters_of}
 use Rattle.trick_rules.specs.declared.trump.Trump.{Trump}
 use Rattle.trick_rules.specs.declared.trump.Trump.TheVariants.{NoTrump, Suit as Suited}
-use Rattle.trick_rules.specs.Table.{Played as Trick, Table, to_play}
+use Rattle.trick_rules.specs.Positions.{TrickValue, PositionValue, to_play}
 use Rattle.pbn_deal.specs.Boards.{BoardValue, compass_of}
 use Rattle.pbn_deal.specs.Writing.{hand_text}
 use Rattle.layout_list.specs.declared.kept.Cause.{Cause}
@@ -22,12 +22,13 @@ use Rattle.layout_list.specs.declared.kept.Dropped.{Dropped}
 use Rattle.layout_list.specs.Kept.{KeptValue}
 use Rattle.byte_text.specs.Lines.{line_of, text_after, is_line_end}
 use Rattle.am_report.specs.Lines.{spaced}
-use Rattle.am_report.specs.Head.{seat_text, trump_text, hand_line, cards_text, trick_line, cause_text, dropped_line, table_text, kept_line, head_text}
+use Rattle.am_report.specs.Head.{seat_text, trump_text, hand_line, cards_text, trick_line, cause_text, dropped_line, position_text, kept_line, head_text}
 use Rattle.am_report.specs.ReportLines.{moves_said}
-use Rattle.am_report.specs.Reading.{only, is_front, front_place, moves_in}
+use Rattle.am_report.specs.Reading.{only, is_front, front_place, moves_of_head}
 use Rattle.byte_text.proofs.ReadNumbers.{number_within-decimal}
 use Rattle.byte_text.proofs.PlainLines.{is_plain, plain_byte, plain_all, plain_both, decimal_plain}
 use Rattle.am_report.proofs.PlainTexts.{suit_letter_plain, compass_letter_plain, card_text_plain, hand_text_plain, spaced_plain}
+use Rattle.trick_rules.specs.Nodes.{most_moves}
 
 -- ---- lines
 
@@ -114,21 +115,21 @@ moves_given-none : moves_given [] ≡ []
 unfolding moves_said
 moves_given-none = refl
 
-moves_are_said : (moves : ℕ) → 1 ≤ moves → moves ≤ 26 → moves_said (codes "moves " ++ decimal moves) ≡ Some moves
+moves_are_said : (moves : ℕ) → 1 ≤ moves → moves ≤ most_moves → moves_said (codes "moves " ++ decimal moves) ≡ Some moves
 unfolding moves_said
-moves_are_said moves low high = number_within-decimal 1 26 moves low high (omega arith)
+moves_are_said moves low high = number_within-decimal 1 most_moves moves low high (omega arith)
 
-moves_given-moves : (moves : ℕ) (rest : List ℕ) → 1 ≤ moves → moves ≤ 26 → moves_given (line_of (codes "moves " ++ decimal moves) ++ rest) ≡ moves ∷ moves_given rest
+moves_given-moves : (moves : ℕ) (rest : List ℕ) → 1 ≤ moves → moves ≤ most_moves → moves_given (line_of (codes "moves " ++ decimal moves) ++ rest) ≡ moves ∷ moves_given rest
 moves_given-moves moves rest low high =
     let line = codes "moves " ++ decimal moves in
     let said = moves_are_said moves low high in
     ap moves_given (line_ahead line rest) ∙ moves_given-line line rest (moves_head_line moves).plain ∙ rw said refl
 
 -- exactly one line gives the moves
-moves_in-lines : (above below : List (List ℕ)) (moves : ℕ) → AreQuiet above → AreQuiet below → 1 ≤ moves → moves ≤ 26
-    → moves_in (text_of above ++ (line_of (codes "moves " ++ decimal moves) ++ text_of below)) ≡ Some moves
-unfolding moves_in
-moves_in-lines above below moves quiet_above quiet_below low high =
+moves_of_head-lines : (above below : List (List ℕ)) (moves : ℕ) → AreQuiet above → AreQuiet below → 1 ≤ moves → moves ≤ most_moves
+    → moves_of_head (text_of above ++ (line_of (codes "moves " ++ decimal moves) ++ text_of below)) ≡ Some moves
+unfolding moves_of_head
+moves_of_head-lines above below moves quiet_above quiet_below low high =
     let line = line_of (codes "moves " ++ decimal moves) in
     let end : moves_given (text_of below) ≡ [] = ap moves_given (sym (append-nil (text_of below))) ∙ moves_given-lines below [] quiet_below ∙ moves_given-none in
     ap only (moves_given-lines above (line ++ text_of below) quiet_above ∙ moves_given-moves moves (text_of below) low high ∙ ap (λ more. moves ∷ more) end)
@@ -200,7 +201,7 @@ trump_plain NoTrump = refl
 
 cards_plain : (cards : List ℕ) → is_plain (cards_text cards) ≡ true
 cards_plain [] = refl
-cards_plain (card ∷ cards) = spaced_plain card_text card_text_plain (card ∷ cards)
+cards_plain (card ∷ cards) = spaced_plain letters_of card_text_plain (card ∷ cards)
 
 cause_plain : (cause : Cause) → is_plain (cause_text cause) ≡ true
 cause_plain NotHeld = refl
@@ -210,15 +211,15 @@ cause_plain Revoke = refl
 abbrev hand_words : BoardValue → Seat → List ℕ → List ℕ
 hand_words board seat hand = codes "hand " ++ seat_text board seat ++ codes " " ++ hand_text hand
 
-abbrev trick_words : BoardValue → Trick → List ℕ
+abbrev trick_words : BoardValue → TrickValue → List ℕ
 trick_words board trick = codes "trick " ++ seat_text board trick.leader ++ codes " " ++ cards_text trick.cards
 
 abbrev dropped_words : Dropped → List ℕ
 dropped_words layout = codes "dropped " ++ decimal layout.number ++ codes " " ++ cause_text layout.cause ++ codes " " ++ decimal layout.play
 
 -- the lines of the table that follow the version
-abbrev table_lines : BoardValue → Table → List (List ℕ)
-table_lines board table =
+abbrev position_lines : BoardValue → PositionValue → List (List ℕ)
+position_lines board table =
     (codes "declarer " ++ seat_text board Declarer)
     ∷ (codes "trump " ++ trump_text table.trump)
     ∷ (codes "need " ++ decimal table.need)
@@ -239,15 +240,15 @@ hand_quiet board seat hand = record {
   other = refl;
 }
 
-trick_quiet : (board : BoardValue) (trick : Trick) → IsQuiet (trick_words board trick)
+trick_quiet : (board : BoardValue) (trick : TrickValue) → IsQuiet (trick_words board trick)
 trick_quiet board trick = record {
   plain = plain_both (codes "trick ") (seat_text board trick.leader ++ codes " " ++ cards_text trick.cards) refl
       (plain_both (seat_text board trick.leader) (codes " " ++ cards_text trick.cards) (seat_plain board trick.leader) (plain_both (codes " ") (cards_text trick.cards) refl (cards_plain trick.cards)));
   other = refl;
 }
 
-table_quiet : (board : BoardValue) (table : Table) → AreQuiet (table_lines board table)
-table_quiet board table = (
+position_quiet : (board : BoardValue) (table : PositionValue) → AreQuiet (position_lines board table)
+position_quiet board table = (
   record { plain = plain_both (codes "declarer ") (seat_text board Declarer) refl (seat_plain board Declarer); other = refl },
   (
     record { plain = plain_both (codes "trump ") (trump_text table.trump) refl (trump_plain table.trump); other = refl },
@@ -292,32 +293,32 @@ all_pieces v a b c d e f g m k more = simp append_assoc
 
 -- the head is these lines
 pub head_text-lines : (board : BoardValue) (kept : KeptValue) (moves : ℕ)
-    → head_text board kept moves ≡ text_of (codes "alphamu report 1" ∷ table_lines board kept.node.table) ++ (line_of (codes "moves " ++ decimal moves) ++ text_of (kept_lines kept))
-unfolding head_text table_text hand_line trick_line kept_line
+    → head_text board kept moves ≡ text_of (codes "alphamu report 1" ∷ position_lines board kept.node.position) ++ (line_of (codes "moves " ++ decimal moves) ++ text_of (kept_lines kept))
+unfolding head_text position_text hand_line trick_line kept_line
 head_text-lines board kept moves =
-    let table = kept.node.table in
-    ap (λ more. line_of (codes "alphamu report 1") ++ table_text board table ++ line_of (codes "moves " ++ decimal moves) ++ line_of (codes "kept " ++ spaced decimal kept.numbers) ++ more) (dropped_lines kept.dropped)
+    let table = kept.node.position in
+    ap (λ more. line_of (codes "alphamu report 1") ++ position_text board table ++ line_of (codes "moves " ++ decimal moves) ++ line_of (codes "kept " ++ spaced decimal kept.numbers) ++ more) (dropped_lines kept.dropped)
     ∙ all_pieces (line_of (codes "alphamu report 1")) (line_of (codes "declarer " ++ seat_text board Declarer)) (line_of (codes "trump " ++ trump_text table.trump)) (line_of (codes "need " ++ decimal table.need))
     (line_of (hand_words board Declarer table.declarer)) (line_of (hand_words board Dummy table.dummy)) (line_of (trick_words board table.trick)) (line_of (codes "turn " ++ seat_text board (to_play table)))
     (line_of (codes "moves " ++ decimal moves)) (line_of (codes "kept " ++ spaced decimal kept.numbers)) (text_of (map dropped_words kept.dropped))
 
-above_quiet : (board : BoardValue) (kept : KeptValue) → AreQuiet (codes "alphamu report 1" ∷ table_lines board kept.node.table)
-above_quiet board kept = (record { plain = refl; other = refl }, table_quiet board kept.node.table)
+above_quiet : (board : BoardValue) (kept : KeptValue) → AreQuiet (codes "alphamu report 1" ∷ position_lines board kept.node.position)
+above_quiet board kept = (record { plain = refl; other = refl }, position_quiet board kept.node.position)
 
 -- the head gives its moves
-pub moves_in-head_text : (board : BoardValue) (kept : KeptValue) (moves : ℕ) → 1 ≤ moves → moves ≤ 26 → moves_in (head_text board kept moves) ≡ Some moves
-moves_in-head_text board kept moves low high =
-    ap moves_in (head_text-lines board kept moves)
-    ∙ moves_in-lines (codes "alphamu report 1" ∷ table_lines board kept.node.table) (kept_lines kept) moves (above_quiet board kept) (kept_quiet kept) low high
+pub moves_of_head-head_text : (board : BoardValue) (kept : KeptValue) (moves : ℕ) → 1 ≤ moves → moves ≤ most_moves → moves_of_head (head_text board kept moves) ≡ Some moves
+moves_of_head-head_text board kept moves low high =
+    ap moves_of_head (head_text-lines board kept moves)
+    ∙ moves_of_head-lines (codes "alphamu report 1" ∷ position_lines board kept.node.position) (kept_lines kept) moves (above_quiet board kept) (kept_quiet kept) low high
 
 -- and ends where the front begins
 pub front_place-head_text : (board : BoardValue) (kept : KeptValue) (moves : ℕ) (text : List ℕ) → front_place (head_text board kept moves ++ (codes "front " ++ text)) ≡ Some (length (head_text board kept moves))
 front_place-head_text board kept moves text =
-    let table = table_lines board kept.node.table in
+    let table = position_lines board kept.node.position in
     let line = codes "moves " ++ decimal moves in
     let others = table ++ line ∷ kept_lines kept in
     let whole : head_text board kept moves ≡ text_of (codes "alphamu report 1" ∷ others) =
     head_text-lines board kept moves ∙ sym (flat_map-append line_of (codes "alphamu report 1" ∷ table) (line ∷ kept_lines kept)) in
     subst (λ head. front_place (head ++ (codes "front " ++ text)) ≡ Some (length head)) (sym whole)
     (front_place-lines (codes "alphamu report 1") others text refl
-    (head_lines-append table (line ∷ kept_lines kept) (head_lines table (table_quiet board kept.node.table)) (moves_head_line moves, head_lines (kept_lines kept) (kept_quiet kept))))
+    (head_lines-append table (line ∷ kept_lines kept) (head_lines table (position_quiet board kept.node.position)) (moves_head_line moves, head_lines (kept_lines kept) (kept_quiet kept))))

@@ -12,7 +12,7 @@ use Rattle.card_sets.specs.declared.seat.Compass.TheVariants.{N, E, S, W}
 use Rattle.card_sets.specs.Cards.{suit_of, rank_of, card_of}
 use Rattle.card_sets.specs.SetWords.{has_card}
 use Rattle.pbn_deal.specs.Hands.{suit_order}
-use Rattle.card_letters.specs.Letters.{card_text, suit_letter, rank_letter, compass_letter}
+use Rattle.card_letters.specs.Letters.{letters_of, suit_letter, rank_letter, compass_letter}
 use Rattle.pbn_deal.specs.Writing.{ranks_down, suit_text, hand_text}
 use Rattle.am_report.specs.Lines.{spaced}
 use Rattle.byte_text.specs.Lines.{is_line_end}
@@ -46,7 +46,7 @@ suit_letter_plain suit = plain_cons (suit_letter suit) [] (suit_plain suit) refl
 pub compass_letter_plain : (place : Compass) → is_plain (compass_letter place ∷ []) ≡ true
 compass_letter_plain place = plain_cons (compass_letter place) [] (compass_plain place) refl
 
-pub card_text_plain : (card : ℕ) → is_plain (card_text card) ≡ true
+pub card_text_plain : (card : ℕ) → is_plain (letters_of card) ≡ true
 card_text_plain card =
     plain_cons (suit_letter (suit_of card)) (rank_letter (rank_of card) ∷ []) (suit_plain (suit_of card)) (plain_cons (rank_letter (rank_of card)) [] (rank_plain (rank_of card)) refl)
 

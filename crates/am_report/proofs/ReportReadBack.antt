@@ -6,19 +6,19 @@ use Rattle.pbn_deal.specs.Boards.{BoardValue}
 use Rattle.layout_list.specs.Kept.{KeptValue}
 use Rattle.byte_text.specs.Lines.{line_of, said_at}
 use Rattle.am_report.specs.declared.fault.ReportKind.TheVariants as kinds
-use Rattle.am_report.specs.Answers.{AnswerValue}
+use Rattle.am_report.specs.Answers.{SolveAnswerValue}
 use Rattle.am_report.specs.Card.{count_text}
 use Rattle.am_report.specs.Head.{head_text}
 use Rattle.am_report.specs.Solve.{entry_text, solve_text}
 use Rattle.am_report.specs.ReportLines.{front_said, card_said}
-use Rattle.am_report.specs.Reading.{expected, has_version, front_place, moves_in, head_said, head_read, end_read, below_read, report_read}
+use Rattle.am_report.specs.Reading.{expected, has_version, front_place, moves_of_head, head_said, head_read, end_read, below_read, report_read}
 use Rattle.am_report.specs.ReadBack.{IsPrintable, printed_report}
-use Rattle.am_report.proofs.HeadLines.{moves_in-head_text, front_place-head_text}
+use Rattle.am_report.proofs.HeadLines.{moves_of_head-head_text, front_place-head_text}
 use Rattle.am_report.proofs.EntryLines.{said_at-here, front_is_said, front_plain, entries_read-here, card_is_said, card_plain}
 use Rattle.am_report.proofs.ReportSteps.{below_read-whole}
 
 -- the head above the front, with the moves and the number of vectors
-head_read-here : (bytes head rest : List ℕ) (moves vectors : ℕ) → bytes ≡ head ++ (line_of (codes "front " ++ decimal vectors) ++ rest) → front_place bytes ≡ Some (length head) → moves_in head ≡ Some moves
+head_read-here : (bytes head rest : List ℕ) (moves vectors : ℕ) → bytes ≡ head ++ (line_of (codes "front " ++ decimal vectors) ++ rest) → front_place bytes ≡ Some (length head) → moves_of_head head ≡ Some moves
     → 1 ≤ vectors → vectors < 2 ^ 32
     → head_read bytes ≡ Ok (record { place = length head; moves = moves; vectors = vectors; next = length (head ++ line_of (codes "front " ++ decimal vectors)) })
 unfolding head_read head_said
@@ -48,7 +48,7 @@ read_below bytes version = rw version refl
 five_pieces : (a b c d e : List ℕ) → a ++ b ++ c ++ d ++ e ≡ a ++ (b ++ (c ++ (d ++ e)))
 five_pieces a b c d e = simp append_assoc
 
-module _ (board : BoardValue) (kept : KeptValue) (moves : ℕ) (answer : AnswerValue) (printable : IsPrintable moves answer) where
+module _ (board : BoardValue) (kept : KeptValue) (moves : ℕ) (answer : SolveAnswerValue) (printable : IsPrintable moves answer) where
   -- the parts of the report
   abbrev head : List ℕ
   head = head_text board kept moves
@@ -88,7 +88,7 @@ module _ (board : BoardValue) (kept : KeptValue) (moves : ℕ) (answer : AnswerV
       ap (λ text. expected kinds.Card text (length ((head ++ front) ++ plans)) (said_at card_said text (length ((head ++ front) ++ plans)))) behind_plans
       ∙ ap (expected kinds.Card (((head ++ front) ++ plans) ++ (card ++ last)) (length ((head ++ front) ++ plans)))
       (said_at-here card_said ((head ++ front) ++ plans) (count_text answer.card answer.count) last (answer.card, answer.count) (card_plain answer.card answer.count) (card_is_said answer.card answer.count printable.card printable.count)) in
-      below_read-whole whole _ (head_read-here whole head (plans ++ (card ++ last)) moves (length answer.entries) refl front_begins (moves_in-head_text board kept moves printable.some_moves printable.few_moves) printable.some_vectors printable.few_vectors)
+      below_read-whole whole _ (head_read-here whole head (plans ++ (card ++ last)) moves (length answer.entries) refl front_begins (moves_of_head-head_text board kept moves printable.some_moves printable.few_moves) printable.some_vectors printable.few_vectors)
       answer.entries (length ((head ++ front) ++ plans)) (entries_read-here answer.entries whole (head ++ front) (card ++ last) printable.entries behind_front)
       (answer.card, answer.count) (length (((head ++ front) ++ plans) ++ card)) named tt (end_read-here whole (((head ++ front) ++ plans) ++ card) behind_card)
 

@@ -16,18 +16,18 @@ use Rattle.am_report.specs.declared.fault.ReportFault.TheVariants as faults
 use Rattle.am_report.specs.declared.reading.Head.{Head}
 use Rattle.am_report.specs.Answers.{EntryValue}
 use Rattle.am_report.specs.ReportLines.{moves_said, vector_said, card_said}
-use Rattle.am_report.specs.Reading.{expected, only, moves_in, head_read, plan_fault, entry_read, entries_read, end_read, below_read, IsFaultOf}
+use Rattle.am_report.specs.Reading.{expected, only, moves_of_head, head_read, report_fault, entry_read, entries_read, end_read, below_read, IsReportFaultOf}
 use Rattle.byte_text.specs.Steps.{◌>>=◌}
 
 -- ---- faults
 
 -- a fault of one part is the fault of the whole, and memory is free
-pub same_fault : {A B : Type 0} (x : Result A (ℕ × ReportKind)) (y : Result B (ℕ × ReportKind)) (fault : ReportFault) → IsFaultOf fault x → ((found : ℕ × ReportKind) → x ≡ Err found → y ≡ Err found) → IsFaultOf fault y
+pub same_fault : {A B : Type 0} (x : Result A (ℕ × ReportKind)) (y : Result B (ℕ × ReportKind)) (fault : ReportFault) → IsReportFaultOf fault x → ((found : ℕ × ReportKind) → x ≡ Err found → y ≡ Err found) → IsReportFaultOf fault y
 same_fault x y faults.Memory is same = tt
 same_fault x y (faults.Fault line kind) is same = same (line, kind) is
 
-pub at_fault : {A : Type 0} (y : Result A (ℕ × ReportKind)) (fault : ReportFault) (line : ℕ) (kind : ReportKind) → fault ≡ faults.Fault line kind → y ≡ Err (line, kind) → IsFaultOf fault y
-at_fault y fault line kind is refused = subst (λ (f : ReportFault). IsFaultOf f y) (sym is) refused
+pub at_fault : {A : Type 0} (y : Result A (ℕ × ReportKind)) (fault : ReportFault) (line : ℕ) (kind : ReportKind) → fault ≡ faults.Fault line kind → y ≡ Err (line, kind) → IsReportFaultOf fault y
+at_fault y fault line kind is refused = subst (λ (f : ReportFault). IsReportFaultOf f y) (sym is) refused
 
 -- ---- the number of moves
 
@@ -71,13 +71,13 @@ only_two (a ∷ []) later two = absurd (omega arith)
 only_two (a ∷ b ∷ more) later two = refl
 
 -- a second line with a number of moves
-pub moves_in-two : (head : List ℕ) (found : Option ℕ) (text line : List ℕ) (after : Option (Bor (List ℕ)))
+pub moves_of_head-two : (head : List ℕ) (found : Option ℕ) (text line : List ℕ) (after : Option (Bor (List ℕ)))
     → filter_map moves_said (slice_split is_line_end head) ≡ option_to_list found ++ moves_left (Some text)
     → MatchOption after (slice_split is_line_end text ≡ line ∷ []) (λ rest. slice_split is_line_end text ≡ line ∷ slice_split is_line_end rest.now)
     → length (option_to_list found ++ option_to_list (moves_said line)) ≡ 2
-    → moves_in head ≡ None
-unfolding moves_in
-moves_in-two head found text line after so_far is two =
+    → moves_of_head head ≡ None
+unfolding moves_of_head
+moves_of_head-two head found text line after so_far is two =
     let later = moves_left (option_map (λ rest. rest.now) after) in
     ap only (so_far ∙ ap (λ more. option_to_list found ++ more) (moves_left-more text line after is) ∙ sym (append_assoc (option_to_list found) (option_to_list (moves_said line)) later))
     ∙ only_two (option_to_list found ++ option_to_list (moves_said line)) later two
@@ -86,12 +86,12 @@ only-found : (found : Option ℕ) → only (option_to_list found ++ []) ≡ foun
 only-found None = refl
 only-found (Some n) = refl
 
-pub moves_in-end : (head : List ℕ) (found : Option ℕ) (rest : Option (Bor (List ℕ))) → rest ≡ None
+pub moves_of_head-end : (head : List ℕ) (found : Option ℕ) (rest : Option (Bor (List ℕ))) → rest ≡ None
     → filter_map moves_said (slice_split is_line_end head) ≡ option_to_list found ++ moves_left (option_map (λ text. text.now) rest)
-    → moves_in head ≡ found
-unfolding moves_in
-moves_in-end head found None none so_far = ap only so_far ∙ only-found found
-moves_in-end head found (Some text) none so_far = absurd cc
+    → moves_of_head head ≡ found
+unfolding moves_of_head
+moves_of_head-end head found None none so_far = ap only so_far ∙ only-found found
+moves_of_head-end head found (Some text) none so_far = absurd cc
 
 -- ---- a vector with its plan
 
@@ -105,12 +105,12 @@ module _ (bytes : List ℕ) (at : ℕ) where
   unfolding entry_read
   entry_read-plan vector next plan end said read = rw (said, read) refl
 
-  pub entry_read-plan_fault : (vector : List Bool) (next : ℕ) (fault : PlanFault) → expected kinds.Vector bytes at (said_at vector_said bytes at) ≡ Ok (vector, next)
-      → (fault ≡ plan_faults.Memory) ⊎ (plan_read bytes next ≡ Err fault) → IsFaultOf (plan_fault bytes fault) (entry_read bytes at)
+  pub entry_read-report_fault : (vector : List Bool) (next : ℕ) (fault : PlanFault) → expected kinds.Vector bytes at (said_at vector_said bytes at) ≡ Ok (vector, next)
+      → (fault ≡ plan_faults.Memory) ⊎ (plan_read bytes next ≡ Err fault) → IsReportFaultOf (report_fault bytes fault) (entry_read bytes at)
   unfolding entry_read
-  entry_read-plan_fault vector next plan_faults.Memory said cause = tt
-  entry_read-plan_fault vector next (plan_faults.Line place) said cause = elim cause [ inl memory ↦ absurd cc | inr refused ↦ rw (said, refused) refl ]
-  entry_read-plan_fault vector next (plan_faults.Deep place) said cause = elim cause [ inl memory ↦ absurd cc | inr refused ↦ rw (said, refused) refl ]
+  entry_read-report_fault vector next plan_faults.Memory said cause = tt
+  entry_read-report_fault vector next (plan_faults.Line place) said cause = elim cause [ inl memory ↦ absurd cc | inr refused ↦ rw (said, refused) refl ]
+  entry_read-report_fault vector next (plan_faults.Deep place) said cause = elim cause [ inl memory ↦ absurd cc | inr refused ↦ rw (said, refused) refl ]
 
 -- ---- one after another
 

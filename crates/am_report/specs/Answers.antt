@@ -8,7 +8,7 @@ pub record EntryValue : Type 0 where
   pub plan : Plan ℕ
 
 -- the front with its plans, the card to play, and in how many layouts the contract is made
-pub record AnswerValue : Type 0 where
+pub record SolveAnswerValue : Type 0 where
   pub entries : List EntryValue
   pub card : ℕ
   pub count : ℕ

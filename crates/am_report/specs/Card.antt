@@ -1,7 +1,7 @@
 -- An answer that is one card.
 use Rattle.std.specs.Prelude.{ℕ, List, ◌++◌, codes}
 use Rattle.std.specs.Fmt.{decimal}
-use Rattle.card_letters.specs.Letters.{card_text as letters_of}
+use Rattle.card_letters.specs.Letters.{letters_of}
 use Rattle.byte_text.specs.Lines.{line_of}
 
 -- the card to play, and in how many layouts the contract is made

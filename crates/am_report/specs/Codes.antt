@@ -4,7 +4,7 @@ use Rattle.std.specs.Coded.{Coded, code_by, coded×, coded_ℕ, coded_bool, code
 use base.Stored.{Gv, gnil, gnum, gcons, num}
 use mathlib.Core.Path.{sym, ap, subst}
 use Rattle.strategy_games.specs.Plans.{Plan, Replies, Stop, Play, Hear, NoReply, Reply}
-use Rattle.am_report.specs.Answers.{EntryValue, AnswerValue}
+use Rattle.am_report.specs.Answers.{EntryValue, SolveAnswerValue}
 
 -- ---- the parts of a tree
 
@@ -71,7 +71,7 @@ entry_code =
     (λ p. record { vector = p.0; plan = p.1 })
     (λ _. refl)
 
-abbrev pub answer_code : Coded AnswerValue
+abbrev pub answer_code : Coded SolveAnswerValue
 answer_code =
     code_by (List EntryValue × (ℕ × ℕ)) (coded× (coded_list entry_code) (coded× coded_ℕ coded_ℕ)) (λ a. (a.entries, (a.card, a.count)))
     (λ p. record { entries = p.0; card = p.1.0; count = p.1.1 })

@@ -1,6 +1,6 @@
 -- The cards judged by double dummy in each layout, and the card that is named.
 use Rattle.std.specs.Prelude.{ℕ, ◌==◌, Option, None, Some, List, [], ◌∷◌, ◌++◌, max, find, flat_map, codes}
-use Rattle.card_letters.specs.Letters.{card_text}
+use Rattle.card_letters.specs.Letters.{letters_of}
 use Rattle.win_vectors.specs.Vectors.{ones_of}
 use Rattle.fusion_base.specs.declared.table.CardVector.{CardVector}
 use Rattle.byte_text.specs.Lines.{line_of}
@@ -8,7 +8,7 @@ use Rattle.am_report.specs.Solve.{vector_line}
 
 -- a card, its vector, and how many ones the vector has
 unfoldable pub judged_line : CardVector → List ℕ
-judged_line entry = codes "card " ++ card_text entry.card ++ codes " " ++ vector_line entry.vector
+judged_line entry = codes "card " ++ letters_of entry.card ++ codes " " ++ vector_line entry.vector
 
 -- the greatest count of ones
 abbrev pub most_ones : List CardVector → ℕ
@@ -22,7 +22,7 @@ first_best table = find (λ entry. ones_of entry.vector == most_ones table) tabl
 -- the card of that entry
 abbrev pub named_line : Option CardVector → List ℕ
 named_line None = []
-named_line (Some entry) = line_of (codes "named " ++ card_text entry.card)
+named_line (Some entry) = line_of (codes "named " ++ letters_of entry.card)
 
 -- a line for each card, and the first card with the greatest count; no such card where the table is empty
 unfoldable pub fusion_text : List CardVector → List ℕ

@@ -3,10 +3,10 @@ use Rattle.std.specs.Prelude.{ℕ, List, [], ◌∷◌, ◌++◌, flat_map, code
 use Rattle.std.specs.Fmt.{decimal}
 use Rattle.card_sets.specs.declared.seat.Seat.{Seat}
 use Rattle.card_sets.specs.declared.seat.Seat.TheVariants.{Declarer, Dummy}
-use Rattle.card_letters.specs.Letters.{card_text, compass_letter, suit_letter}
+use Rattle.card_letters.specs.Letters.{letters_of, compass_letter, suit_letter}
 use Rattle.trick_rules.specs.declared.trump.Trump.{Trump}
 use Rattle.trick_rules.specs.declared.trump.Trump.TheVariants.{NoTrump, Suit as Suited}
-use Rattle.trick_rules.specs.Table.{Played as Trick, Table, to_play}
+use Rattle.trick_rules.specs.Positions.{TrickValue, PositionValue, to_play}
 use Rattle.pbn_deal.specs.Boards.{BoardValue, compass_of}
 use Rattle.pbn_deal.specs.Writing.{hand_text}
 use Rattle.layout_list.specs.declared.kept.Cause.{Cause}
@@ -32,10 +32,10 @@ hand_line board seat hand = line_of (codes "hand " ++ seat_text board seat ++ co
 -- the cards of the present trick, or a dash where it has none
 abbrev pub cards_text : List ℕ → List ℕ
 cards_text [] = codes "-"
-cards_text (card ∷ cards) = spaced card_text (card ∷ cards)
+cards_text (card ∷ cards) = spaced letters_of (card ∷ cards)
 
 -- the seat that led to the present trick, and the trick's cards
-unfoldable pub trick_line : BoardValue → Trick → List ℕ
+unfoldable pub trick_line : BoardValue → TrickValue → List ℕ
 trick_line board trick = line_of (codes "trick " ++ seat_text board trick.leader ++ codes " " ++ cards_text trick.cards)
 
 -- why a layout is dropped
@@ -48,8 +48,8 @@ unfoldable pub dropped_line : Dropped → List ℕ
 dropped_line layout = line_of (codes "dropped " ++ decimal layout.number ++ codes " " ++ cause_text layout.cause ++ codes " " ++ decimal layout.play)
 
 -- the contract, both hands, the trick and the seat to play
-unfoldable pub table_text : BoardValue → Table → List ℕ
-table_text board table =
+unfoldable pub position_text : BoardValue → PositionValue → List ℕ
+position_text board table =
     line_of (codes "declarer " ++ seat_text board Declarer)
     ++ line_of (codes "trump " ++ trump_text table.trump)
     ++ line_of (codes "need " ++ decimal table.need)
@@ -66,7 +66,7 @@ kept_line numbers = line_of (codes "kept " ++ spaced decimal numbers)
 unfoldable pub head_text : BoardValue → KeptValue → ℕ → List ℕ
 head_text board kept moves =
     line_of (codes "alphamu report 1")
-    ++ table_text board kept.node.table
+    ++ position_text board kept.node.position
     ++ line_of (codes "moves " ++ decimal moves)
     ++ kept_line kept.numbers
     ++ flat_map dropped_line kept.dropped

@@ -1,7 +1,7 @@
 -- What is found for layouts that a number makes.
 use Rattle.std.specs.Prelude.{ℕ, List, ◌++◌, codes}
 use Rattle.std.specs.Fmt.{decimal}
-use Rattle.card_letters.specs.Letters.{card_text}
+use Rattle.card_letters.specs.Letters.{letters_of}
 use Rattle.byte_text.specs.Lines.{line_of}
 use Rattle.am_report.specs.declared.made.MadeSummary.{MadeSummary}
 
@@ -13,4 +13,4 @@ made_text summary =
     ++ line_of (codes "layouts " ++ decimal summary.layouts)
     ++ line_of (codes "front " ++ decimal summary.front)
     ++ line_of (codes "best " ++ decimal summary.best)
-    ++ line_of (codes "card " ++ card_text summary.card)
+    ++ line_of (codes "card " ++ letters_of summary.card)

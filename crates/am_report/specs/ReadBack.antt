@@ -5,13 +5,15 @@ use Rattle.strategy_tree.specs.PlanText.{levels_of, HasReplies, HasCards}
 use Rattle.pbn_deal.specs.Boards.{BoardValue}
 use Rattle.layout_list.specs.Kept.{KeptValue}
 use Rattle.layout_list.specs.Lines.{most_listed}
-use Rattle.am_report.specs.Answers.{EntryValue, AnswerValue}
+use Rattle.am_report.specs.Answers.{EntryValue, SolveAnswerValue}
 use Rattle.am_report.specs.Head.{head_text}
-use Rattle.am_report.specs.Reading.{ReportValue}
+use Rattle.am_report.specs.Reading.{ReadReportValue}
+use Rattle.trick_rules.specs.Nodes.{most_moves}
+use Rattle.strategy_tree.specs.PlanRead.{most_levels}
 
 -- at most 64 levels, 1 to 52 replies at each defender's node, and cards of the pack
 pub record IsPrintablePlan (plan : Plan ℕ) : Type 0 where
-  pub levels : levels_of plan ≤ 64
+  pub levels : levels_of plan ≤ most_levels
   pub replies : HasReplies plan
   pub cards : HasCards plan
 
@@ -22,9 +24,9 @@ pub record IsPrintableEntry (entry : EntryValue) : Type 0 where
   pub plan : IsPrintablePlan entry.plan
 
 -- 1 to 26 moves; a front of at least one vector and fewer than 2^32; a card of the pack, and at most 64 layouts
-pub record IsPrintable (moves : ℕ) (answer : AnswerValue) : Type 0 where
+pub record IsPrintable (moves : ℕ) (answer : SolveAnswerValue) : Type 0 where
   pub some_moves : 1 ≤ moves
-  pub few_moves : moves ≤ 26
+  pub few_moves : moves ≤ most_moves
   pub some_vectors : 1 ≤ length answer.entries
   pub few_vectors : length answer.entries < 2 ^ 32
   pub entries : All IsPrintableEntry answer.entries
@@ -32,7 +34,7 @@ pub record IsPrintable (moves : ℕ) (answer : AnswerValue) : Type 0 where
   pub count : answer.count ≤ most_listed
 
 -- what the report of an answer says
-abbrev pub printed_report : BoardValue → KeptValue → ℕ → AnswerValue → ReportValue
+abbrev pub printed_report : BoardValue → KeptValue → ℕ → SolveAnswerValue → ReadReportValue
 printed_report board kept moves answer = record {
   head = head_text board kept moves;
   moves = moves;

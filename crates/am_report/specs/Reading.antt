@@ -18,7 +18,7 @@ use Rattle.am_report.specs.Answers.{EntryValue}
 use Rattle.am_report.specs.ReportLines.{front_said, moves_said, vector_said, card_said}
 
 -- what a report says: the text of its head, the moves, the front with its plans, the card to play and its count of layouts
-pub record ReportValue : Type 0 where
+pub record ReadReportValue : Type 0 where
   pub head : List ℕ
   pub moves : ℕ
   pub entries : List EntryValue
@@ -56,14 +56,14 @@ only (number ∷ []) = Some number
 only _ = None
 
 -- the number of moves, where exactly one line gives it
-unfoldable pub moves_in : List ℕ → Option ℕ
-moves_in head = only (filter_map moves_said (slice_split is_line_end head))
+unfoldable pub moves_of_head : List ℕ → Option ℕ
+moves_of_head head = only (filter_map moves_said (slice_split is_line_end head))
 
 -- the head above the front, with the number of vectors
 unfoldable pub head_said : List ℕ → ℕ → Option Head
 head_said bytes at =
     option_and_then (λ moves. option_map (λ front. record { place = at; moves = moves; vectors = front.0; next = front.1 }) (said_at front_said bytes at))
-    (moves_in (take at bytes))
+    (moves_of_head (take at bytes))
 
 abbrev pub head_above : List ℕ → Option ℕ → Result Head (ℕ × ReportKind)
 head_above bytes None = Err (line_after_last bytes, kinds.Head)
@@ -75,10 +75,10 @@ head_read bytes = head_above bytes (front_place bytes)
 -- ---- the front
 
 -- a plan's fault, by its line
-abbrev pub plan_fault : List ℕ → PlanFault → ReportFault
-plan_fault bytes (plan_faults.Line at) = faults.Fault (line_number bytes at) kinds.Plan
-plan_fault bytes (plan_faults.Deep at) = faults.Fault (line_number bytes at) kinds.TooDeep
-plan_fault bytes plan_faults.Memory = faults.Memory
+abbrev pub report_fault : List ℕ → PlanFault → ReportFault
+report_fault bytes (plan_faults.Line at) = faults.Fault (line_number bytes at) kinds.Plan
+report_fault bytes (plan_faults.Deep at) = faults.Fault (line_number bytes at) kinds.TooDeep
+report_fault bytes plan_faults.Memory = faults.Memory
 
 -- a plan, or its fault by its line; no text asks for memory
 abbrev pub plan_or_fault : List ℕ → Result (PlanValue ℕ × ℕ) PlanFault → Result (PlanValue ℕ × ℕ) (ℕ × ReportKind)
@@ -114,7 +114,7 @@ unfoldable pub end_read : List ℕ → ℕ → Result (Unit {0}) (ℕ × ReportK
 end_read bytes at = nothing_more bytes at (text_after (line_of (codes "end")) (drop at bytes))
 
 -- what stands below the version
-unfoldable pub below_read : List ℕ → Result ReportValue (ℕ × ReportKind)
+unfoldable pub below_read : List ℕ → Result ReadReportValue (ℕ × ReportKind)
 below_read bytes = do
   head ← head_read bytes
   front ← entries_read head.vectors bytes head.next
@@ -123,21 +123,21 @@ below_read bytes = do
   Ok (record { head = take head.place bytes; moves = head.moves; entries = front.0; card = said.0.0; count = said.0.1 })
 
 -- what a report says, or its first fault with its line
-unfoldable pub report_read : List ℕ → Result ReportValue (ℕ × ReportKind)
+unfoldable pub report_read : List ℕ → Result ReadReportValue (ℕ × ReportKind)
 report_read bytes = if has_version bytes then below_read bytes else Err (1, kinds.Version)
 
 -- ---- what the reader gives
 
 -- a report in memory
-abbrev pub report_of : ReadReport → ReportValue
+abbrev pub report_of : ReadReport → ReadReportValue
 report_of report = record { head = report.head; moves = report.moves; entries = report.entries.items; card = report.card; count = report.count }
 
 -- the fault that was found, or memory ran out
-abbrev pub IsFaultOf : {A : Type 0} → ReportFault → Result A (ℕ × ReportKind) → Type 0
-IsFaultOf faults.Memory read = Unit {0}
-IsFaultOf (faults.Fault line kind) read = read ≡ Err (line, kind)
+abbrev pub IsReportFaultOf : {A : Type 0} → ReportFault → Result A (ℕ × ReportKind) → Type 0
+IsReportFaultOf faults.Memory read = Unit {0}
+IsReportFaultOf (faults.Fault line kind) read = read ≡ Err (line, kind)
 
 -- what was read, or the fault
-abbrev pub Gives : {A : Type 0} → Result A ReportFault → Result A (ℕ × ReportKind) → Type 0
-Gives (Ok x) read = read ≡ Ok x
-Gives (Err fault) read = IsFaultOf fault read
+abbrev pub GivesReport : {A : Type 0} → Result A ReportFault → Result A (ℕ × ReportKind) → Type 0
+GivesReport (Ok x) read = read ≡ Ok x
+GivesReport (Err fault) read = IsReportFaultOf fault read

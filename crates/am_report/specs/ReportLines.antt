@@ -7,6 +7,7 @@ use Rattle.card_letters.specs.Letters.{card_read}
 use Rattle.byte_text.specs.Lines.{text_after}
 use Rattle.byte_text.specs.Numerals.{number_within}
 use Rattle.layout_list.specs.Lines.{most_listed}
+use Rattle.trick_rules.specs.Nodes.{most_moves}
 
 -- ---- lines
 
@@ -16,7 +17,7 @@ front_said text = option_and_then (number_within 1 4294967295) (text_after (code
 
 -- `moves` and how many moves declarer's side has
 unfoldable pub moves_said : List ℕ → Option ℕ
-moves_said text = option_and_then (number_within 1 26) (text_after (codes "moves ") text)
+moves_said text = option_and_then (number_within 1 most_moves) (text_after (codes "moves ") text)
 
 -- `count` and a number of layouts, at the end of a line
 unfoldable pub count_said : List ℕ → Option ℕ

@@ -6,7 +6,7 @@ use Rattle.pbn_deal.specs.Boards.{BoardValue}
 use Rattle.layout_list.specs.Kept.{KeptValue}
 use Rattle.byte_text.specs.Lines.{line_of}
 use Rattle.strategy_tree.specs.PlanText.{plan_text}
-use Rattle.am_report.specs.Answers.{EntryValue, AnswerValue}
+use Rattle.am_report.specs.Answers.{EntryValue, SolveAnswerValue}
 use Rattle.am_report.specs.Head.{head_text}
 use Rattle.am_report.specs.Card.{count_text}
 
@@ -23,7 +23,7 @@ unfoldable pub entry_text : EntryValue → List ℕ
 entry_text entry = vector_line entry.vector ++ plan_text entry.plan
 
 -- the head, the front with its plans, and the card to play
-unfoldable pub solve_text : BoardValue → KeptValue → ℕ → AnswerValue → List ℕ
+unfoldable pub solve_text : BoardValue → KeptValue → ℕ → SolveAnswerValue → List ℕ
 solve_text board kept moves answer =
     head_text board kept moves
     ++ line_of (codes "front " ++ decimal (length answer.entries))

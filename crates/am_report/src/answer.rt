@@ -23,8 +23,8 @@ impl Model for Entry {
     ghost view = { λ entry. record { vector = entry.vector; plan = plan_of entry.plan } };
 }
 
-/// The front with a plan for each of its vectors, in vector order; the card to play, and in how many of the kept layouts
-/// the contract is made.
+/// The front with a plan for each of its vectors, in vector order; the card to play, and in how
+/// many of the kept layouts the contract is made.
 #[derive(Debug, Drop)]
 pub struct SolveAnswer {
     pub entries: Vec<Entry>,
@@ -33,12 +33,16 @@ pub struct SolveAnswer {
 }
 
 impl Model for SolveAnswer {
-    ghost use Rattle.am_report.specs.Answers.{AnswerValue};
+    ghost use Rattle.am_report.specs.Answers.{SolveAnswerValue};
     ghost use Rattle.am_report.specs.Codes.{answer_code};
 
-    ghost Value = { AnswerValue };
+    ghost Value = { SolveAnswerValue };
 
     ghost coded = { answer_code };
 
-    ghost view = { λ answer. record { entries = answer.entries.items; card = answer.card; count = answer.count } };
+    ghost view = { λ answer. record {
+      entries = answer.entries.items;
+      card = answer.card;
+      count = answer.count;
+    } };
 }

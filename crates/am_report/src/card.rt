@@ -4,7 +4,7 @@ ghost use Rattle.am_report.specs.Card.{card_text, count_text};
 
 use crate::lines::push_line;
 use byte_text::Text;
-use card_letters::card_text as letters_of;
+use card_letters::letters_of;
 use card_sets::Card;
 use std::alloc::{AllocError, Global};
 

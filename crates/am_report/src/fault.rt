@@ -11,7 +11,8 @@ pub enum ReportKind {
     /// Line 1 isn't `alphamu report 1`.
     #[error("line 1 is not the version")]
     Version,
-    /// The lines above the front haven't exactly one number of moves from 1 to 26, or no line gives the front's length.
+    /// The lines above the front haven't exactly one number of moves from 1 to 26, or no line gives
+    /// the front's length.
     #[error("the head has no front, or not one number of moves")]
     Head,
     /// A vector's line isn't 1 to 64 bits and the count of its ones.

@@ -5,7 +5,7 @@ ghost use Rattle.am_report.specs.Fusion.{judged_line, most_ones, first_best, nam
 use crate::lines::push_line;
 use crate::solve::push_vector_line;
 use byte_text::Text;
-use card_letters::card_text;
+use card_letters::letters_of;
 use fusion_base::CardVector;
 use std::alloc::{AllocError, Global};
 
@@ -14,7 +14,7 @@ fn push_judged_line(text: &mut Text, alloc: Global, entry: &CardVector) -> Resul
     ensures { OnOk result (text.new ≡ text.old ++ judged_line entry.now) }
 {
     text.push(b"card ")?;
-    text.push(&card_text(entry.card))?;
+    text.push(&letters_of(entry.card))?;
     text.push(b" ")?;
     push_vector_line(text, alloc, entry.vector)
 }
@@ -57,13 +57,13 @@ fn push_named_line(text: &mut Text, named: Option<CardVector>) -> Result<(), All
     ensures { OnOk result (text.new ≡ text.old ++ named_line named) }
 {
     match named {
-        Some(entry) => push_line(text, b"named ", &card_text(entry.card)),
+        Some(entry) => push_line(text, b"named ", &letters_of(entry.card)),
         None => Ok(()),
     }
 }
 
-/// A line for each card with its vector and the count of its ones, in the table's order; and the first card with the
-/// greatest count, which a table that is empty doesn't have.
+/// A line for each card with its vector and the count of its ones, in the table's order; and the
+/// first card with the greatest count, which a table that is empty doesn't have.
 #[tactic(auto, unfolding(crate::specs::Fusion::fusion_text))]
 pub fn fusion_text(alloc: Global, table: &[CardVector]) -> Result<Text, AllocError>
     ensures { IfOk result (λ text. text ≡ fusion_text table.now) }

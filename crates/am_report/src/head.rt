@@ -3,11 +3,11 @@ ghost use Rattle.std.specs.Prelude.{◌≡◌, ◌++◌, IfOk, OnOk, flat_map, c
 ghost use Rattle.std.specs.Fmt.{decimal};
 ghost use Rattle.byte_text.specs.Lines.{line_of};
 ghost use Rattle.am_report.specs.Lines.{spaced};
-ghost use Rattle.am_report.specs.Head.{trump_text, hand_line, cards_text, trick_line, cause_text, dropped_line, kept_line, table_text, head_text};
+ghost use Rattle.am_report.specs.Head.{trump_text, hand_line, cards_text, trick_line, cause_text, dropped_line, kept_line, position_text, head_text};
 
 use crate::lines::{push_line, push_number_line};
 use byte_text::Text;
-use card_letters::{card_text, compass_letter, suit_letter};
+use card_letters::{compass_letter, letters_of, suit_letter};
 use card_sets::{Card, CardSet, Seat};
 use layout_list::{Cause, Dropped, Kept};
 use pbn_deal::{Board, hand_text};
@@ -45,10 +45,10 @@ fn push_cards(text: &mut Text, cards: &[Card]) -> Result<(), AllocError>
     let [first, rest @ ..] = cards else {
         return text.push(b"-");
     };
-    text.push(&card_text(*first))?;
+    text.push(&letters_of(*first))?;
     for card in rest {
         text.push(b" ")?;
-        text.push(&card_text(*card))?;
+        text.push(&letters_of(*card))?;
     }
     Ok(())
 }
@@ -65,13 +65,13 @@ fn push_trick_line(text: &mut Text, board: &Board, trick: &Trick) -> Result<(), 
 }
 
 // Appends the contract, both hands, the trick and the seat to play.
-fn push_table(
+fn push_position(
     text: &mut Text,
     alloc: Global,
     board: &Board,
     table: &Position,
 ) -> Result<(), AllocError>
-    ensures { OnOk result (text.new ≡ text.old ++ table_text board.now table.now) }
+    ensures { OnOk result (text.new ≡ text.old ++ position_text board.now table.now) }
 {
     push_line(text, b"declarer ", &[compass_letter(board.declarer())])?;
     push_trump_line(text, table.trump)?;
@@ -140,15 +140,16 @@ fn push_dropped(text: &mut Text, alloc: Global, dropped: &[Dropped]) -> Result<(
     Ok(())
 }
 
-/// The head of a report: the table after the play, with declarer's hand and then dummy's; the moves that declarer's side
-/// has, and the numbers of the kept layouts; and for each dropped layout the cause and the card that it contradicts.
+/// The head of a report: the table after the play, with declarer's hand and then dummy's; the moves
+/// that declarer's side has, and the numbers of the kept layouts; and for each dropped layout the
+/// cause and the card that it contradicts.
 #[tactic(auto, unfolding(crate::specs::Head::head_text))]
 pub fn head_text(alloc: Global, board: &Board, kept: &Kept, moves: u8) -> Result<Text, AllocError>
     ensures { IfOk result (λ text. text ≡ head_text board.now kept.now moves) }
 {
     let mut text = Text::new(alloc);
     text.push(b"alphamu report 1\n")?;
-    push_table(&mut text, alloc, board, kept.node.position())?;
+    push_position(&mut text, alloc, board, kept.node.position())?;
     push_number_line(&mut text, alloc, b"moves ", u64::from(moves))?;
     push_kept_line(&mut text, alloc, &kept.numbers)?;
     push_dropped(&mut text, alloc, &kept.dropped)?;

@@ -1,15 +1,15 @@
 //! Layouts in text, as a layout file lists them.
 ghost use Rattle.std.specs.Prelude.{◌≡◌, ◌++◌, IfOk, OnOk, flat_map};
-ghost use Rattle.am_report.specs.LayoutFile.{dealt_hand, hand_of, layout_line, list_text};
+ghost use Rattle.am_report.specs.LayoutFile.{dealt_hand, hand_at_compass, layout_line, list_text};
 
 use byte_text::Text;
 use card_sets::{CardSet, Compass, Seat};
-use layout_list::Defenders;
+use layout_list::Layout;
 use pbn_deal::{Board, deal_text, seat_of};
 use std::alloc::{AllocError, Global};
 
 // The hand of a seat before the first card.
-fn dealt_hand(board: &Board, layout: &Defenders, seat: Seat) -> CardSet
+fn dealt_hand(board: &Board, layout: &Layout, seat: Seat) -> CardSet
     ensures { result ≡ dealt_hand board.now layout.now seat }
 {
     match seat {
@@ -21,8 +21,8 @@ fn dealt_hand(board: &Board, layout: &Defenders, seat: Seat) -> CardSet
 }
 
 // The hand at a place of the table.
-fn hand_of(board: &Board, layout: &Defenders, place: Compass) -> CardSet
-    ensures { result ≡ hand_of board.now layout.now place }
+fn hand_at_compass(board: &Board, layout: &Layout, place: Compass) -> CardSet
+    ensures { result ≡ hand_at_compass board.now layout.now place }
 {
     dealt_hand(board, layout, seat_of(board.declarer(), place))
 }
@@ -32,15 +32,15 @@ fn push_layout_line(
     text: &mut Text,
     alloc: Global,
     board: &Board,
-    layout: &Defenders,
+    layout: &Layout,
 ) -> Result<(), AllocError>
     ensures { OnOk result (text.new ≡ text.old ++ layout_line board.now layout.now) }
 {
     let hands = [
-        Some(hand_of(board, layout, Compass::N)),
-        Some(hand_of(board, layout, Compass::E)),
-        Some(hand_of(board, layout, Compass::S)),
-        Some(hand_of(board, layout, Compass::W)),
+        Some(hand_at_compass(board, layout, Compass::N)),
+        Some(hand_at_compass(board, layout, Compass::E)),
+        Some(hand_at_compass(board, layout, Compass::S)),
+        Some(hand_at_compass(board, layout, Compass::W)),
     ];
     text.push(deal_text(alloc, hands)?.bytes())?;
     text.push(b"\n")
@@ -51,7 +51,7 @@ fn push_layouts(
     text: &mut Text,
     alloc: Global,
     board: &Board,
-    layouts: &[Defenders],
+    layouts: &[Layout],
 ) -> Result<(), AllocError>
     ensures { OnOk result (text.new ≡ text.old ++ flat_map (layout_line board.now) layouts.now) }
 {
@@ -61,10 +61,10 @@ fn push_layouts(
     Ok(())
 }
 
-/// A layout file: a line that says what it is, and for each layout a line with the four hands before the first played
-/// card, from North.
+/// A layout file: a line that says what it is, and for each layout a line with the four hands
+/// before the first played card, from North.
 #[tactic(auto, unfolding(crate::specs::LayoutFile::list_text))]
-pub fn list_text(alloc: Global, board: &Board, layouts: &[Defenders]) -> Result<Text, AllocError>
+pub fn list_text(alloc: Global, board: &Board, layouts: &[Layout]) -> Result<Text, AllocError>
     ensures { IfOk result (λ text. text ≡ list_text board.now layouts.now) }
 {
     let mut text = Text::new(alloc);

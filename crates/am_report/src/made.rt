@@ -4,7 +4,7 @@ ghost use Rattle.am_report.specs.Made.{made_text};
 
 use crate::lines::{push_line, push_number_line};
 use byte_text::Text;
-use card_letters::card_text;
+use card_letters::letters_of;
 use card_sets::Card;
 use std::alloc::{AllocError, Global};
 
@@ -34,6 +34,6 @@ pub fn made_text(alloc: Global, summary: &MadeSummary) -> Result<Text, AllocErro
     push_number_line(&mut text, alloc, b"layouts ", u64::from(summary.layouts))?;
     push_number_line(&mut text, alloc, b"front ", summary.front)?;
     push_number_line(&mut text, alloc, b"best ", u64::from(summary.best))?;
-    push_line(&mut text, b"card ", &card_text(summary.card))?;
+    push_line(&mut text, b"card ", &letters_of(summary.card))?;
     Ok(text)
 }

@@ -4,7 +4,7 @@ ghost use Rattle.std.specs.List.{range_with_len};
 ghost use Rattle.strategy_tree.specs.PlanMeaning.{plan_of};
 ghost use Rattle.byte_text.specs.Lines.{said_at, line_number};
 ghost use Rattle.am_report.specs.ReportLines.{vector_said, card_said};
-ghost use Rattle.am_report.specs.Reading.{expected, line_after_last, has_version, is_front, front_place, moves_in, head_said, head_read, plan_fault, entry_read, entries_read, end_read, below_read, report_read, report_of, IsFaultOf, Gives};
+ghost use Rattle.am_report.specs.Reading.{expected, line_after_last, has_version, is_front, front_place, moves_of_head, head_said, head_read, report_fault, entry_read, entries_read, end_read, below_read, report_read, report_of, IsReportFaultOf, GivesReport};
 
 use crate::answer::Entry;
 use crate::fault::{ReportFault, ReportKind};
@@ -29,7 +29,8 @@ pub struct ReadReport {
     pub count: u16,
 }
 
-/// What the lines down to the front's length say, with the places where that line and the next one begin.
+/// What the lines down to the front's length say, with the places where that line and the next one
+/// begin.
 #[derive(Clone, Copy, Debug)]
 pub struct Head {
     pub place: usize,
@@ -45,7 +46,7 @@ pub struct Head {
 pub fn read_report(alloc: Global, bytes: &[u8]) -> Result<ReadReport, ReportFault>
     requires { length bytes.now < 2 ^ 32 - 1 }
     ensures read { IfOk result (λ report. report_read bytes.now ≡ Ok (report_of report)) }
-    ensures fault { IfErr result (λ fault. IsFaultOf fault (report_read bytes.now)) }
+    ensures fault { IfErr result (λ fault. IsReportFaultOf fault (report_read bytes.now)) }
 {
     if !has_version(bytes) {
         return Err(ReportFault::Fault {
@@ -67,7 +68,7 @@ fn has_version(bytes: &[u8]) -> bool
 fn read_below(alloc: Global, bytes: &[u8]) -> Result<ReadReport, ReportFault>
     requires { length bytes.now < 2 ^ 32 - 1 }
     ensures read { IfOk result (λ report. below_read bytes.now ≡ Ok (report_of report)) }
-    ensures fault { IfErr result (λ fault. IsFaultOf fault (below_read bytes.now)) }
+    ensures fault { IfErr result (λ fault. IsReportFaultOf fault (below_read bytes.now)) }
 {
     let head = read_head(bytes)?;
     let (entries, at) = read_entries(alloc, bytes, head.next, head.vectors)?;
@@ -102,9 +103,9 @@ fn fault_at(bytes: &[u8], at: usize, kind: ReportKind) -> ReportFault
 }
 
 // The fault of a report in whose plan there is this fault.
-fn plan_fault(bytes: &[u8], fault: PlanFault) -> ReportFault
+fn report_fault(bytes: &[u8], fault: PlanFault) -> ReportFault
     requires { length bytes.now < 2 ^ 32 - 1 }
-    ensures { result ≡ plan_fault bytes.now fault }
+    ensures { result ≡ report_fault bytes.now fault }
 {
     match fault {
         PlanFault::Line(at) => fault_at(bytes, at, ReportKind::Plan),
@@ -126,8 +127,8 @@ fn one_at_most(found: Option<u8>, more: Option<u8>) -> Option<Option<u8>>
 }
 
 // The number of moves, where exactly one of the lines gives it.
-fn moves_in(head: &[u8]) -> Option<u8>
-    ensures { result ≡ moves_in head.now }
+fn moves_of_head(head: &[u8]) -> Option<u8>
+    ensures { result ≡ moves_of_head head.now }
 {
     let mut found = None;
     let mut rest = Some(head);
@@ -173,9 +174,10 @@ fn front_place(bytes: &[u8]) -> Option<usize>
 fn head_at(bytes: &[u8], at: usize) -> Option<Head>
     requires { at ≤ length bytes.now }
     ensures value { result ≡ head_said bytes.now at }
-    ensures within { IfSome result (λ head. (head.place ≤ length bytes.now) × (head.next ≤ length bytes.now)) }
+    ensures within { IfSome result
+        (λ head. (head.place ≤ length bytes.now) × (head.next ≤ length bytes.now)) }
 {
-    let moves = moves_in(&bytes[..at])?;
+    let moves = moves_of_head(&bytes[..at])?;
     let (vectors, next) = front_at(bytes, at)?;
     Some(Head {
         place: at,
@@ -189,8 +191,9 @@ fn head_at(bytes: &[u8], at: usize) -> Option<Head>
 #[tactic(auto, unfolding(crate::specs::Reading::head_read))]
 fn read_head(bytes: &[u8]) -> Result<Head, ReportFault>
     requires { length bytes.now < 2 ^ 32 - 1 }
-    ensures read { Gives result (head_read bytes.now) }
-    ensures within { IfOk result (λ head. (head.place ≤ length bytes.now) × (head.next ≤ length bytes.now)) }
+    ensures read { GivesReport result (head_read bytes.now) }
+    ensures within { IfOk result
+        (λ head. (head.place ≤ length bytes.now) × (head.next ≤ length bytes.now)) }
 {
     let Some(at) = front_place(bytes) else {
         return Err(ReportFault::Fault {
@@ -208,7 +211,8 @@ fn read_head(bytes: &[u8]) -> Result<Head, ReportFault>
 fn read_vector(bytes: &[u8], at: usize) -> Result<(WinVector, usize), ReportFault>
     requires place { at ≤ length bytes.now }
     requires short { length bytes.now < 2 ^ 32 - 1 }
-    ensures read { Gives result (expected ReportKind.Vector bytes.now at (said_at vector_said bytes.now at)) }
+    ensures read { GivesReport result
+        (expected ReportKind.Vector bytes.now at (said_at vector_said bytes.now at)) }
     ensures within { IfOk result (λ read. read.1 ≤ length bytes.now) }
 {
     match vector_at(bytes, at) {
@@ -227,13 +231,13 @@ fn entry_of(vector: WinVector, plan: Plan) -> Entry
 fn read_entry(alloc: Global, bytes: &[u8], at: usize) -> Result<(Entry, usize), ReportFault>
     requires place { at ≤ length bytes.now }
     requires short { length bytes.now < 2 ^ 32 - 1 }
-    ensures read { Gives result (entry_read bytes.now at) }
+    ensures read { GivesReport result (entry_read bytes.now at) }
     ensures within { IfOk result (λ read. read.1 ≤ length bytes.now) }
 {
     let (vector, next) = read_vector(bytes, at)?;
     match read_plan(alloc, bytes, next) {
         Ok((plan, end)) => Ok((entry_of(vector, plan), end)),
-        Err(fault) => Err(plan_fault(bytes, fault)),
+        Err(fault) => Err(report_fault(bytes, fault)),
     }
 }
 
@@ -246,9 +250,11 @@ fn read_entries(
 ) -> Result<(Vec<Entry>, usize), ReportFault>
     requires place { start ≤ length bytes.now }
     requires short { length bytes.now < 2 ^ 32 - 1 }
-    ensures read { IfOk result (λ read. entries_read count bytes.now start ≡ Ok (read.0.items, read.1)) }
+    ensures read { IfOk result
+        (λ read. entries_read count bytes.now start ≡ Ok (read.0.items, read.1)) }
     ensures within { IfOk result (λ read. read.1 ≤ length bytes.now) }
-    ensures fault { IfErr result (λ fault. IsFaultOf fault (entries_read count bytes.now start)) }
+    ensures fault { IfErr result
+        (λ fault. IsReportFaultOf fault (entries_read count bytes.now start)) }
 {
     let mut entries = Vec::new(alloc);
     let mut at = start;
@@ -264,7 +270,8 @@ fn read_entries(
 fn read_card(bytes: &[u8], at: usize) -> Result<((Card, u16), usize), ReportFault>
     requires place { at ≤ length bytes.now }
     requires short { length bytes.now < 2 ^ 32 - 1 }
-    ensures read { Gives result (expected ReportKind.Card bytes.now at (said_at card_said bytes.now at)) }
+    ensures read { GivesReport result
+        (expected ReportKind.Card bytes.now at (said_at card_said bytes.now at)) }
     ensures within { IfOk result (λ read. read.1 ≤ length bytes.now) }
 {
     match card_at(bytes, at) {
@@ -277,7 +284,7 @@ fn read_card(bytes: &[u8], at: usize) -> Result<((Card, u16), usize), ReportFaul
 fn read_end(bytes: &[u8], at: usize) -> Result<(), ReportFault>
     requires place { at ≤ length bytes.now }
     requires short { length bytes.now < 2 ^ 32 - 1 }
-    ensures { Gives result (end_read bytes.now at) }
+    ensures { GivesReport result (end_read bytes.now at) }
 {
     match text_after(&bytes[at..], b"end\n") {
         None => Err(fault_at(bytes, at, ReportKind::End)),

@@ -62,8 +62,8 @@ fn push_count_line(text: &mut Text, alloc: Global, card: Card, count: u16) -> Re
     text.push(b"\n")
 }
 
-/// The report: its head, then the number of vectors of the front, each vector with its plan, and the card to play with the
-/// number of kept layouts in which the contract is made.
+/// The report: its head, then the number of vectors of the front, each vector with its plan, and
+/// the card to play with the number of kept layouts in which the contract is made.
 #[tactic(auto, unfolding(crate::specs::Solve::solve_text))]
 pub fn solve_text(
     alloc: Global,

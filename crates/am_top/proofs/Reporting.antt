@@ -4,7 +4,7 @@ use Rattle.std.proofs.lemmas.List.Elements.{All-contains, All-tail}
 use Rattle.win_vectors.specs.Vectors.{ones_of}
 use Rattle.win_vectors.specs.Fronts.{Vector, Covers}
 use Rattle.win_vectors.proofs.Orders.{Dominates-refl}
-use Rattle.trick_rules.specs.Nodes.{Layouts, IsNode}
+use Rattle.trick_rules.specs.Nodes.{NodeValue, IsNode}
 use Rattle.strategy_games.specs.Plans.{Plan, Fits, wins_vector}
 use Rattle.strategy_games.specs.Choosing.{IsChosenPlan, IsNamedCard}
 use Rattle.strategy_games.proofs.Lists.{Contains-map, Contains-here}
@@ -12,7 +12,7 @@ use Rattle.strategy_tree.specs.Bridge.{bridge}
 use Rattle.strategy_tree.proofs.BridgeLaws as laws
 use Rattle.job_words.specs.declared.asks.Search.{Search}
 use Rattle.am_report.specs.declared.made.MadeSummary.{MadeSummary}
-use Rattle.am_report.specs.Answers.{AnswerValue, EntryValue}
+use Rattle.am_report.specs.Answers.{SolveAnswerValue, EntryValue}
 use Rattle.am_report.specs.Solve.{solve_text}
 use Rattle.am_report.specs.Card.{card_text}
 use Rattle.am_report.specs.Made.{made_text}
@@ -22,7 +22,7 @@ use Rattle.am_answer.specs.Reports.{IsSolveAnswer, IsText, made_moves}
 
 -- ---- what is printed
 
-pub plan-wins : (n : Layouts) (moves : ℕ) (found : AnswerValue) (entry : EntryValue) → IsNode n → IsSolveAnswer n moves found → Contains found.entries entry
+pub plan-wins : (n : NodeValue) (moves : ℕ) (found : SolveAnswerValue) (entry : EntryValue) → IsNode n → IsSolveAnswer n moves found → Contains found.entries entry
     → Fits bridge entry.plan n moves × (wins_vector bridge entry.plan n ≡ entry.vector)
 plan-wins n moves found entry node is member =
     let vectors = map (λ e. e.vector) found.entries in
@@ -31,11 +31,11 @@ plan-wins n moves found entry node is member =
     let wins = laws.chosen_plan.wins entry.plan n moves entry.vector vectors node is.vectors (entry.vector, inside, Dominates-refl entry.vector) chosen in
     (wins.0, is.vectors.apart (wins_vector bridge entry.plan n) entry.vector wins.1.member inside wins.1.above)
 
-pub vectors-cover : (n : Layouts) (moves : ℕ) (found : AnswerValue) (plan : Plan ℕ) → IsSolveAnswer n moves found → Fits bridge plan n moves
+pub vectors-cover : (n : NodeValue) (moves : ℕ) (found : SolveAnswerValue) (plan : Plan ℕ) → IsSolveAnswer n moves found → Fits bridge plan n moves
     → Covers (map (λ e. e.vector) found.entries) (wins_vector bridge plan n)
 vectors-cover n moves found plan is fits = is.vectors.covered (wins_vector bridge plan n) (plan, fits, refl)
 
-pub count-most : (n : Layouts) (moves : ℕ) (found : AnswerValue) (plan : Plan ℕ) → IsSolveAnswer n moves found → Fits bridge plan n moves
+pub count-most : (n : NodeValue) (moves : ℕ) (found : SolveAnswerValue) (plan : Plan ℕ) → IsSolveAnswer n moves found → Fits bridge plan n moves
     → ones_of (wins_vector bridge plan n) ≤ found.count
 count-most n moves found plan is fits = laws.best_count.most n moves found.count plan is.count fits
 
@@ -47,7 +47,7 @@ entry_of vector plan = record { vector = vector; plan = plan }
 same_heads : {X : Type 0} (x y : X) (xs ys : List X) → x ∷ xs ≡ y ∷ ys → (x ≡ y) × (xs ≡ ys)
 same_heads x y xs ys same = (cc, cc)
 
-entries-same : (n : Layouts) (moves : ℕ) (entries others : List EntryValue) → map (λ e. e.vector) entries ≡ map (λ e. e.vector) others
+entries-same : (n : NodeValue) (moves : ℕ) (entries others : List EntryValue) → map (λ e. e.vector) entries ≡ map (λ e. e.vector) others
     → All (λ e. IsChosenPlan bridge e.plan n moves e.vector) entries → All (λ e. IsChosenPlan bridge e.plan n moves e.vector) others → entries ≡ others
 entries-same n moves [] [] same plans more = refl
 entries-same n moves [] (f ∷ others) same plans more = cc
@@ -60,14 +60,14 @@ entries-same n moves (e ∷ entries) (f ∷ others) same plans more =
     ap₂ (λ (x : EntryValue) xs. x ∷ xs) (ap₂ entry_of vector plan)
     (entries-same n moves entries others rest (All-tail (λ e. IsChosenPlan bridge e.plan n moves e.vector) e entries plans) (All-tail (λ e. IsChosenPlan bridge e.plan n moves e.vector) f others more))
 
-named-same : (n : Layouts) (moves card other : ℕ) → IsNamedCard bridge n moves card → IsNamedCard bridge n moves other → card ≡ other
+named-same : (n : NodeValue) (moves card other : ℕ) → IsNamedCard bridge n moves card → IsNamedCard bridge n moves other → card ≡ other
 named-same n zero card other is also = absurd is
 named-same n (suc moves) card other is also = laws.named_card.unique n moves card other is also
 
-abbrev answer_of : List EntryValue → ℕ → ℕ → AnswerValue
+abbrev answer_of : List EntryValue → ℕ → ℕ → SolveAnswerValue
 answer_of entries card count = record { entries = entries; card = card; count = count }
 
-answer-same : (n : Layouts) (moves : ℕ) (found other : AnswerValue) → IsSolveAnswer n moves found → IsSolveAnswer n moves other → found ≡ other
+answer-same : (n : NodeValue) (moves : ℕ) (found other : SolveAnswerValue) → IsSolveAnswer n moves found → IsSolveAnswer n moves other → found ≡ other
 answer-same n moves found other is also =
     let vectors = laws.one_front.unique n moves (map (λ e. e.vector) found.entries) (map (λ e. e.vector) other.entries) is.vectors also.vectors in
     let entries = entries-same n moves found.entries other.entries vectors is.plans also.plans in

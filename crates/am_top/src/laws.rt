@@ -2,7 +2,7 @@
 ghost use Rattle.std.specs.Prelude.{◌≡◌, ◌≤◌, ◌<◌, ◌^◌, ℕ, List, Some, Ok, length, map, Contains};
 ghost use Rattle.win_vectors.specs.Vectors.{ones_of};
 ghost use Rattle.win_vectors.specs.Fronts.{Covers};
-ghost use Rattle.trick_rules.specs.Nodes.{Layouts, IsNode};
+ghost use Rattle.trick_rules.specs.Nodes.{NodeValue, IsNode, most_moves};
 ghost use Rattle.strategy_games.specs.Plans.{Plan, Fits, wins_vector};
 ghost use Rattle.strategy_tree.specs.Bridge.{bridge};
 ghost use Rattle.am_outside.specs.Shelf.{Files};
@@ -10,7 +10,7 @@ ghost use Rattle.job_words.specs.declared.asks.Search.{Search};
 ghost use Rattle.job_words.specs.Asks.{Made};
 ghost use Rattle.job_words.specs.Words.{words_read};
 ghost use Rattle.layout_list.specs.Lines.{most_listed};
-ghost use Rattle.am_report.specs.Answers.{AnswerValue, EntryValue};
+ghost use Rattle.am_report.specs.Answers.{SolveAnswerValue, EntryValue};
 ghost use Rattle.am_report.specs.Solve.{solve_text};
 ghost use Rattle.am_answer.specs.declared.root.Root.{Root};
 ghost use Rattle.am_answer.specs.Answers.{Report, NamedCard, Problem, answer};
@@ -21,7 +21,7 @@ ghost use Rattle.am_answer.specs.Reports.{IsSolveAnswer, IsText};
 /// layout it is made against every line of legal defence, by defenders who know the layout and the
 /// plan, or else it isn't.
 pub fn printed_plan_wins()
-    ensures { (n : Layouts) (moves : ℕ) (found : AnswerValue) (entry : EntryValue) → IsNode n
+    ensures { (n : NodeValue) (moves : ℕ) (found : SolveAnswerValue) (entry : EntryValue) → IsNode n
         → IsSolveAnswer n moves found → Contains found.entries entry
         → Fits bridge entry.plan n moves × (wins_vector bridge entry.plan n ≡ entry.vector) }
 {}
@@ -29,11 +29,11 @@ pub fn printed_plan_wins()
 /// Every strategy with that many moves of declarer's side, followed by double dummy, wins a vector
 /// that a printed one dominates, and no more layouts than the count that is printed.
 pub fn printed_vectors_cover()
-    ensures covers { (n : Layouts) (moves : ℕ) (found : AnswerValue) (plan : Plan ℕ)
+    ensures covers { (n : NodeValue) (moves : ℕ) (found : SolveAnswerValue) (plan : Plan ℕ)
         → IsSolveAnswer n moves found
         → Fits bridge plan n moves
         → Covers (map (λ e. e.vector) found.entries) (wins_vector bridge plan n) }
-    ensures most { (n : Layouts) (moves : ℕ) (found : AnswerValue) (plan : Plan ℕ)
+    ensures most { (n : NodeValue) (moves : ℕ) (found : SolveAnswerValue) (plan : Plan ℕ)
         → IsSolveAnswer n moves found
         → Fits bridge plan n moves → ones_of (wins_vector bridge plan n) ≤ found.count }
 {}
@@ -64,8 +64,8 @@ pub fn made_problems_are_accepted()
 /// What is written for `solve` is found good by `check`, for every root with no more layouts than
 /// a file may have, and every number of moves.
 pub fn solved_reports_are_good()
-    ensures { (root : Root) (moves : ℕ) (found : AnswerValue) → IsNode root.kept.node
-        → length root.kept.node.lefts ≤ most_listed → 1 ≤ moves → moves ≤ 26
+    ensures { (root : Root) (moves : ℕ) (found : SolveAnswerValue) → IsNode root.kept.node
+        → length root.kept.node.lefts ≤ most_listed → 1 ≤ moves → moves ≤ most_moves
         → IsSolveAnswer root.kept.node moves found → length found.entries < 2 ^ 32
         → plans_in root (solve_text root.board root.kept moves found) ≡ Ok (length found.entries) }
 {}

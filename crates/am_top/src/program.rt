@@ -8,7 +8,7 @@ ghost use Rattle.job_words.specs.Asks.{AskValue, texts_of};
 ghost use Rattle.job_words.specs.Words.{words_read};
 ghost use Rattle.am_answer.specs.Answers.{TaskValue, answer};
 ghost use Rattle.am_answer.specs.Stages.{IsRefusal, IsTextFor};
-ghost use Rattle.am_line.specs.Lines.{line_of, IsSaid};
+ghost use Rattle.am_line.specs.Lines.{status_line, IsSaid};
 ghost use Rattle.am_answer.specs.Refusals.{IsUnread};
 ghost use Rattle.am_answer.specs.Endings.{IsStatusFor, IsReported, IsReportedInPart, IsWithinNodes};
 ghost use Rattle.am_answer.specs.Endings.{IsDoneOrMemory, HasNoFault};
@@ -58,7 +58,7 @@ fn deliver<O: Sink, E: Sink>(text: &Text, out: &mut O, err: &mut E) -> Status
     ensures failed { result ≡ Status.Unwritten → Rose (O.faults out.old) (O.faults out.new) }
     ensures quiet { result ≡ Status.Done → err.new ≡ err.old }
     ensures said { result ≡ Status.Unwritten
-        → IsSaid (line_of result) (E.told err.old) (E.told err.new)
+        → IsSaid (status_line result) (E.told err.old) (E.told err.new)
         (E.faults err.old) (E.faults err.new) }
 {
     match write_whole(out, text.bytes()) {
@@ -108,7 +108,7 @@ pub fn run<R: Threads + Sync, S: Shelf, O: Sink, E: Sink, G: Gate>(
         → IsReportedInPart (answer (texts_of words.now) files) (O.told out.old) (O.told out.new)) }
     ensures quiet { result ≡ Status.Done → err.new ≡ err.old }
     ensures said { (result ≢ Status.Done)
-        → IsSaid (line_of result) (E.told err.old) (E.told err.new)
+        → IsSaid (status_line result) (E.told err.old) (E.told err.new)
         (E.faults err.old) (E.faults err.new) }
 
     ensures same_files { S.told shelf.new ≡ S.told shelf.old }

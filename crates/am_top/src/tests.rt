@@ -1,4 +1,5 @@
-//! Runs over files and sinks in memory: reports of small endings byte for byte, and each kind of refusal.
+//! Runs over files and sinks in memory: reports of small endings byte for byte, and each kind of
+//! refusal.
 use crate::{Status, run};
 use am_outside::{MemoryShelf, MemorySink, OpenGate};
 use std::alloc::{AllocError, Global};

@@ -8,8 +8,9 @@ mod endings;
 use endings::{Strain, Workload, made_of};
 use std::env;
 
-/// The arguments: how many tricks an ending has, and how many endings. Then, in any order, `plain` for plain minimax in
-/// place of the solver, and `notrump` or `suit` for endings without or with trumps alone.
+/// The arguments: how many tricks an ending has, and how many endings. Then, in any order, `plain`
+/// for plain minimax in place of the solver, and `notrump` or `suit` for endings without or with
+/// trumps alone.
 fn main(rt: HostRuntime) -> anyhow::Result<()> {
     let mut numbers = [0u64; 2];
     let mut plain = false;

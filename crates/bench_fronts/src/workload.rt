@@ -8,16 +8,17 @@ use win_vectors::WinVector;
 /// How many layouts the vectors have.
 const LAYOUTS: u16 = 64;
 
-/// What a workload comes to: the sum of the fronts' lengths over all rounds, and the first vector of the last front.
+/// What a workload comes to: the sum of the fronts' lengths over all rounds, and the first vector
+/// of the last front.
 #[derive(Drop)]
 pub struct Outcome {
     pub total: u64,
     pub first: String,
 }
 
-/// In each round: puts vectors of which none dominates another into an empty front, then for each of them one that it
-/// dominates, then for each one that dominates it.
-/// No clause pins the outcome: the script compares it with the one of the same work in C++.
+/// In each round: puts vectors of which none dominates another into an empty front, then for each
+/// of them one that it dominates, then for each one that dominates it. No clause pins the outcome:
+/// the script compares it with the one of the same work in C++.
 pub fn inserts(alloc: Global, size: u64, rounds: u64) -> Result<Outcome, AllocError> {
     let base = split_vectors(alloc, size)?;
     let mut below = Vec::new(alloc);
@@ -105,7 +106,8 @@ fn split_vectors(alloc: Global, size: u64) -> Result<Vec<WinVector>, AllocError>
     Ok(vectors)
 }
 
-// The vector that has 1 at the second layout of a pair where the number has a 1, and else at the first.
+// The vector that has 1 at the second layout of a pair where the number has a 1, and else at the
+// first.
 fn split_vector(number: u64) -> WinVector {
     let mut vector = WinVector::none(LAYOUTS);
     for place in 0..32u16 {

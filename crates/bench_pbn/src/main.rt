@@ -8,7 +8,8 @@ mod workload;
 use std::env;
 use workload::{Outcome, file_of, last_outcome};
 
-/// The arguments: what the file holds, its size in bytes at most, and how many rounds of 1 MiB are read.
+/// The arguments: what the file holds, its size in bytes at most, and how many rounds of 1 MiB are
+/// read.
 fn main(rt: HostRuntime) -> anyhow::Result<()> {
     let alloc = rt.alloc();
     let mut file = Vec::new(alloc);

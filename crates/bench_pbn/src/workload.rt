@@ -40,8 +40,9 @@ pub enum Outcome {
     Fault { line: u32, kind: Syntax },
 }
 
-/// A file of one kind, of as many whole pieces as fit into this size. The kind is a word, or the number of a byte.
-/// No clause pins its bytes: it is a workload to be timed, and the stored run compares what is read of it.
+/// A file of one kind, of as many whole pieces as fit into this size. The kind is a word, or the
+/// number of a byte. No clause pins its bytes: it is a workload to be timed, and the stored run
+/// compares what is read of it.
 pub fn file_of(alloc: Global, kind: &str, size: usize) -> Result<Vec<u8>, AllocError> {
     match kind {
         "brackets" => repeated(alloc, "", b"[", size),
@@ -75,8 +76,9 @@ fn repeated(alloc: Global, front: &str, piece: &[u8], size: usize) -> Result<Vec
 
 /// What a file gives, read as often as the rounds say; `None` for no round.
 ///
-/// Each round reads 1 MiB and holds all games until it ends, so that files of every size take as much memory.
-/// No clause pins the outcome: what a file gives is the contract of `games`, and the stored run compares it.
+/// Each round reads 1 MiB and holds all games until it ends, so that files of every size take as
+/// much memory. No clause pins the outcome: what a file gives is the contract of `games`, and the
+/// stored run compares it.
 pub fn last_outcome(alloc: Global, file: &[u8], rounds: u64) -> Result<Option<Outcome>, TextFault> {
     let mut last = None;
     for _ in 0..rounds {

@@ -11,7 +11,8 @@ use plans::plan_of_lines;
 use std::env;
 use workload::{is_read_back, line_count, read_often, write_often};
 
-/// The arguments: `write` or `read`, how many lines the plan has, and how many rounds of 100,000 lines.
+/// The arguments: `write` or `read`, how many lines the plan has, and how many rounds of 100,000
+/// lines.
 fn main(rt: HostRuntime) -> anyhow::Result<()> {
     let mut reads = false;
     let mut numbers = [0u64; 2];

@@ -1,4 +1,5 @@
-//! Wide plans: declarer's side and the defenders in turn, with a reply to each of the 52 cards while lines are left.
+//! Wide plans: declarer's side and the defenders in turn, with a reply to each of the 52 cards
+//! while lines are left.
 use card_sets::Card;
 use std::alloc::{AllocError, Global};
 use strategy_tree::{Plan, Reply};

@@ -3,7 +3,8 @@ use byte_text::Text;
 use std::alloc::{AllocError, Global};
 use strategy_tree::{Plan, read_plan};
 
-// Each round holds what it writes or reads until it ends, so that plans of every length take as much memory.
+// Each round holds what it writes or reads until it ends, so that plans of every length take as
+// much memory.
 const LINES_A_ROUND: u64 = 100_000;
 
 /// How many lines a text has.
@@ -64,8 +65,8 @@ pub fn read_often(alloc: Global, text: &Text, rounds: u64) -> Result<u64, AllocE
     Ok(count)
 }
 
-/// Whether the text is read as a plan that is written as the same text.
-/// No clause pins the answer: that it is `true` is a law of `strategy_tree`, and the script stops where it isn't.
+/// Whether the text is read as a plan that is written as the same text. No clause pins the answer:
+/// that it is `true` is a law of `strategy_tree`, and the script stops where it isn't.
 pub fn is_read_back(alloc: Global, text: &Text) -> Result<bool, AllocError> {
     let Ok((plan, _)) = read_plan(alloc, text.bytes(), 0) else {
         return Ok(false);

@@ -43,7 +43,8 @@ fn word_len(text: &[u8]) -> usize
 
 /// The first word of a text and what follows it; `None` for a text of blanks alone.
 pub fn first_word(text: &[u8]) -> Option<(&[u8], &[u8])>
-    ensures { MatchOption result (words text.now ≡ []) (λ found. words text.now ≡ found.0.now ∷ words found.1.now) }
+    ensures { MatchOption result (words text.now ≡ [])
+        (λ found. words text.now ≡ found.0.now ∷ words found.1.now) }
 {
     let start = skip_blanks(text);
     if start.is_empty() {

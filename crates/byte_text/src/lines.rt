@@ -19,7 +19,8 @@ fn line_end(text: &[u8]) -> Option<usize>
     text.iter().position(|byte| *byte == b'\n')
 }
 
-/// The line that begins at a place, without its end; `None` where the text ends before the line does.
+/// The line that begins at a place, without its end; `None` where the text ends before the line
+/// does.
 pub fn line_at(bytes: &[u8], at: usize) -> Option<&[u8]>
     requires { at ≤ length bytes.now }
     ensures value { option_copied result ≡ line_at bytes.now at }
@@ -33,7 +34,8 @@ pub fn line_at(bytes: &[u8], at: usize) -> Option<&[u8]>
 pub fn split_line(text: &[u8]) -> (&[u8], Option<&[u8]>)
     ensures line { MatchOption result.1
         (slice_split is_line_end text.now ≡ result.0.now ∷ [])
-        (λ rest. slice_split is_line_end text.now ≡ result.0.now ∷ slice_split is_line_end rest.now) }
+        (λ rest. slice_split is_line_end text.now
+        ≡ result.0.now ∷ slice_split is_line_end rest.now) }
     ensures shorter { MatchOption result.1 (length result.0.now ≡ length text.now)
         (λ rest. length rest.now < length text.now) }
 {

@@ -46,7 +46,8 @@ impl Text {
         self.content.extend_from_slice(piece)
     }
 
-    /// Adds a number in decimal digits, without leading zeros. Where memory is refused, the text is unchanged.
+    /// Adds a number in decimal digits, without leading zeros. Where memory is refused, the text is
+    /// unchanged.
     pub fn push_number(&mut self, alloc: Global, number: u64) -> Result<(), AllocError>
         ensures appended { OnOk result (self.new ≡ self.old ++ decimal number) }
         ensures unchanged { OnErr result (self.new ≡ self.old) }

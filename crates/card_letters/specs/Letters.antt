@@ -25,8 +25,8 @@ compass_letter S = 83
 compass_letter W = 87
 
 -- a card: its suit and its rank
-abbrev pub card_text : ℕ → List ℕ
-card_text card = suit_letter (suit_of card) ∷ rank_letter (rank_of card) ∷ []
+abbrev pub letters_of : ℕ → List ℕ
+letters_of card = suit_letter (suit_of card) ∷ rank_letter (rank_of card) ∷ []
 
 -- a letter in upper or lower case
 abbrev pub is_letter : ℕ → ℕ → Bool

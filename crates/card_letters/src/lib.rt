@@ -8,7 +8,7 @@ ghost use Rattle.card_letters.specs.Letters.{
   suit_letter,
   rank_letter,
   compass_letter,
-  card_text,
+  letters_of,
   suit_read,
   rank_read,
   compass_read,
@@ -59,8 +59,8 @@ pub fn compass_letter(compass: Compass) -> u8
 }
 
 /// A card's two letters: its suit, then its rank.
-pub fn card_text(card: Card) -> [u8; 2]
-    ensures { result ≡ card_text card }
+pub fn letters_of(card: Card) -> [u8; 2]
+    ensures { result ≡ letters_of card }
 {
     [suit_letter(card.suit()), rank_letter(card.rank())]
 }

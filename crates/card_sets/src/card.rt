@@ -18,7 +18,8 @@ impl Suit {
     pub const ALL: [Suit; 4] = [Suit::Spades, Suit::Hearts, Suit::Diamonds, Suit::Clubs];
 }
 
-/// `Suit::ALL` has each suit at its place in card order. The call does nothing: its contract is the law.
+/// `Suit::ALL` has each suit at its place in card order. The call does nothing: its contract is the
+/// law.
 pub fn suits_are_in_card_order()
     ensures { map suit_place Suit.ALL ≡ 0 ∷ 1 ∷ 2 ∷ 3 ∷ [] }
 {}
@@ -61,7 +62,8 @@ impl Rank {
     }
 }
 
-/// A card, ordered as cards are listed: spades, hearts, diamonds, clubs, and 2 to the ace within a suit.
+/// A card, ordered as cards are listed: spades, hearts, diamonds, clubs, and 2 to the ace within a
+/// suit.
 #[derive(Clone, Copy, Debug, Default, PartialEq, Eq, PartialOrd, Ord, Hash)]
 pub struct Card {
     number: u8,

@@ -29,7 +29,8 @@ impl Model for CardSet {
 
     ghost inverse = { λ cards. record { bits = number_at cards } };
 
-    ghost inverse_ok = { λ cards fits. ap (λ n. record { bits = n }) (number_at-places 52 cards.bits fits) };
+    ghost inverse_ok = { λ cards fits. ap
+        (λ n. record { bits = n }) (number_at-places 52 cards.bits fits) };
 }
 
 /// The ones of the thirteen spades.
@@ -107,7 +108,8 @@ impl Hash for CardSet {
 
     ghost hash_input = { λ cards. fed.u64 (number_at cards) };
 
-    ghost respects_eq = { λ these those same. ap (λ cards. fed.u64 (number_at cards)) ((bytes_eq-Decides these those).0 same) };
+    ghost respects_eq = { λ these those same. ap
+        (λ cards. fed.u64 (number_at cards)) ((bytes_eq-Decides these those).0 same) };
 
     fn hash<H: Hasher>(&self, state: &mut H) {
         state.write_u64(self.bits);
@@ -193,7 +195,8 @@ impl CardSet {
         lowest(self.bits)
     }
 
-    /// The first card of the set that comes after this card in card order: `None` exactly where there is none.
+    /// The first card of the set that comes after this card in card order: `None` exactly where
+    /// there is none.
     pub fn after(self, card: Card) -> Option<Card>
         ensures value { result ≡ next_card self card }
         ensures a_set { IsCardSet self }
@@ -249,7 +252,8 @@ impl CardSet {
 
     /// Takes out the first card in card order: `None` exactly where the set was empty.
     pub fn pop_first(&mut self) -> Option<Card>
-        ensures value { MatchOption result ((self.old ≡ []) × (self.new ≡ [])) (λ card. self.old ≡ card ∷ self.new) }
+        ensures value { MatchOption result ((self.old ≡ []) × (self.new ≡ []))
+            (λ card. self.old ≡ card ∷ self.new) }
         ensures a_set { IsCardSet self.old }
     {
         let card = self.first()?;

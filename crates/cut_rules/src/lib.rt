@@ -60,7 +60,8 @@ impl CutRules {
     }
 }
 
-/// Whether alpha covers each vector of an upper bound, so that what lies below the bound adds nothing to alpha.
+/// Whether alpha covers each vector of an upper bound, so that what lies below the bound adds
+/// nothing to alpha.
 pub fn cut(upper: &Front, alpha: &Front) -> bool
     requires { alpha.now.width ≡ upper.now.width }
     ensures { IsTrue result ↔ CoversAll alpha.now.vectors upper.now.vectors }

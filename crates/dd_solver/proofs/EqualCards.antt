@@ -7,7 +7,7 @@ use Rattle.card_sets.specs.declared.seat.Seat.{Seat}
 use Rattle.card_sets.specs.declared.seat.Seat.TheVariants.{Declarer, Left, Dummy, Right}
 use Rattle.card_sets.specs.Cards.{suit_of}
 use Rattle.card_sets.specs.SetWords.{has_card}
-use Rattle.trick_rules.specs.Table.{State, seat_after, to_play, IsState}
+use Rattle.trick_rules.specs.Positions.{State, seat_after, to_play, IsState}
 use Rattle.trick_rules.specs.Play.{hand_of, legal_in, after, after_card, is_over, is_declarers, cards_left, makes}
 use Rattle.trick_rules.proofs.CardLists.{list_any-from_card, card_from_list_any, list_all-from_cards, cards_from_list_all}
 use Rattle.trick_rules.proofs.Soundness.{Apart-sym, held_low}
@@ -53,12 +53,12 @@ all_renamed a b p q old new r same =
 -- ---- one state and the other, card after card
 
 module _ (a b : ℕ) (suit : suit_of a ≡ suit_of b) (order : a < b) (low : b < 52) where
-  makes-mirrored : (n : ℕ) (s m : State) → IsState s → IsState m → Mirrored a b s m → Follows a b s → cards_left s.table < n → makes m ≡ makes s
+  makes-mirrored : (n : ℕ) (s m : State) → IsState s → IsState m → Mirrored a b s m → Follows a b s → cards_left s.position < n → makes m ≡ makes s
   makes-mirrored zero s m ok mok r f few = absurd (omega arith)
   makes-mirrored (suc n) s m ok mok r f few =
-      let over : is_over m.table ≡ is_over s.table = ap {B = Bool} (λ k. eqb k 0) r.tricks in
-      let turn : is_declarers (to_play m.table) ≡ is_declarers (to_play s.table) = ap is_declarers (turn-mirrored a b s m r) in
-      elim (cases_Bool (is_over s.table)) as (λ _. makes m ≡ makes s) [
+      let over : is_over m.position ≡ is_over s.position = ap {B = Bool} (λ k. eqb k 0) r.tricks in
+      let turn : is_declarers (to_play m.position) ≡ is_declarers (to_play s.position) = ap is_declarers (turn-mirrored a b s m r) in
+      elim (cases_Bool (is_over s.position)) as (λ _. makes m ≡ makes s) [
         | inl e ↦ makes_at_the_end m (over ∙ e) ∙ ap {B = Bool} (λ k. eqb k 0) r.need ∙ sym (makes_at_the_end s e)
         | inr e ↦
             (let each : (c : ℕ) → has_card (legal_in s) c ≡ true → makes (after m (swap a b c)) ≡ makes (after s c) = λ c k.
@@ -67,9 +67,9 @@ module _ (a b : ℕ) (suit : suit_of a ≡ suit_of b) (order : a < b) (low : b <
             let mcan = legal_can_play m mok (swap a b c) mk in
             makes-mirrored n (after s c) (after m (swap a b c)) (after-IsState s ok c k) (after-IsState m mok (swap a b c) mk)
             (mirrored-after a b suit order low s m ok mok r c can mcan f.none (follows-with_card a b s ok f c k)) (follows-after a b s ok f c k)
-            (omega (arith, cards_left-after s.table c ok.sound can))) in
+            (omega (arith, cards_left-after s.position c ok.sound can))) in
             let legal = legal-mirrored a b suit s m r in
-            elim (cases_Bool (is_declarers (to_play s.table))) as (λ _. makes m ≡ makes s) [
+            elim (cases_Bool (is_declarers (to_play s.position))) as (λ _. makes m ≡ makes s) [
               | inl ours ↦ makes_by_some_card m mok (over ∙ e) (turn ∙ ours)
                   ∙ any_renamed a b (λ c. makes (after s c)) (λ c. makes (after m c)) (legal_in s) (legal_in m) legal each
                   ∙ sym (makes_by_some_card s ok e ours)
@@ -96,13 +96,13 @@ map-self a b (x ∷ xs) no_a no_b =
     rw (swap-other a b x (eqb-false x a pa.0) (eqb-false x b pb.0), ← map-self a b xs pa.1 pb.1) refl
 
 module _ (s : State) (ok : IsState s) where
-  in_declarer : (seat : Seat) (a b : ℕ) → has_card (hand_of s seat) a ≡ true → has_card (hand_of s seat) b ≡ true → has_card s.table.declarer a ≡ has_card s.table.declarer b
+  in_declarer : (seat : Seat) (a b : ℕ) → has_card (hand_of s seat) a ≡ true → has_card (hand_of s seat) b ≡ true → has_card s.position.declarer a ≡ has_card s.position.declarer b
   in_declarer Declarer a b ha hb = ha ∙ sym hb
   in_declarer Left a b ha hb = hands_are_apart s Left Declarer ok (λ e. cc) a ha ∙ sym (hands_are_apart s Left Declarer ok (λ e. cc) b hb)
   in_declarer Dummy a b ha hb = hands_are_apart s Dummy Declarer ok (λ e. cc) a ha ∙ sym (hands_are_apart s Dummy Declarer ok (λ e. cc) b hb)
   in_declarer Right a b ha hb = hands_are_apart s Right Declarer ok (λ e. cc) a ha ∙ sym (hands_are_apart s Right Declarer ok (λ e. cc) b hb)
 
-  in_dummy : (seat : Seat) (a b : ℕ) → has_card (hand_of s seat) a ≡ true → has_card (hand_of s seat) b ≡ true → has_card s.table.dummy a ≡ has_card s.table.dummy b
+  in_dummy : (seat : Seat) (a b : ℕ) → has_card (hand_of s seat) a ≡ true → has_card (hand_of s seat) b ≡ true → has_card s.position.dummy a ≡ has_card s.position.dummy b
   in_dummy Declarer a b ha hb = hands_are_apart s Declarer Dummy ok (λ e. cc) a ha ∙ sym (hands_are_apart s Declarer Dummy ok (λ e. cc) b hb)
   in_dummy Left a b ha hb = hands_are_apart s Left Dummy ok (λ e. cc) a ha ∙ sym (hands_are_apart s Left Dummy ok (λ e. cc) b hb)
   in_dummy Dummy a b ha hb = ha ∙ sym hb
@@ -114,24 +114,24 @@ module _ (s : State) (ok : IsState s) where
   in_left Dummy a b ha hb = hands_are_apart s Dummy Left ok (λ e. cc) a ha ∙ sym (hands_are_apart s Dummy Left ok (λ e. cc) b hb)
   in_left Right a b ha hb = right_of-not_left s a ha ∙ sym (right_of-not_left s b hb)
 
-  in_unseen : (seat : Seat) (a b : ℕ) → has_card (hand_of s seat) a ≡ true → has_card (hand_of s seat) b ≡ true → has_card s.table.unseen a ≡ has_card s.table.unseen b
+  in_unseen : (seat : Seat) (a b : ℕ) → has_card (hand_of s seat) a ≡ true → has_card (hand_of s seat) b ≡ true → has_card s.position.unseen a ≡ has_card s.position.unseen b
   in_unseen Declarer a b ha hb = ok.sound.declarer_unseen a ha ∙ sym (ok.sound.declarer_unseen b hb)
   in_unseen Left a b ha hb = ok.fits.part a ha ∙ sym (ok.fits.part b hb)
   in_unseen Dummy a b ha hb = ok.sound.dummy_unseen a ha ∙ sym (ok.sound.dummy_unseen b hb)
   in_unseen Right a b ha hb = right_of-low s a ha ∙ sym (right_of-low s b hb)
 
   -- a card of a hand is not in the trick
-  not_in_trick : (seat : Seat) (c : ℕ) → has_card (hand_of s seat) c ≡ true → has_card s.table.trick.cards c ≡ false
-  not_in_trick seat c h = Apart-sym s.table.trick.cards (hand_of s seat) (the_trick_is_not_held s seat ok) c h
+  not_in_trick : (seat : Seat) (c : ℕ) → has_card (hand_of s seat) c ≡ true → has_card s.position.trick.cards c ≡ false
+  not_in_trick seat c h = Apart-sym s.position.trick.cards (hand_of s seat) (the_trick_is_not_held s seat ok) c h
 
   mirrored-self : (seat : Seat) (a b : ℕ) → has_card (hand_of s seat) a ≡ true → has_card (hand_of s seat) b ≡ true → Mirrored a b s s
   mirrored-self seat a b ha hb = record {
-    declarer = renamed-self a b s.table.declarer (in_declarer seat a b ha hb);
-    dummy = renamed-self a b s.table.dummy (in_dummy seat a b ha hb);
-    unseen = renamed-self a b s.table.unseen (in_unseen seat a b ha hb);
+    declarer = renamed-self a b s.position.declarer (in_declarer seat a b ha hb);
+    dummy = renamed-self a b s.position.dummy (in_dummy seat a b ha hb);
+    unseen = renamed-self a b s.position.unseen (in_unseen seat a b ha hb);
     left = renamed-self a b s.left (in_left seat a b ha hb);
     leader = refl;
-    cards = map-self a b s.table.trick.cards (not_in_trick seat a ha) (not_in_trick seat b hb);
+    cards = map-self a b s.position.trick.cards (not_in_trick seat a ha) (not_in_trick seat b hb);
     need = refl;
     trump = refl;
     tricks = refl;
@@ -154,25 +154,25 @@ turns_differ Right (suc (suc zero)) h e = cc
 turns_differ seat (suc (suc (suc k))) h e = absurd (omega arith)
 
 module _ (s : State) (ok : IsState s) (a b : ℕ) (eq : AreEqual s a b) where
-  held_a : has_card (hand_of s (to_play s.table)) a ≡ true
-  held_a = legal_cards-low s.table.trick.cards (hand_of s (to_play s.table)) a eq.low_legal
+  held_a : has_card (hand_of s (to_play s.position)) a ≡ true
+  held_a = legal_cards-low s.position.trick.cards (hand_of s (to_play s.position)) a eq.low_legal
 
-  held_b : has_card (hand_of s (to_play s.table)) b ≡ true
-  held_b = legal_cards-low s.table.trick.cards (hand_of s (to_play s.table)) b eq.high_legal
+  held_b : has_card (hand_of s (to_play s.position)) b ≡ true
+  held_b = legal_cards-low s.position.trick.cards (hand_of s (to_play s.position)) b eq.high_legal
 
-  one_start : has_card (with_card s.table a) b ≡ false
-  one_start = with_card-absent s.table a b (not_in_trick s ok (to_play s.table) b held_b) (λ e. let o = eq.order in omega arith)
+  one_start : has_card (with_card s.position a) b ≡ false
+  one_start = with_card-absent s.position a b (not_in_trick s ok (to_play s.position) b held_b) (λ e. let o = eq.order in omega arith)
 
   follows-start : Follows a b (after s a)
   follows-start = record {
     gone = hand-gone s a;
-    none = λ d low high. absent-after s.table a d (legal_can_play s ok a eq.low_legal) (eq.between d low high);
+    none = λ d low high. absent-after s.position a d (legal_can_play s ok a eq.low_legal) (eq.between d low high);
     one = trick-after-short s a (λ u. has_card u.trick.cards a ≡ true → has_card u.trick.cards b ≡ false) ok.sound (λ _ _. one_start) (λ _ h. absurd (false≢true h));
     later = trick-after-short s a
         (λ u. has_card u.trick.cards a ≡ true → (k : ℕ) → length u.trick.cards + k < 4 → has_card (hand_of (after s a) (seat_after k (to_play u))) b ≡ false) ok.sound
-        (λ _ h k low. rw (turn-put s.table a k)
-        (hand-after s a (seat_after (suc k) (to_play s.table)) b
-        (hands_are_apart s (to_play s.table) (seat_after (suc k) (to_play s.table)) ok (turns_differ (to_play s.table) k (omega (arith, low, length_push s.table.trick.cards a))) b held_b)))
+        (λ _ h k low. rw (turn-put s.position a k)
+        (hand-after s a (seat_after (suc k) (to_play s.position)) b
+        (hands_are_apart s (to_play s.position) (seat_after (suc k) (to_play s.position)) ok (turns_differ (to_play s.position) k (omega (arith, low, length_push s.position.trick.cards a))) b held_b)))
         (λ _ h. absurd (false≢true h));
   }
 
@@ -180,13 +180,13 @@ module _ (s : State) (ok : IsState s) (a b : ℕ) (eq : AreEqual s a b) where
   mirrored-start low =
       let can_a = legal_can_play s ok a eq.low_legal in
       let can_b = legal_can_play s ok b eq.high_legal in
-      let r = mirrored-after a b eq.suit eq.order low s s ok ok (mirrored-self s ok (to_play s.table) a b held_a held_b) a can_a (rw (swap-first a b) can_b) eq.between (λ _. one_start) in
+      let r = mirrored-after a b eq.suit eq.order low s s ok ok (mirrored-self s ok (to_play s.position) a b held_a held_b) a can_a (rw (swap-first a b) can_b) eq.between (λ _. one_start) in
       rw (swap-first a b) at r
 
 -- equal cards win the same
 pub equal_cards_win_the_same : (s : State) (low high : ℕ) → IsState s → AreEqual s low high → makes (after s high) ≡ makes (after s low)
 equal_cards_win_the_same s low high ok eq =
-    let fits = held_low s.table ok.sound high (to_play s.table) (legal_can_play s ok high eq.high_legal) in
-    makes-mirrored low high eq.suit eq.order fits (suc (cards_left (after_card s.table low))) (after s low) (after s high)
+    let fits = held_low s.position ok.sound high (to_play s.position) (legal_can_play s ok high eq.high_legal) in
+    makes-mirrored low high eq.suit eq.order fits (suc (cards_left (after_card s.position low))) (after s low) (after s high)
     (after-IsState s ok low eq.low_legal) (after-IsState s ok high eq.high_legal)
     (mirrored-start s ok low high eq fits) (follows-start s ok low high eq) (omega arith)

@@ -5,7 +5,7 @@ use Rattle.std.proofs.lemmas.List.{take_more, take_all}
 use Rattle.std.proofs.lemmas.Grind.{get_or_default_zero}
 use Rattle.card_sets.specs.SetWords.{has_card, cards_where, IsSubset}
 use Rattle.card_sets.proofs.Sets.{IsCardSet-nil, has_card-cards_where, cards_where-agree, has_card-push}
-use Rattle.trick_rules.specs.Table.{Table, State, to_play, IsState}
+use Rattle.trick_rules.specs.Positions.{PositionValue, State, to_play, IsState}
 use Rattle.trick_rules.specs.Play.{after, makes, legal_in, take_out}
 use Rattle.trick_rules.proofs.CardLists.{has_card-take_out, list_any-from_card, list_all-from_cards, card_from_list_any, cards_from_list_all}
 use Rattle.trick_rules.proofs.Soundness.{held_low}
@@ -43,7 +43,7 @@ first-more xs cards n card within is e =
 pub first-all : (xs cards : List ℕ) (n : ℕ) → length xs ≤ n → cards ≡ first_of n xs → cards ≡ cards_where (has_card xs)
 first-all xs cards n long e = e ∙ ap (λ ys. cards_where (has_card ys)) (take_all n xs long)
 
-pub all_in_play : (t : Table) (ours held played all : List ℕ) → ours ≡ cards_where (λ c. has_card t.declarer c || has_card t.dummy c) → held ≡ cards_where (λ c. has_card ours c || has_card t.unseen c)
+pub all_in_play : (t : PositionValue) (ours held played all : List ℕ) → ours ≡ cards_where (λ c. has_card t.declarer c || has_card t.dummy c) → held ≡ cards_where (λ c. has_card ours c || has_card t.unseen c)
     → played ≡ cards_where (has_card t.trick.cards) → all ≡ cards_where (λ c. has_card held c || has_card played c) → all ≡ cards_where (in_play t)
 all_in_play t ours held played all a b d e =
     e ∙ cards_where-agree (λ c. has_card held c || has_card played c) (in_play t) (λ c low.
@@ -54,17 +54,17 @@ all_in_play t ours held played all a b d e =
 
 -- ---- equal cards
 
-pub next_is_equal : (s : State) (legal playing : List ℕ) (card next : ℕ) → IsState s → legal ≡ legal_in s → playing ≡ cards_where (in_play s.table) → has_card (legal_in s) card ≡ true
+pub next_is_equal : (s : State) (legal playing : List ℕ) (card next : ℕ) → IsState s → legal ≡ legal_in s → playing ≡ cards_where (in_play s.position) → has_card (legal_in s) card ≡ true
     → IsNextEqual legal playing card next → AreEqual s card next
 next_is_equal s legal playing card next ok e p legal_card h =
     let legal_next : has_card (legal_in s) next ≡ true = sym (ap (λ x. has_card x next) e) ∙ h.legal_too in
-    let low = held_low s.table ok.sound next (to_play s.table) (legal_can_play s ok next legal_next) in
+    let low = held_low s.position ok.sound next (to_play s.position) (legal_can_play s ok next legal_next) in
     record {
       low_legal = legal_card;
       high_legal = legal_next;
       suit = h.suit;
       order = h.order;
-      between = λ other above below. sym (ap (λ x. has_card x other) p ∙ has_card-cards_where (in_play s.table) other (omega arith)) ∙ h.between other above below;
+      between = λ other above below. sym (ap (λ x. has_card x other) p ∙ has_card-cards_where (in_play s.position) other (omega arith)) ∙ h.between other above below;
     }
 
 -- each legal card that isn't kept has a lower one that makes the same

@@ -6,11 +6,11 @@ use Rattle.std.proofs.Math.Bool.{beq}
 use Rattle.card_sets.specs.SetWords.{has_card, IsSubset}
 use Rattle.dd_solver.specs.Choices.{choice_makes}
 use Rattle.trick_rules.proofs.CardLists.{first_has, or_true, list_any-from_card, card_from_list_any, list_all-from_cards, cards_from_list_all}
-use Rattle.trick_rules.specs.Table.{State, to_play, IsState}
+use Rattle.trick_rules.specs.Positions.{State, to_play, IsState}
 use Rattle.trick_rules.specs.Play.{after, is_over, is_declarers, legal_in, makes}
 use Rattle.trick_rules.proofs.PlayLaws.{makes_by_some_card, makes_against_each_card}
 
-pub choice-legal : (s : State) (ours : Bool) → IsState s → is_over s.table ≡ false → is_declarers (to_play s.table) ≡ ours → makes s ≡ choice_makes ours s (legal_in s)
+pub choice-legal : (s : State) (ours : Bool) → IsState s → is_over s.position ≡ false → is_declarers (to_play s.position) ≡ ours → makes s ≡ choice_makes ours s (legal_in s)
 choice-legal s true ok left turn = makes_by_some_card s ok left turn
 choice-legal s false ok left turn = makes_against_each_card s ok left turn
 

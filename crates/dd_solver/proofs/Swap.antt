@@ -9,7 +9,7 @@ use Rattle.card_sets.specs.SetWords.{has_card}
 use Rattle.card_sets.proofs.Suits.{card_of-suit_of, same_suit-true}
 use Rattle.trick_rules.specs.declared.trump.Trump.{Trump}
 use Rattle.trick_rules.specs.declared.trump.Trump.TheVariants.{NoTrump, Suit as Suited}
-use Rattle.trick_rules.specs.Table.{seat_after}
+use Rattle.trick_rules.specs.Positions.{seat_after}
 use Rattle.trick_rules.specs.Play.{is_trump, beats, IsWonBy, winner_of}
 use Rattle.trick_rules.proofs.CardLists.{or_true, first_has}
 use Rattle.trick_rules.proofs.TrickLemmas.{one_winner}

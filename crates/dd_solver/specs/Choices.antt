@@ -1,7 +1,7 @@
 -- What a choice of cards comes to.
 use Rattle.std.specs.Prelude.{ℕ, Bool, List, if◌then◌else◌}
 use Rattle.std.specs.List.{list_any, list_all}
-use Rattle.trick_rules.specs.Table.{State}
+use Rattle.trick_rules.specs.Positions.{State}
 use Rattle.trick_rules.specs.Play.{after, makes}
 
 -- whether declarer's side makes where the seat to play chooses among these cards: it plays for itself at its own turn (`ours`),

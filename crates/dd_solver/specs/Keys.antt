@@ -1,7 +1,7 @@
 -- What an entry of the memo is of.
-use Rattle.trick_rules.specs.Table.{State, table_between_tricks}
+use Rattle.trick_rules.specs.Positions.{State, position_between_tricks}
 use Rattle.dd_solver.specs.declared.memo.Key.{Key}
 
 -- the position between two tricks with this leader, and Left's hand
 abbrev pub key_state : Key → State
-key_state key = record { table = table_between_tricks key.declarer key.dummy key.unseen key.leader key.need key.trump; left = key.left }
+key_state key = record { position = position_between_tricks key.declarer key.dummy key.unseen key.leader key.need key.trump; left = key.left }

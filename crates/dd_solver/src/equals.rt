@@ -1,7 +1,7 @@
 //! Of equal cards only one is tried.
 ghost use Rattle.std.specs.Prelude.{◌≡◌, Bool, IfSome};
 ghost use Rattle.card_sets.specs.SetWords.{has_card, IsSubset, cards_where};
-ghost use Rattle.trick_rules.specs.Table.{IsState};
+ghost use Rattle.trick_rules.specs.Positions.{IsState};
 ghost use Rattle.trick_rules.specs.Play.{legal_in};
 ghost use Rattle.dd_solver.specs.Choices.{choice_makes};
 ghost use Rattle.dd_solver.specs.Equals.{in_play, IsNextEqual};
@@ -44,10 +44,12 @@ fn next_equal(legal: CardSet, playing: CardSet, card: Card) -> Option<Card>
 
 /// The legal cards, of equal cards only the first in card order.
 pub(crate) fn one_of_equals(position: &Position, left: CardSet) -> CardSet
-    requires { IsState (record { table = position.now; left = left }) }
-    ensures legal { IsSubset result (legal_in (record { table = position.now; left = left })) }
-    ensures answer { (ours : Bool) → choice_makes ours (record { table = position.now; left = left }) result
-        ≡ choice_makes ours (record { table = position.now; left = left }) (legal_in (record { table = position.now; left = left })) }
+    requires { IsState (record { position = position.now; left = left }) }
+    ensures legal { IsSubset result (legal_in (record { position = position.now; left = left })) }
+    ensures answer { (ours : Bool)
+        → choice_makes ours (record { position = position.now; left = left }) result
+        ≡ choice_makes ours (record { position = position.now; left = left })
+        (legal_in (record { position = position.now; left = left })) }
 {
     let legal = position.legal_in(left);
     if legal.count() < 2 {

@@ -29,7 +29,7 @@ struct Key {
 impl Key {
     fn of(position: &Position, left: CardSet) -> Key
         requires { position.now.trick.cards ≡ [] }
-        ensures { key_state result ≡ record { table = position.now; left = left } }
+        ensures { key_state result ≡ record { position = position.now; left = left } }
     {
         Key {
             declarer: position.declarer,
@@ -137,7 +137,8 @@ impl Memo {
     /// What double dummy answers, where the memo holds it.
     pub(crate) fn look(&self, position: &Position, left: CardSet) -> Option<bool>
         requires { position.now.trick.cards ≡ [] }
-        ensures { IfSome result (λ made. makes (record { table = position.now; left = left }) ≡ made) }
+        ensures { IfSome result
+            (λ made. makes (record { position = position.now; left = left }) ≡ made) }
     {
         if self.slots.is_empty() {
             return None;
@@ -154,7 +155,7 @@ impl Memo {
     /// Puts an answer in. Where there is no memory for it, nothing is put in.
     pub(crate) fn keep(&mut self, position: &Position, left: CardSet, made: bool)
         requires between { position.now.trick.cards ≡ [] }
-        requires known { makes (record { table = position.now; left = left }) ≡ made }
+        requires known { makes (record { position = position.now; left = left }) ≡ made }
     {
         if self.stored >= self.slots.len() / 2 && self.slots.len() < MOST_ENTRIES {
             self.grow();

@@ -21,7 +21,8 @@ impl Strain {
         }
     }
 
-    // Whether a hand that follows suit where it can has a card that beats the best card of the trick so far.
+    // Whether a hand that follows suit where it can has a card that beats the best card of the
+    // trick so far.
     fn can_beat(self, hand: CardSet, best: Card) -> bool {
         let following = hand.of_suit(self.led);
         if !following.is_empty() {
@@ -53,7 +54,8 @@ fn highest(cards: CardSet) -> Option<Card> {
     best
 }
 
-/// The hands of the opponents that play to the trick after the seat to play, and of its partner if it does.
+/// The hands of the opponents that play to the trick after the seat to play, and of its partner if
+/// it does.
 #[derive(Drop)]
 struct Ahead {
     next: CardSet,
@@ -117,7 +119,8 @@ fn winning_leads(trump: Trump, ahead: &Ahead, cards: CardSet) -> CardSet {
     winning
 }
 
-// Of the cards that beat the best card so far, those that the opponents cannot beat, if there are any.
+// Of the cards that beat the best card so far, those that the opponents cannot beat, if there are
+// any.
 fn winning_plays(strain: Strain, ahead: &Ahead, best: Card, cards: CardSet) -> CardSet {
     let mut beating = CardSet::empty();
     let mut winning = CardSet::empty();
@@ -132,8 +135,8 @@ fn winning_plays(strain: Strain, ahead: &Ahead, best: Card, cards: CardSet) -> C
     if winning.is_empty() { beating } else { winning }
 }
 
-/// The cards to try first: those that most often win the trick. Where the partner wins it there are none, unless there is
-/// no choice.
+/// The cards to try first: those that most often win the trick. Where the partner wins it there are
+/// none, unless there is no choice.
 pub(crate) fn likely(position: &Position, left: CardSet, cards: CardSet) -> CardSet
     ensures { IsSubset result cards }
 {

@@ -1,6 +1,6 @@
 //! Plain minimax, the program beside which every faster one stands.
 ghost use Rattle.std.specs.Prelude.{◌≡◌};
-ghost use Rattle.trick_rules.specs.Table.{FitsLeft};
+ghost use Rattle.trick_rules.specs.Positions.{FitsLeft};
 ghost use Rattle.trick_rules.specs.Play.{makes};
 
 use card_sets::CardSet;
@@ -8,10 +8,11 @@ use trick_rules::{Position, play};
 
 /// Whether declarer's side takes the need where Left holds these cards, with all cards seen by all.
 ///
-/// Each legal card is played to the end, in card order, until one settles the answer. It takes no memory.
+/// Each legal card is played to the end, in card order, until one settles the answer. It takes no
+/// memory.
 pub fn makes_plain(position: &Position, left: CardSet) -> bool
     requires { FitsLeft position.now left }
-    ensures { result ≡ makes (record { table = position.now; left = left }) }
+    ensures { result ≡ makes (record { position = position.now; left = left }) }
 {
     if position.over() {
         return position.need == 0;

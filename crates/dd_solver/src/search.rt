@@ -1,7 +1,7 @@
 //! Double dummy with the cards that most often settle it tried first, and with a memo.
 ghost use Rattle.std.specs.Prelude.{◌≡◌, None};
 ghost use Rattle.card_sets.specs.SetWords.{IsSubset};
-ghost use Rattle.trick_rules.specs.Table.{FitsLeft, IsState, to_play};
+ghost use Rattle.trick_rules.specs.Positions.{FitsLeft, IsState, to_play};
 ghost use Rattle.trick_rules.specs.Play.{decided, is_declarers, legal_in, makes};
 ghost use Rattle.dd_solver.specs.Choices.{choice_makes};
 
@@ -15,7 +15,7 @@ use trick_rules::{Position, play};
 #[cycle(search)]
 pub(crate) fn search(memo: &mut Memo, position: &Position, left: CardSet) -> bool
     requires { FitsLeft position.now left }
-    ensures { result ≡ makes (record { table = position.now; left = left }) }
+    ensures { result ≡ makes (record { position = position.now; left = left }) }
 {
     let between = position.trick.cards.is_empty();
     if let Some(made) = position.decided() {
@@ -36,9 +36,9 @@ pub(crate) fn search(memo: &mut Memo, position: &Position, left: CardSet) -> boo
 // The same, where the result is open.
 #[cycle(search)]
 fn search_cards(memo: &mut Memo, position: &Position, left: CardSet) -> bool
-    requires state { IsState (record { table = position.now; left = left }) }
+    requires state { IsState (record { position = position.now; left = left }) }
     requires open { decided position.now ≡ None }
-    ensures { result ≡ makes (record { table = position.now; left = left }) }
+    ensures { result ≡ makes (record { position = position.now; left = left }) }
 {
     let ours = position.is_ours();
     let cards = one_of_equals(position, left);
@@ -49,12 +49,13 @@ fn search_cards(memo: &mut Memo, position: &Position, left: CardSet) -> bool
     best_of(memo, position, left, cards.minus(early), ours)
 }
 
-// Whether declarer's side makes where the seat to play, which is `ours` or a defender, chooses among these cards.
+// Whether declarer's side makes where the seat to play, which is `ours` or a defender, chooses
+// among these cards.
 #[cycle(search)]
 fn best_of(memo: &mut Memo, position: &Position, left: CardSet, cards: CardSet, ours: bool) -> bool
-    requires state { IsState (record { table = position.now; left = left }) }
-    requires legal { IsSubset cards (legal_in (record { table = position.now; left = left })) }
-    ensures { result ≡ choice_makes ours (record { table = position.now; left = left }) cards }
+    requires state { IsState (record { position = position.now; left = left }) }
+    requires legal { IsSubset cards (legal_in (record { position = position.now; left = left })) }
+    ensures { result ≡ choice_makes ours (record { position = position.now; left = left }) cards }
 {
     let mut rest = cards;
     while let Some(card) = rest.pop_first() {

@@ -1,6 +1,6 @@
 //! A solver that is asked again and again.
 ghost use Rattle.std.specs.Prelude.{◌≡◌};
-ghost use Rattle.trick_rules.specs.Table.{FitsLeft};
+ghost use Rattle.trick_rules.specs.Positions.{FitsLeft};
 ghost use Rattle.trick_rules.specs.Play.{makes as makes_of};
 
 use crate::memo::Memo;
@@ -16,19 +16,21 @@ pub struct Solver {
 }
 
 impl Solver {
-    /// A solver that remembers nothing yet, by no memory. No clause says so, since what it remembers changes no answer.
+    /// A solver that remembers nothing yet, by no memory. No clause says so, since what it
+    /// remembers changes no answer.
     pub fn new(alloc: Global) -> Solver {
         Solver {
             memo: Memo::new(alloc),
         }
     }
 
-    /// Whether declarer's side takes the need where Left holds these cards, with all cards seen by all.
+    /// Whether declarer's side takes the need where Left holds these cards, with all cards seen by
+    /// all.
     ///
     /// It succeeds without memory.
     pub fn makes(&mut self, position: &Position, left: CardSet) -> bool
         requires { FitsLeft position.now left }
-        ensures { result ≡ makes_of (record { table = position.now; left = left }) }
+        ensures { result ≡ makes_of (record { position = position.now; left = left }) }
     {
         search(&mut self.memo, position, left)
     }

@@ -14,13 +14,13 @@ pub record IsChildOf (width : ℕ) (c : Child) : Type 0 where
   pub for_child : HaveWidth (ones_of c.mask) c.vectors
 
 -- each vector put at the layouts of the mask, with 1 at the other layouts
-abbrev pub spreads : List Vector → Vector → List Vector
-spreads vectors mask = map (λ v. spread_of v mask) vectors
+abbrev pub spread_vectors : List Vector → Vector → List Vector
+spread_vectors vectors mask = map (λ v. spread_of v mask) vectors
 
 -- all meets of one spread vector of each child: a layout that no child has counts as 1
 abbrev pub joined : ℕ → List Child → List Vector
 joined width [] = replicate width true ∷ []
-joined width (c ∷ cs) = meets (joined width cs) (spreads c.vectors c.mask)
+joined width (c ∷ cs) = meets (joined width cs) (spread_vectors c.vectors c.mask)
 
 -- what is covered: a vector, where each child's front covers the part of it that the child has
 abbrev pub JoinedCovers : Type 0

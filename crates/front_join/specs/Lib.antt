@@ -1,2 +1,2 @@
 pub mod Joins
-pub mod JoinValue
+pub mod JoinerValue

@@ -1,9 +1,9 @@
 //! `Joiner`: takes the children of a node one by one.
 
 ghost use Rattle.std.specs.Prelude.{◌≡◌, ◌≤◌, ◌∷◌, ◌++◌, [], List, true, false, OnOk, OnErr, IfOk, length, map, replicate};
-ghost use Rattle.front_join.specs.JoinValue.{IsJoin};
-ghost use Rattle.front_join.specs.Joins.{Child, joined, spreads};
-ghost use Rattle.pareto_fronts.specs.FrontValue.{IsFront};
+ghost use Rattle.front_join.specs.JoinerValue.{IsJoiner};
+ghost use Rattle.front_join.specs.Joins.{Child, joined, spread_vectors};
+ghost use Rattle.pareto_fronts.specs.FrontValue.{IsSoundFront};
 ghost use Rattle.win_vectors.specs.Fronts.{HaveWidth, IsReduced, meets};
 ghost use Rattle.win_vectors.specs.Vectors.{either_of, meet_of, most_layouts, ones_of};
 
@@ -12,7 +12,8 @@ use std::alloc::{AllocError, Global};
 use std::marker::Model;
 use win_vectors::WinVector;
 
-/// The join of the children that were added: what is left to declarer's side where a defender chooses among them.
+/// The join of the children that were added: what is left to declarer's side where a defender
+/// chooses among them.
 #[derive(Drop)]
 pub struct Joiner {
     alloc: Global,
@@ -21,13 +22,13 @@ pub struct Joiner {
 }
 
 impl Model for Joiner {
-    ghost use Rattle.front_join.specs.JoinValue.{JoinValue, IsJoin};
+    ghost use Rattle.front_join.specs.JoinerValue.{JoinerValue, IsJoiner};
 
-    ghost Value = { JoinValue };
+    ghost Value = { JoinerValue };
 
     ghost view = { λ a. record { optimistic = a.optimistic; covered = a.covered } };
 
-    ghost invariant = { λ a. IsJoin (record { optimistic = a.optimistic; covered = a.covered }) };
+    ghost invariant = { λ a. IsJoiner (record { optimistic = a.optimistic; covered = a.covered }) };
 }
 
 impl Joiner {
@@ -49,15 +50,15 @@ impl Joiner {
         }
     }
 
-    /// Joins a child: its front, and a mask with a 1 for each layout that it has. The joiner is unchanged where memory is
-    /// wanted.
+    /// Joins a child: its front, and a mask with a 1 for each layout that it has. The joiner is
+    /// unchanged where memory is wanted.
     pub fn add(&mut self, child: &Front, mask: &WinVector) -> Result<(), AllocError>
         requires mask_width { length mask.now ≡ self.old.optimistic.width }
         requires child_width { child.now.width ≡ ones_of mask.now }
         requires not_empty { 1 ≤ length child.now.vectors }
         ensures width { self.new.optimistic.width ≡ self.old.optimistic.width }
         ensures front { OnOk result (IsReduced
-            (meets self.old.optimistic.vectors (spreads child.now.vectors mask.now))
+            (meets self.old.optimistic.vectors (spread_vectors child.now.vectors mask.now))
             self.new.optimistic.vectors) }
         ensures covered { OnOk result (self.new.covered ≡ either_of self.old.covered mask.now) }
         ensures err { OnErr result (self.new ≡ self.old) }
@@ -79,7 +80,7 @@ impl Joiner {
     /// The front of the children so far, where a layout that none of them has counts as made.
     pub fn optimistic(&self) -> &Front
         ensures front { result.now ≡ self.now.optimistic }
-        ensures join { IsJoin self.now }
+        ensures join { IsJoiner self.now }
     {
         &self.optimistic
     }
@@ -88,7 +89,7 @@ impl Joiner {
     pub fn finish(self) -> Front
         requires { self.covered ≡ replicate self.optimistic.width true }
         ensures value { result ≡ self.optimistic }
-        ensures front { IsFront result }
+        ensures front { IsSoundFront result }
         ensures not_empty { 1 ≤ length result.vectors }
     {
         let Joiner {
@@ -100,7 +101,8 @@ impl Joiner {
     }
 }
 
-/// The best meets of one vector of a front and one vector of a child's front, which has 1 where the mask has 0.
+/// The best meets of one vector of a front and one vector of a child's front, which has 1 where the
+/// mask has 0.
 pub fn joined_front(
     alloc: Global,
     front: &Front,
@@ -109,10 +111,10 @@ pub fn joined_front(
 ) -> Result<Front, AllocError>
     requires mask_width { length mask ≡ front.now.width }
     requires child_width { child.now.width ≡ ones_of mask }
-    ensures front { IfOk result IsFront }
+    ensures front { IfOk result IsSoundFront }
     ensures width { IfOk result (λ f. f.width ≡ front.now.width) }
     ensures reduced { IfOk result (λ f.
-        IsReduced (meets front.now.vectors (spreads child.now.vectors mask)) f.vectors) }
+        IsReduced (meets front.now.vectors (spread_vectors child.now.vectors mask)) f.vectors) }
 {
     let mut best = Front::new(alloc, front.width());
     for vector in child.as_slice().iter() {
@@ -129,8 +131,8 @@ fn insert_meets(
 ) -> Result<(), AllocError>
     requires width { length vector ≡ best.old.width }
     requires widths { HaveWidth best.old.width vectors.now }
-    requires front { IsFront best.old }
-    ensures front { IsFront best.new }
+    requires front { IsSoundFront best.old }
+    ensures front { IsSoundFront best.new }
     ensures width { best.new.width ≡ best.old.width }
     ensures reduced { OnOk result (IsReduced
         (best.old.vectors ++ map (λ u. meet_of u vector) vectors.now) best.new.vectors) }

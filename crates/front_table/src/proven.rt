@@ -15,11 +15,15 @@ pub struct ProvenFront {
 }
 
 impl Model for ProvenFront {
-    ghost use Rattle.front_table.specs.Proven.{ProvenValue, IsFrontAt};
+    ghost use Rattle.front_table.specs.Proven.{ProvenFrontValue, IsFrontAt};
 
-    ghost Value = { ProvenValue };
+    ghost Value = { ProvenFrontValue };
 
-    ghost view = { λ proven. record { node = proven.node; moves = proven.moves; front = proven.front } };
+    ghost view = { λ proven. record {
+      node = proven.node;
+      moves = proven.moves;
+      front = proven.front;
+    } };
 
     ghost invariant = { λ proven. IsFrontAt proven.node proven.moves proven.front };
 }

@@ -40,7 +40,8 @@ pub trait FrontStore {
     /// How a store may change: an earlier state and a later one.
     ghost grown: { Self → Self → Type 0 };
 
-    /// Looks for the front of a node with so many moves. A hit leaves it in `out`; every other answer leaves `out` as it was.
+    /// Looks for the front of a node with so many moves. A hit leaves it in `out`; every other
+    /// answer leaves `out` as it was.
     fn look(&mut self, node: &Node, moves: u8, out: &mut Front) -> Look
         requires width { out.old.width ≡ length node.now.lefts }
         requires room { 64 ≤ out.old.room }

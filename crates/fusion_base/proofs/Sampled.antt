@@ -4,9 +4,9 @@ use Rattle.std.proofs.lemmas.List.{length-map, length-take, length-replicate, ta
 use Rattle.std.proofs.lemmas.List.Elements.{All-contains}
 use Rattle.std.proofs.lemmas.Option.{get_or_from_slice_get}
 use Rattle.card_sets.specs.SetWords.{has_card}
-use Rattle.trick_rules.specs.Table.{FitsLeft, to_play}
+use Rattle.trick_rules.specs.Positions.{FitsLeft, to_play}
 use Rattle.trick_rules.specs.Play.{take_out, after_card, after, legal_in, is_declarers, makes}
-use Rattle.trick_rules.specs.Nodes.{Layouts, IsNode, choices}
+use Rattle.trick_rules.specs.Nodes.{NodeValue, IsNode, choices}
 use Rattle.trick_rules.proofs.PlayLaws.{our_choices_are_legal_everywhere, a_legal_card_leads_to_a_state}
 use Rattle.fusion_base.specs.Sampling.{made_after}
 
@@ -20,24 +20,24 @@ at_place f P xs all place x low is =
     let same : length (map f xs) ≡ length xs = length-map xs f in
     subst P (get_or-map f xs place x (f x) low ∙ ap f (get_or_from_slice_get xs place x x is)) (all place (f x) (omega arith))
 
-module _ (n : Layouts) (card : ℕ) where
+module _ (n : NodeValue) (card : ℕ) where
   -- whether a layout is made after the card
   abbrev pub made : List ℕ → Bool
-  made left = makes (after (record { table = n.table; left = left }) card)
+  made left = makes (after (record { position = n.position; left = left }) card)
 
   -- the results in the first layouts, and 0 for the others
   abbrev pub made_upto : ℕ → List Bool
   made_upto place = map made (take place n.lefts) ++ replicate (length n.lefts - place) false
 
   -- Left's hand without the card fits the position after it
-  pub fits_after : IsNode n → is_declarers (to_play n.table) ≡ true → has_card (choices n) card ≡ true
-      → (place : ℕ) (left : List ℕ) → place < length n.lefts → slice_get n.lefts place ≡ Some left → FitsLeft (after_card n.table card) (take_out card left)
+  pub fits_after : IsNode n → is_declarers (to_play n.position) ≡ true → has_card (choices n) card ≡ true
+      → (place : ℕ) (left : List ℕ) → place < length n.lefts → slice_get n.lefts place ≡ Some left → FitsLeft (after_card n.position card) (take_out card left)
   fits_after sound ours choice place left low is =
       let e : get_or n.lefts place left ≡ left = get_or_from_slice_get n.lefts place left left is in
-      let fits : FitsLeft n.table left = All-contains (FitsLeft n.table) n.lefts left sound.fits (place, low, e) in
-      let legal : has_card (legal_in (record { table = n.table; left = left })) card ≡ true =
-      at_place (λ left. record { table = n.table; left = left }) (λ s. has_card (legal_in s) card ≡ true) n.lefts (our_choices_are_legal_everywhere n card ours choice) place left low is in
-      (a_legal_card_leads_to_a_state (record { table = n.table; left = left }) card (record { sound = sound.sound; fits = fits }) legal).fits
+      let fits : FitsLeft n.position left = All-contains (FitsLeft n.position) n.lefts left sound.fits (place, low, e) in
+      let legal : has_card (legal_in (record { position = n.position; left = left })) card ≡ true =
+      at_place (λ left. record { position = n.position; left = left }) (λ s. has_card (legal_in s) card ≡ true) n.lefts (our_choices_are_legal_everywhere n card ours choice) place left low is in
+      (a_legal_card_leads_to_a_state (record { position = n.position; left = left }) card (record { sound = sound.sound; fits = fits }) legal).fits
 
   length_first : (place : ℕ) → place ≤ length n.lefts → length (map made (take place n.lefts)) ≡ place
   length_first place low = length-map (take place n.lefts) made ∙ omega (arith, length-take place n.lefts)
@@ -59,7 +59,7 @@ module _ (n : Layouts) (card : ℕ) where
       (subst (λ k. set (first ++ false ∷ rest) k (made left) ≡ made_upto (place + 1)) (length_first place (omega arith))
       (set-between first rest false (made left) ∙ sym (append_assoc first (made left ∷ []) rest) ∙ ap (λ bits. bits ++ rest) (sym here)))
 
-  made_all : (lefts : List (List ℕ)) → map made lefts ≡ map (λ s. makes (after s card)) (map (λ left. record { table = n.table; left = left }) lefts)
+  made_all : (lefts : List (List ℕ)) → map made lefts ≡ map (λ s. makes (after s card)) (map (λ left. record { position = n.position; left = left }) lefts)
   made_all [] = refl
   made_all (left ∷ lefts) = ap (λ bits. made left ∷ bits) (made_all lefts)
 

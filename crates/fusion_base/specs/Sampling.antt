@@ -2,13 +2,13 @@
 use Rattle.std.specs.Prelude.{ℕ, List, map}
 use Rattle.win_vectors.specs.Fronts.{Vector}
 use Rattle.trick_rules.specs.Play.{after, makes}
-use Rattle.trick_rules.specs.Nodes.{Layouts, states, choices}
+use Rattle.trick_rules.specs.Nodes.{NodeValue, states, choices}
 use Rattle.fusion_base.specs.declared.table.CardVector.{CardVector}
 
 -- whether declarer's side makes after a card, in each layout in order, with all cards seen by all
-abbrev pub made_after : Layouts → ℕ → Vector
+abbrev pub made_after : NodeValue → ℕ → Vector
 made_after n card = map (λ s. makes (after s card)) (states n)
 
 -- the cards to choose from, in card order, each with its vector
-abbrev pub card_vectors : Layouts → List CardVector
+abbrev pub card_vectors : NodeValue → List CardVector
 card_vectors n = map (λ card. record { card = card; vector = made_after n card }) (choices n)

@@ -6,7 +6,7 @@ use Rattle.std.proofs.lemmas.List.{drop_more}
 use Rattle.std.proofs.Math.ListN.{drop_of_length-le}
 use Rattle.std.proofs.lemmas.Bool.Decides.{nat_tests}
 use Rattle.win_vectors.specs.Fronts.{Vector}
-use Rattle.trick_rules.specs.Nodes.{Layouts}
+use Rattle.trick_rules.specs.Nodes.{NodeValue}
 use Rattle.strategy_games.specs.Plans.{Plan, Fits, wins_vector}
 use Rattle.strategy_games.specs.Misfits.{first_misfit}
 use Rattle.strategy_tree.specs.Bridge.{bridge}
@@ -17,7 +17,7 @@ use Rattle.strategy_check.specs.Verdicts.{IsVerdict}
 use Rattle.am_answer.specs.declared.status.Place.{Place}
 use Rattle.am_answer.specs.declared.status.Place.TheVariants.{Node, Layout}
 use Rattle.am_report.specs.Answers.{EntryValue}
-use Rattle.am_answer.specs.Judging.{first_difference, plan_fault, entry_fault, or_later, first_fault}
+use Rattle.am_answer.specs.Judging.{first_difference, plan_fault, entry_fault, or_later_plan, first_plan_fault}
 
 -- the same vector differs nowhere
 no_difference : (number : ℕ) (vector : Vector) → first_difference number vector vector ≡ None
@@ -60,7 +60,7 @@ place_of Good = None
 place_of (NotAStrategy number) = Some (Node number)
 place_of (OtherVector layout bit) = Some (Layout layout bit)
 
-module _ (node : Layouts) (moves : ℕ) (plan : Plan ℕ) (vector : Vector) where
+module _ (node : NodeValue) (moves : ℕ) (plan : Plan ℕ) (vector : Vector) where
   fits-fault : Fits bridge plan node moves → plan_fault (first_misfit bridge ◌==◌ plan node moves) (wins_vector bridge plan node) vector ≡ first_difference 1 (wins_vector bridge plan node) vector
   fits-fault fits = ap (λ misfit. plan_fault misfit (wins_vector bridge plan node) vector) ((laws.first_misfit.none plan node moves).0 fits)
 
@@ -72,7 +72,7 @@ module _ (node : Layouts) (moves : ℕ) (plan : Plan ℕ) (vector : Vector) wher
       fits-fault fits ∙ difference_after 1 (layout - 1) (wins_vector bridge plan node) vector bit differs.same_before differs.own_bit differs.given_bit ∙ ap (λ n. Some (Layout n bit)) place
 
 -- the place of a verdict is where the entry is at fault
-pub entry_fault-verdict : (node : Layouts) (moves : ℕ) (entry : EntryValue) (verdict : Verdict) → length entry.vector ≡ length node.lefts → IsVerdict node moves entry.plan entry.vector verdict
+pub entry_fault-verdict : (node : NodeValue) (moves : ℕ) (entry : EntryValue) (verdict : Verdict) → length entry.vector ≡ length node.lefts → IsVerdict node moves entry.plan entry.vector verdict
     → place_of verdict ≡ entry_fault node moves entry
 unfolding entry_fault
 entry_fault-verdict node moves entry verdict width is =
@@ -81,20 +81,20 @@ entry_fault-verdict node moves entry verdict width is =
 
 -- ---- the plans one after another
 
-module _ (node : Layouts) (moves : ℕ) (entries : List EntryValue) (index : ℕ) (entry : EntryValue) (low : index < length entries) (is : entry ≡ slice_index_or entries index entry) where
-  first_fault-at : first_fault node moves (1 + index) (drop index entries) ≡ or_later (1 + index) (entry_fault node moves entry) (first_fault node moves (1 + index + 1) (drop (index + 1) entries))
-  first_fault-at = ap (first_fault node moves (1 + index)) (drop_more entries index entry low ∙ ap (λ e. e ∷ drop (index + 1) entries) (sym is))
+module _ (node : NodeValue) (moves : ℕ) (entries : List EntryValue) (index : ℕ) (entry : EntryValue) (low : index < length entries) (is : entry ≡ slice_index_or entries index entry) where
+  first_plan_fault-at : first_plan_fault node moves (1 + index) (drop index entries) ≡ or_later_plan (1 + index) (entry_fault node moves entry) (first_plan_fault node moves (1 + index + 1) (drop (index + 1) entries))
+  first_plan_fault-at = ap (first_plan_fault node moves (1 + index)) (drop_more entries index entry low ∙ ap (λ e. e ∷ drop (index + 1) entries) (sym is))
 
-  pub first_fault-found : (place : Place) → entry_fault node moves entry ≡ Some place → first_fault node moves (1 + index) (drop index entries) ≡ Some (index + 1, place)
-  first_fault-found place found =
+  pub first_plan_fault-found : (place : Place) → entry_fault node moves entry ≡ Some place → first_plan_fault node moves (1 + index) (drop index entries) ≡ Some (index + 1, place)
+  first_plan_fault-found place found =
       let number : 1 + index ≡ index + 1 = omega arith in
-      first_fault-at ∙ ap (λ f. or_later (1 + index) f (first_fault node moves (1 + index + 1) (drop (index + 1) entries))) found ∙ ap (λ n. Some (n, place)) number
+      first_plan_fault-at ∙ ap (λ f. or_later_plan (1 + index) f (first_plan_fault node moves (1 + index + 1) (drop (index + 1) entries))) found ∙ ap (λ n. Some (n, place)) number
 
-  pub first_fault-later : entry_fault node moves entry ≡ None → first_fault node moves (1 + index) (drop index entries) ≡ first_fault node moves (1 + (index + 1)) (drop (index + 1) entries)
-  first_fault-later found =
+  pub first_plan_fault-later : entry_fault node moves entry ≡ None → first_plan_fault node moves (1 + index) (drop index entries) ≡ first_plan_fault node moves (1 + (index + 1)) (drop (index + 1) entries)
+  first_plan_fault-later found =
       let number : 1 + index + 1 ≡ 1 + (index + 1) = omega arith in
-      first_fault-at ∙ ap (λ f. or_later (1 + index) f (first_fault node moves (1 + index + 1) (drop (index + 1) entries))) found ∙ ap (λ n. first_fault node moves n (drop (index + 1) entries)) number
+      first_plan_fault-at ∙ ap (λ f. or_later_plan (1 + index) f (first_plan_fault node moves (1 + index + 1) (drop (index + 1) entries))) found ∙ ap (λ n. first_plan_fault node moves n (drop (index + 1) entries)) number
 
 -- past the last plan
-pub first_fault-end : (node : Layouts) (moves : ℕ) (entries : List EntryValue) (index : ℕ) → length entries ≤ index → first_fault node moves (1 + index) (drop index entries) ≡ None
-first_fault-end node moves entries index past = ap (first_fault node moves (1 + index)) (drop_of_length-le entries past)
+pub first_plan_fault-end : (node : NodeValue) (moves : ℕ) (entries : List EntryValue) (index : ℕ) → length entries ≤ index → first_plan_fault node moves (1 + index) (drop index entries) ≡ None
+first_plan_fault-end node moves entries index past = ap (first_plan_fault node moves (1 + index)) (drop_of_length-le entries past)

@@ -15,7 +15,7 @@ use Rattle.am_report.specs.declared.fault.ReportKind.{ReportKind}
 use Rattle.am_report.specs.declared.fault.ReportKind.TheVariants as kinds
 use Rattle.am_report.specs.Answers.{EntryValue}
 use Rattle.am_report.specs.ReportLines.{vector_said, card_said}
-use Rattle.am_report.specs.Reading.{ReportValue, expected, plan_or_fault, entry_read, entries_read, head_read, end_read, below_read, report_read, has_version}
+use Rattle.am_report.specs.Reading.{ReadReportValue, expected, plan_or_fault, entry_read, entries_read, head_read, end_read, below_read, report_read, has_version}
 use Rattle.byte_text.specs.Steps.{◌>>=◌}
 
 bind_ok : {A B : Type 0} (r : Result A (ℕ × ReportKind)) (f : A → Result B (ℕ × ReportKind)) (y : B) → (r >>= f) ≡ Ok y → (x : A) × (r ≡ Ok x) × (f x ≡ Ok y)
@@ -77,7 +77,7 @@ said_inside {A} says bytes at x h = from_line (line_at bytes at) refl h
     from_line None is h = absurd cc
     from_line (Some line) is h = line_inside bytes at line is
 
-below_sizes : (bytes : List ℕ) (report : ReportValue) → below_read bytes ≡ Ok report → (length report.entries < length bytes) × All (λ e. node_count e.plan < length bytes) report.entries
+below_sizes : (bytes : List ℕ) (report : ReadReportValue) → below_read bytes ≡ Ok report → (length report.entries < length bytes) × All (λ e. node_count e.plan < length bytes) report.entries
 unfolding below_read
 below_sizes bytes report h =
     let (head, is_head, on) = bind_ok (head_read bytes) _ report h in
@@ -86,11 +86,11 @@ below_sizes bytes report h =
     let (ended, is_end, last) = bind_ok (end_read bytes said.1) _ report more in
     let sizes = entries_sizes head.vectors bytes head.next front is_front in
     let inside = said_inside card_said bytes front.1 said (expected_ok kinds.Card bytes front.1 (said_at card_said bytes front.1) said is_said) in
-    let entries : front.0 ≡ report.entries = ap (λ (r : ReportValue). r.entries) (ok_same _ report last) in
+    let entries : front.0 ≡ report.entries = ap (λ (r : ReadReportValue). r.entries) (ok_same _ report last) in
     subst (λ (es : List EntryValue). (length es < length bytes) × All (λ e. node_count e.plan < length bytes) es) entries
     (omega (arith, sizes.0, inside), (λ k d within. let few = sizes.1 k d within in omega (arith, few, inside)))
 
-pub report_sizes : (bytes : List ℕ) (report : ReportValue) → report_read bytes ≡ Ok report → (length report.entries < length bytes) × All (λ e. node_count e.plan < length bytes) report.entries
+pub report_sizes : (bytes : List ℕ) (report : ReadReportValue) → report_read bytes ≡ Ok report → (length report.entries < length bytes) × All (λ e. node_count e.plan < length bytes) report.entries
 unfolding report_read
 report_sizes bytes report h = go (has_version bytes) h
   where

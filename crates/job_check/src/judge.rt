@@ -4,12 +4,12 @@ ghost use Rattle.strategy_games.specs.Misfits.{node_count};
 ghost use Rattle.am_report.specs.Reading.{report_of};
 ghost use Rattle.am_answer.specs.declared.inputs.Work.TheVariants as works;
 ghost use Rattle.am_answer.specs.Answers.{task_at};
-ghost use Rattle.am_answer.specs.Judging.{entry_fault, first_fault, judged, plans_in};
+ghost use Rattle.am_answer.specs.Judging.{entry_fault, first_plan_fault, judged, plans_in};
 ghost use Rattle.am_answer.specs.Stages.{IsFileRefusal, IsTextFor};
 
 use am_answer::{Place, Root, Status, report_status};
-use byte_text::Text;
 use am_report::{Entry, ReadReport, check_text, head_text, read_report};
+use byte_text::Text;
 use std::alloc::Global;
 use strategy_check::{Verdict, check};
 use trick_rules::Node;
@@ -31,10 +31,10 @@ fn entry_fault(node: &Node, moves: u8, entry: &Entry) -> Option<Place>
 }
 
 // The first plan at fault, from 1, and where.
-fn first_fault(node: &Node, moves: u8, entries: &[Entry]) -> Option<(u32, Place)>
+fn first_plan_fault(node: &Node, moves: u8, entries: &[Entry]) -> Option<(u32, Place)>
     requires few { length entries.now < 2 ^ 32 }
     requires countable { All (λ entry. node_count entry.plan < 2 ^ 32) entries.now }
-    ensures { result ≡ first_fault node.now moves 1 entries.now }
+    ensures { result ≡ first_plan_fault node.now moves 1 entries.now }
 {
     for (index, entry) in entries.iter().enumerate() {
         if let Some(place) = entry_fault(node, moves, entry) {
@@ -56,7 +56,7 @@ fn judged(alloc: Global, root: &Root, report: &ReadReport) -> Result<u32, Status
     if report.head.bytes() != head.bytes() {
         return Err(Status::Refuted(0, Place::Head));
     }
-    match first_fault(&root.kept.node, report.moves, &report.entries) {
+    match first_plan_fault(&root.kept.node, report.moves, &report.entries) {
         Some((plan, place)) => Err(Status::Refuted(plan, place)),
         None => Ok(report.entries.len() as u32),
     }

@@ -4,8 +4,8 @@ ghost use Rattle.am_answer.specs.Answers.{Sample, has_choice};
 ghost use Rattle.am_answer.specs.Reports.{IsText};
 
 use am_answer::Root;
-use byte_text::Text;
 use am_report::fusion_text;
+use byte_text::Text;
 use fusion_base::per_card;
 use std::alloc::{AllocError, Global};
 use std::thread::Threads;

@@ -5,8 +5,8 @@ ghost use Rattle.am_answer.specs.Answers.{listed_or};
 ghost use Rattle.am_answer.specs.Stages.{IsFileRefusal, IsTextFor};
 
 use am_answer::{Status, make_status};
-use byte_text::Text;
 use am_report::list_text;
+use byte_text::Text;
 use layout_maker::all_layouts;
 use pbn_deal::Board;
 use std::alloc::Global;

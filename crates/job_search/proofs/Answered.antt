@@ -7,7 +7,7 @@ use Rattle.strategy_tree.specs.Bridge.{bridge}
 use Rattle.win_vectors.specs.Fronts.{Vector}
 use Rattle.root_workers.specs.Roots.{AllFit}
 use Rattle.job_words.specs.declared.asks.Search.{Search}
-use Rattle.am_report.specs.Answers.{AnswerValue, EntryValue}
+use Rattle.am_report.specs.Answers.{SolveAnswerValue, EntryValue}
 use Rattle.am_report.specs.Card.{card_text}
 use Rattle.am_report.specs.Made.{made_text}
 use Rattle.am_report.specs.Solve.{solve_text}
@@ -23,7 +23,7 @@ pub solve-answer : (root : Root) (moves : ℕ) (entries : List EntryValue) (vect
 solve-answer root moves entries vectors card count same front plans named best =
     record { vectors = subst (IsFront bridge root.kept.node moves) (sym same) front; plans = plans; card = named; count = best }
 
-pub solve-text : {E : Type 0} (root : Root) (moves : ℕ) (result : Result (List ℕ) E) (found : AnswerValue) → IsSolveAnswer root.kept.node moves found
+pub solve-text : {E : Type 0} (root : Root) (moves : ℕ) (result : Result (List ℕ) E) (found : SolveAnswerValue) → IsSolveAnswer root.kept.node moves found
     → IfOk result (λ text. text ≡ solve_text root.board root.kept moves found) → IfOk result (IsSolveText root moves)
 solve-text root moves (Ok text) found is written = (found, is, written)
 solve-text root moves (Err e) found is written = tt

@@ -5,8 +5,8 @@ ghost use Rattle.am_answer.specs.Answers.{has_choice, NamedCard};
 ghost use Rattle.am_answer.specs.Stages.{IsTaskRefusal, IsTextFor};
 
 use am_answer::{Root, Status, root_status};
-use byte_text::Text;
 use am_report::card_text;
+use byte_text::Text;
 use job_words::Search;
 use root_workers::root_front;
 use std::alloc::Global;

@@ -5,8 +5,8 @@ ghost use Rattle.am_answer.specs.Reports.{made_moves};
 ghost use Rattle.am_answer.specs.Stages.{IsTaskRefusal, IsTextFor};
 
 use am_answer::{Root, Status, root_status};
-use byte_text::Text;
 use am_report::{MadeSummary, made_text};
+use byte_text::Text;
 use job_words::Search;
 use root_workers::root_front;
 use std::alloc::Global;

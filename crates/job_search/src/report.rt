@@ -12,8 +12,8 @@ ghost use Rattle.am_answer.specs.Stages.{IsTaskRefusal, IsTextFor};
 
 use alphamu_core::RootFault;
 use am_answer::{Root, Status, root_status};
-use byte_text::Text;
 use am_report::{Entry, SolveAnswer, solve_text};
+use byte_text::Text;
 use dd_solver::Solver;
 use front_table::NoStore;
 use job_words::Search;

@@ -13,7 +13,7 @@ use Rattle.clap.specs.declared.builder.value_parser.Reading.TheVariants.{AsWritt
 use Rattle.clap.proofs.OnLiterals.{clap_on_literals}
 use Rattle.job_words.specs.Command.{option_command}
 use Rattle.job_words.specs.Options.{OptionValues, options_at, options_read}
-use Rattle.job_words.specs.Values.{file_name, is_value, job_named, number_in, number_of, number_or}
+use Rattle.job_words.specs.Values.{file_named, is_value, job_named, number_in, number_read, number_or}
 use Rattle.job_words.specs.Table.{keeps_to}
 use Rattle.job_words.specs.Asks.{Card, Check, Fusion, ListOf, Made, OnLayouts, Solve}
 use Rattle.job_words.specs.Plain.{card_words, check_words, fusion_words, list_words, made_words, plain_search, solve_words}
@@ -340,7 +340,7 @@ module _ (job number : Text) where
 
 -- what writes a number is a value
 is_value-number_in : (least most : ℕ) (text : Text) (number : ℕ) → number_in least most text ≡ Some number → is_value text ≡ true
-unfolding number_in number_of
+unfolding number_in number_read
 is_value-number_in least most [] number is = cc
 is_value-number_in least most (d ∷ ds) number is = go (all_ascii_digits (d ∷ ds)) refl
   where
@@ -355,7 +355,7 @@ is_value-number_in least most (d ∷ ds) number is = go (all_ascii_digits (d ∷
 -- the plain words of each job
 pub solve_asks : (deal layouts moves : List ℕ) (number : ℕ) → is_value deal ≡ true → is_value layouts ≡ true → number_in 1 26 moves ≡ Some number
     → words_read (solve_words deal layouts moves) ≡ Some (OnLayouts deal layouts (Solve number plain_search))
-unfolding words_read ask_in job_in on_layouts solve_in moves_in search_in table_in job_named keeps_to file_name number_or
+unfolding words_read ask_in job_in on_layouts solve_in moves_in search_in table_in job_named keeps_to file_named number_or
 solve_asks deal layouts moves number deal_is layouts_is number_is =
     let moves_is = is_value-number_in 1 26 moves number number_is in
     rw (
@@ -370,7 +370,7 @@ solve_asks deal layouts moves number deal_is layouts_is number_is =
 
 pub card_asks : (deal layouts moves : List ℕ) (number : ℕ) → is_value deal ≡ true → is_value layouts ≡ true → number_in 1 26 moves ≡ Some number
     → words_read (card_words deal layouts moves) ≡ Some (OnLayouts deal layouts (Card number plain_search))
-unfolding words_read ask_in job_in on_layouts card_in moves_in search_in table_in job_named keeps_to file_name number_or
+unfolding words_read ask_in job_in on_layouts card_in moves_in search_in table_in job_named keeps_to file_named number_or
 card_asks deal layouts moves number deal_is layouts_is number_is =
     let moves_is = is_value-number_in 1 26 moves number number_is in
     rw (
@@ -385,7 +385,7 @@ card_asks deal layouts moves number deal_is layouts_is number_is =
 
 pub fusion_asks : (deal layouts : List ℕ) → is_value deal ≡ true → is_value layouts ≡ true
     → words_read (fusion_words deal layouts) ≡ Some (OnLayouts deal layouts Fusion)
-unfolding words_read ask_in job_in on_layouts job_named keeps_to file_name number_or
+unfolding words_read ask_in job_in on_layouts job_named keeps_to file_named number_or
 fusion_asks deal layouts deal_is layouts_is =
     rw (
       (plain_word deal deal_is).dashes,
@@ -397,7 +397,7 @@ fusion_asks deal layouts deal_is layouts_is =
 
 pub list_asks : (deal : List ℕ) → is_value deal ≡ true
     → words_read (list_words deal) ≡ Some (ListOf deal)
-unfolding words_read ask_in job_in list_in job_named keeps_to file_name number_or
+unfolding words_read ask_in job_in list_in job_named keeps_to file_named number_or
 list_asks deal deal_is =
     rw (
       (plain_word deal deal_is).dashes,
@@ -407,7 +407,7 @@ list_asks deal deal_is =
 
 pub check_asks : (deal layouts report : List ℕ) → is_value deal ≡ true → is_value layouts ≡ true → is_value report ≡ true
     → words_read (check_words deal layouts report) ≡ Some (OnLayouts deal layouts (Check report))
-unfolding words_read ask_in job_in on_layouts check_in job_named keeps_to file_name number_or
+unfolding words_read ask_in job_in on_layouts check_in job_named keeps_to file_named number_or
 check_asks deal layouts report deal_is layouts_is report_is =
     rw (
       (plain_word deal deal_is).dashes,
@@ -421,7 +421,7 @@ check_asks deal layouts report deal_is layouts_is report_is =
 
 pub made_asks : (number : List ℕ) (value : ℕ) → number_in 0 (2 ^ 64 - 1) number ≡ Some value
     → words_read (made_words number) ≡ Some (Made value plain_search)
-unfolding words_read ask_in job_in made_in search_in table_in job_named keeps_to file_name number_or
+unfolding words_read ask_in job_in made_in search_in table_in job_named keeps_to file_named number_or
 made_asks number value number_is =
     let digits_are = is_value-number_in 0 (2 ^ 64 - 1) number value number_is in
     rw (

@@ -8,15 +8,15 @@ use Rattle.job_words.specs.Values.{is_value}
 
 -- a job on a deal and its layouts: with how many cards of declarer's side the search goes through and how to search,
 -- or with the name of the file of a report
-pub data JobValue : Type 0 where
-  Solve : ℕ → Search → JobValue
-  Card : ℕ → Search → JobValue
-  Fusion : JobValue
-  Check : List ℕ → JobValue
+pub data LayoutsJobValue : Type 0 where
+  Solve : ℕ → Search → LayoutsJobValue
+  Card : ℕ → Search → LayoutsJobValue
+  Fusion : LayoutsJobValue
+  Check : List ℕ → LayoutsJobValue
 
 -- a job on the layouts that a file has for the deal of another, deal first; all layouts of a deal; the problem made from a number
 pub data AskValue : Type 0 where
-  OnLayouts : List ℕ → List ℕ → JobValue → AskValue
+  OnLayouts : List ℕ → List ℕ → LayoutsJobValue → AskValue
   ListOf : List ℕ → AskValue
   Made : ℕ → Search → AskValue
 
@@ -25,7 +25,7 @@ abbrev pub texts_of : List (String Global) → List (List ℕ)
 texts_of words = map (λ word. string_bytes word) words
 
 -- a job by its value
-abbrev pub job_of : jobs.LayoutsJob → JobValue
+abbrev pub job_of : jobs.LayoutsJob → LayoutsJobValue
 job_of (jobs.TheVariants.Solve moves search) = Solve moves search
 job_of (jobs.TheVariants.Card moves search) = Card moves search
 job_of jobs.TheVariants.Fusion = Fusion
@@ -50,7 +50,7 @@ pub record IsSearchWithinLimits (search : Search) : Type 0 where
   pub entries : search.shards * search.room ≤ 1048576
 
 -- the limits that a job keeps
-abbrev pub IsJobWithinLimits : JobValue → Type 0
+abbrev pub IsJobWithinLimits : LayoutsJobValue → Type 0
 IsJobWithinLimits (Solve moves search) = IsMoves moves × IsSearchWithinLimits search
 IsJobWithinLimits (Card moves search) = IsMoves moves × IsSearchWithinLimits search
 IsJobWithinLimits Fusion = ⊤

@@ -11,13 +11,13 @@ is_value [] = false
 is_value (first ∷ rest) = not (first == 45)
 
 -- the value, where it may name a file
-unfoldable pub file_name : List ℕ → Option (List ℕ)
-file_name text = if is_value text then Some text else None
+unfoldable pub file_named : List ℕ → Option (List ℕ)
+file_named text = if is_value text then Some text else None
 
 -- the number that one or more decimal digits write
-unfoldable pub number_of : List ℕ → Option ℕ
-number_of [] = None
-number_of (digit ∷ digits) =
+unfoldable pub number_read : List ℕ → Option ℕ
+number_read [] = None
+number_read (digit ∷ digits) =
     if all_ascii_digits (digit ∷ digits) then Some (digits_value 10 (digit ∷ digits)) else None
 
 -- the number, where it lies in its range
@@ -27,7 +27,7 @@ in_range least most number =
 
 -- the number that the text writes, where it lies in its range
 unfoldable pub number_in : ℕ → ℕ → List ℕ → Option ℕ
-number_in least most text = option_and_then (in_range least most) (number_of text)
+number_in least most text = option_and_then (in_range least most) (number_read text)
 
 -- the same of an option that may be left out
 unfoldable pub number_or : ℕ → ℕ → ℕ → Option (List ℕ) → Option ℕ

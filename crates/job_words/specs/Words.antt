@@ -4,9 +4,9 @@ use Rattle.std.specs.List.{list_any}
 use Rattle.std.specs.Str.{bytes_eq}
 use Rattle.job_words.specs.declared.asks.Search.{Search}
 use Rattle.job_words.specs.declared.table.Job as jobs
-use Rattle.job_words.specs.Asks.{AskValue, Card, Check, Fusion, JobValue, ListOf, Made, OnLayouts, Solve}
+use Rattle.job_words.specs.Asks.{AskValue, Card, Check, Fusion, LayoutsJobValue, ListOf, Made, OnLayouts, Solve}
 use Rattle.job_words.specs.Options.{OptionValues, options_read}
-use Rattle.job_words.specs.Values.{file_name, job_named, number_in, number_or}
+use Rattle.job_words.specs.Values.{file_named, job_named, number_in, number_or}
 use Rattle.job_words.specs.Table.{keeps_to, uses_by}
 
 infixl 10 ◌>>=◌
@@ -48,36 +48,36 @@ unfoldable pub moves_in : OptionValues → Option ℕ
 moves_in o = o.moves >>= number_in 1 26
 
 -- every best trade-off, by a search
-unfoldable pub solve_in : OptionValues → Option JobValue
+unfoldable pub solve_in : OptionValues → Option LayoutsJobValue
 solve_in o = do
   moves ← moves_in o
   search ← search_in o
   Some (Solve moves search)
 
 -- the card to play, by the same search
-unfoldable pub card_in : OptionValues → Option JobValue
+unfoldable pub card_in : OptionValues → Option LayoutsJobValue
 card_in o = do
   moves ← moves_in o
   search ← search_in o
   Some (Card moves search)
 
 -- the check of a report
-unfoldable pub check_in : OptionValues → Option JobValue
+unfoldable pub check_in : OptionValues → Option LayoutsJobValue
 check_in o = do
-  report ← o.report >>= file_name
+  report ← o.report >>= file_named
   Some (Check report)
 
 -- a job on the two files
-unfoldable pub on_layouts : OptionValues → JobValue → Option AskValue
+unfoldable pub on_layouts : OptionValues → LayoutsJobValue → Option AskValue
 on_layouts o job = do
-  deal ← o.deal >>= file_name
-  layouts ← o.layouts >>= file_name
+  deal ← o.deal >>= file_named
+  layouts ← o.layouts >>= file_named
   Some (OnLayouts deal layouts job)
 
 -- all layouts of a deal
 unfoldable pub list_in : OptionValues → Option AskValue
 list_in o = do
-  deal ← o.deal >>= file_name
+  deal ← o.deal >>= file_named
   Some (ListOf deal)
 
 -- the problem made from a number

@@ -7,9 +7,10 @@ ghost use Rattle.job_words.specs.Words.{ask_in, card_in, check_in, job_in, list_
 use crate::asks::{Ask, LayoutsJob, Search};
 use crate::options::Options;
 use crate::table::{Job, uses_by};
-use crate::values::{file_name, job_named, number_in, number_or};
+use crate::values::{file_named, job_named, number_in, number_or};
 
-/// What the options ask for, or None where they aren't those of a job, or a value of theirs is refused.
+/// What the options ask for, or None where they aren't those of a job, or a value of theirs is
+/// refused.
 #[tactic(auto, unfolding(crate::specs::Words::ask_in))]
 pub(crate) fn ask_in<'a>(options: &Options<'a>) -> Option<Ask<'a>>
     ensures ask { option_map ask_of result ≡ ask_in (options_of options.now) }
@@ -104,17 +105,19 @@ fn check_in<'a>(options: &Options<'a>) -> Option<LayoutsJob<'a>>
     ensures job { option_map job_of result ≡ check_in (options_of options.now) }
     ensures limits { IfSome result (λ job. IsJobWithinLimits (job_of job)) }
 {
-    let report = file_name(options.report?)?;
+    let report = file_named(options.report?)?;
     Some(LayoutsJob::Check { report })
 }
 
 #[tactic(auto, unfolding(crate::specs::Words::on_layouts))]
 fn on_layouts<'a>(options: &Options<'a>, job: LayoutsJob<'a>) -> Option<Ask<'a>>
-    ensures ask { option_map ask_of result ≡ on_layouts (options_of options.now) (job_of job.entry) }
-    ensures limits { IsJobWithinLimits (job_of job.entry) → IfSome result (λ ask. IsWithinLimits (ask_of ask)) }
+    ensures ask { option_map ask_of result
+        ≡ on_layouts (options_of options.now) (job_of job.entry) }
+    ensures limits { IsJobWithinLimits (job_of job.entry)
+        → IfSome result (λ ask. IsWithinLimits (ask_of ask)) }
 {
-    let deal = file_name(options.deal?)?;
-    let layouts = file_name(options.layouts?)?;
+    let deal = file_named(options.deal?)?;
+    let layouts = file_named(options.layouts?)?;
     Some(Ask::OnLayouts { deal, layouts, job })
 }
 
@@ -123,7 +126,7 @@ fn list_in<'a>(options: &Options<'a>) -> Option<Ask<'a>>
     ensures ask { option_map ask_of result ≡ list_in (options_of options.now) }
     ensures limits { IfSome result (λ ask. IsWithinLimits (ask_of ask)) }
 {
-    let deal = file_name(options.deal?)?;
+    let deal = file_named(options.deal?)?;
     Some(Ask::List { deal })
 }
 

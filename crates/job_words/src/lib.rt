@@ -20,7 +20,8 @@ use by_job::ask_in;
 use options::read_options;
 use std::alloc::{AllocError, Global};
 
-/// What the words ask for, or None where the program takes no such words. The program's own name isn't one of them.
+/// What the words ask for, or None where the program takes no such words. The program's own name
+/// isn't one of them.
 #[tactic(auto, unfolding(crate::specs::Words::words_read))]
 pub fn read_words<'a>(alloc: Global, words: &'a [String]) -> Result<Option<Ask<'a>>, AllocError>
     ensures read { IfOk result (λ r. option_map ask_of r ≡ words_read (texts_of words.now)) }
@@ -35,21 +36,27 @@ pub fn read_words<'a>(alloc: Global, words: &'a [String]) -> Result<Option<Ask<'
     }
 }
 
-/// The plain words for a job, which give just what it requires, ask for just that, whatever the names of the files.
-/// A number among them is written in decimal digits.
+/// The plain words for a job, which give just what it requires, ask for just that, whatever the
+/// names of the files. A number among them is written in decimal digits.
 pub fn plain_words_are_read()
-    ensures solve { (deal layouts moves : List ℕ) (number : ℕ) → is_value deal ≡ true → is_value layouts ≡ true
+    ensures solve { (deal layouts moves : List ℕ) (number : ℕ) → is_value deal ≡ true
+        → is_value layouts ≡ true
         → number_in 1 26 moves ≡ Some number
-        → words_read (solve_words deal layouts moves) ≡ Some (OnLayouts deal layouts (Solve number plain_search)) }
-    ensures card { (deal layouts moves : List ℕ) (number : ℕ) → is_value deal ≡ true → is_value layouts ≡ true
+        → words_read (solve_words deal layouts moves)
+        ≡ Some (OnLayouts deal layouts (Solve number plain_search)) }
+    ensures card { (deal layouts moves : List ℕ) (number : ℕ) → is_value deal ≡ true
+        → is_value layouts ≡ true
         → number_in 1 26 moves ≡ Some number
-        → words_read (card_words deal layouts moves) ≡ Some (OnLayouts deal layouts (Card number plain_search)) }
+        → words_read (card_words deal layouts moves)
+        ≡ Some (OnLayouts deal layouts (Card number plain_search)) }
     ensures fusion { (deal layouts : List ℕ) → is_value deal ≡ true → is_value layouts ≡ true
         → words_read (fusion_words deal layouts) ≡ Some (OnLayouts deal layouts Fusion) }
-    ensures list { (deal : List ℕ) → is_value deal ≡ true → words_read (list_words deal) ≡ Some (ListOf deal) }
+    ensures list { (deal : List ℕ) → is_value deal ≡ true
+        → words_read (list_words deal) ≡ Some (ListOf deal) }
     ensures check { (deal layouts report : List ℕ) → is_value deal ≡ true → is_value layouts ≡ true
         → is_value report ≡ true
-        → words_read (check_words deal layouts report) ≡ Some (OnLayouts deal layouts (Check report)) }
+        → words_read (check_words deal layouts report)
+        ≡ Some (OnLayouts deal layouts (Check report)) }
     ensures made { (digits : List ℕ) (number : ℕ) → number_in 0 (2 ^ 64 - 1) digits ≡ Some number
         → words_read (made_words digits) ≡ Some (Made number plain_search) }
 {}

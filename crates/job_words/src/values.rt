@@ -1,14 +1,14 @@
 //! The tests on values, numbers and names of jobs.
 ghost use Rattle.std.specs.Prelude.{◌≡◌, ◌≤◌, ◌^◌, ◌<◌, ◌-◌, IfSome, option_map, true};
-ghost use Rattle.job_words.specs.Values.{file_name, is_value, job_named, number_in, number_or};
+ghost use Rattle.job_words.specs.Values.{file_named, is_value, job_named, number_in, number_or};
 
 use crate::table::Job;
 use byte_text::are_digits;
 
 /// The value, where it may name a file: it isn't empty and doesn't begin with a dash.
-#[tactic(auto, unfolding(crate::specs::Values::file_name))]
-pub(crate) fn file_name(value: &str) -> Option<&str>
-    ensures value { option_map (λ s. s.now) result ≡ file_name value.now }
+#[tactic(auto, unfolding(crate::specs::Values::file_named))]
+pub(crate) fn file_named(value: &str) -> Option<&str>
+    ensures value { option_map (λ s. s.now) result ≡ file_named value.now }
     ensures named { IfSome result (λ name. is_value name.now ≡ true) }
 {
     if is_value(value) { Some(value) } else { None }
@@ -23,7 +23,8 @@ fn is_value(text: &str) -> bool
     }
 }
 
-/// The number that the text writes in decimal digits, where it lies in its range. Leading zeros are allowed.
+/// The number that the text writes in decimal digits, where it lies in its range. Leading zeros are
+/// allowed.
 pub(crate) fn number_in(least: u64, most: u64, text: &str) -> Option<u64>
     ensures value { result ≡ number_in least most text.now }
     ensures range { IfSome result (λ number. (least ≤ number) × (number ≤ most)) }
@@ -43,7 +44,8 @@ pub(crate) fn number_in(least: u64, most: u64, text: &str) -> Option<u64>
 #[tactic(auto, unfolding(crate::specs::Values::number_or))]
 pub(crate) fn number_or(default: u64, least: u64, most: u64, value: Option<&str>) -> Option<u64>
     ensures value { result ≡ number_or default least most (option_map (λ s. s.now) value.entry) }
-    ensures range { least ≤ default → default ≤ most → IfSome result (λ number. (least ≤ number) × (number ≤ most)) }
+    ensures range { least ≤ default → default ≤ most
+        → IfSome result (λ number. (least ≤ number) × (number ≤ most)) }
 {
     match value {
         Some(text) => number_in(least, most, text),

@@ -5,13 +5,13 @@ use Rattle.std.specs.List.{enumerate_from, cons_option}
 use Rattle.std.proofs.Math.Seq.{drop-cons}
 use Rattle.std.proofs.lemmas.List.{append_assoc, length-append}
 use Rattle.std.proofs.lemmas.List.Elements.{All-nil, All-cons, All-same, All-push}
-use Rattle.trick_rules.specs.Table.{Table, State, IsState, FitsLeft}
+use Rattle.trick_rules.specs.Positions.{PositionValue, State, IsState, FitsLeft}
 use Rattle.trick_rules.specs.Nodes.{IsNode}
 use Rattle.pbn_deal.specs.declared.board.Played.{Played}
 use Rattle.layout_list.specs.declared.kept.Dropped.{Dropped}
-use Rattle.layout_list.specs.declared.line.Defenders.{Defenders}
+use Rattle.layout_list.specs.declared.line.Layout.{Layout}
 use Rattle.layout_list.specs.declared.verdict.Contradiction.{Contradiction}
-use Rattle.layout_list.specs.Verdicts.{hand_after, table_after}
+use Rattle.layout_list.specs.Verdicts.{hand_after, position_after}
 use Rattle.layout_list.specs.Layouts.{verdict, allowed, dropped, numbers_kept, lefts_kept, IsAfter}
 
 -- what moves from the layouts left to those so far
@@ -22,48 +22,48 @@ pub unmoved : {A : Type 0} (whole front same left rest : List A) → whole ≡ f
 unmoved whole front same left rest is split kept = is ∙ ap (λ l. front ++ l) split ∙ sym (ap (λ l. l ++ rest) kept)
 
 -- the layouts left begin with the one at hand
-pub split_at : (layouts : List Defenders) (i : ℕ) (layout : Defenders) → i < length layouts → layout ≡ get_or layouts i layout
+pub split_at : (layouts : List Layout) (i : ℕ) (layout : Layout) → i < length layouts → layout ≡ get_or layouts i layout
     → enumerate_from (i + 1) (drop i layouts) ≡ (i + 1, layout) ∷ enumerate_from (i + 1 + 1) (drop (i + 1) layouts)
 split_at layouts i layout lt is =
     let next : suc i ≡ i + 1 = omega arith in
     let split = drop-cons layouts i layout lt ∙ ap (λ x. x ∷ drop (suc i) layouts) (sym is) ∙ ap (λ k. layout ∷ drop k layouts) next in
     ap (enumerate_from (i + 1)) split
 
-allowed_yes : (plays : List Played) (t : Table) (number : ℕ) (layout : Defenders) (rest : List (ℕ × Defenders)) → verdict plays t layout ≡ None
+allowed_yes : (plays : List Played) (t : PositionValue) (number : ℕ) (layout : Layout) (rest : List (ℕ × Layout)) → verdict plays t layout ≡ None
     → allowed plays t ((number, layout) ∷ rest) ≡ (number, layout) ∷ allowed plays t rest
 allowed_yes plays t number layout rest none = ap (λ v. cond (is_none v) ((number, layout) ∷ allowed plays t rest) (allowed plays t rest)) none
 
-allowed_no : (plays : List Played) (t : Table) (number : ℕ) (layout : Defenders) (rest : List (ℕ × Defenders)) (found : Contradiction) → verdict plays t layout ≡ Some found
+allowed_no : (plays : List Played) (t : PositionValue) (number : ℕ) (layout : Layout) (rest : List (ℕ × Layout)) (found : Contradiction) → verdict plays t layout ≡ Some found
     → allowed plays t ((number, layout) ∷ rest) ≡ allowed plays t rest
 allowed_no plays t number layout rest found some = ap (λ v. cond (is_none v) ((number, layout) ∷ allowed plays t rest) (allowed plays t rest)) some
 
-pub numbers_yes : (plays : List Played) (t : Table) (number : ℕ) (layout : Defenders) (rest : List (ℕ × Defenders)) → verdict plays t layout ≡ None
+pub numbers_yes : (plays : List Played) (t : PositionValue) (number : ℕ) (layout : Layout) (rest : List (ℕ × Layout)) → verdict plays t layout ≡ None
     → numbers_kept plays t ((number, layout) ∷ rest) ≡ number ∷ numbers_kept plays t rest
 numbers_yes plays t number layout rest none = ap (map (λ l. l.0)) (allowed_yes plays t number layout rest none)
 
-pub numbers_no : (plays : List Played) (t : Table) (number : ℕ) (layout : Defenders) (rest : List (ℕ × Defenders)) (found : Contradiction) → verdict plays t layout ≡ Some found
+pub numbers_no : (plays : List Played) (t : PositionValue) (number : ℕ) (layout : Layout) (rest : List (ℕ × Layout)) (found : Contradiction) → verdict plays t layout ≡ Some found
     → numbers_kept plays t ((number, layout) ∷ rest) ≡ numbers_kept plays t rest
 numbers_no plays t number layout rest found some = ap (map (λ l. l.0)) (allowed_no plays t number layout rest found some)
 
-pub lefts_yes : (plays : List Played) (t : Table) (number : ℕ) (layout : Defenders) (rest : List (ℕ × Defenders)) → verdict plays t layout ≡ None
+pub lefts_yes : (plays : List Played) (t : PositionValue) (number : ℕ) (layout : Layout) (rest : List (ℕ × Layout)) → verdict plays t layout ≡ None
     → lefts_kept plays t ((number, layout) ∷ rest) ≡ hand_after layout.left plays ∷ lefts_kept plays t rest
 lefts_yes plays t number layout rest none = ap (map (λ l. hand_after l.1.left plays)) (allowed_yes plays t number layout rest none)
 
-pub lefts_no : (plays : List Played) (t : Table) (number : ℕ) (layout : Defenders) (rest : List (ℕ × Defenders)) (found : Contradiction) → verdict plays t layout ≡ Some found
+pub lefts_no : (plays : List Played) (t : PositionValue) (number : ℕ) (layout : Layout) (rest : List (ℕ × Layout)) (found : Contradiction) → verdict plays t layout ≡ Some found
     → lefts_kept plays t ((number, layout) ∷ rest) ≡ lefts_kept plays t rest
 lefts_no plays t number layout rest found some = ap (map (λ l. hand_after l.1.left plays)) (allowed_no plays t number layout rest found some)
 
-pub dropped_yes : (plays : List Played) (t : Table) (number : ℕ) (layout : Defenders) (rest : List (ℕ × Defenders)) → verdict plays t layout ≡ None
+pub dropped_yes : (plays : List Played) (t : PositionValue) (number : ℕ) (layout : Layout) (rest : List (ℕ × Layout)) → verdict plays t layout ≡ None
     → dropped plays t ((number, layout) ∷ rest) ≡ dropped plays t rest
 dropped_yes plays t number layout rest none = ap (λ v. cons_option (option_map (λ c. record { number = number; cause = c.cause; play = c.play }) v) (dropped plays t rest)) none
 
-pub dropped_no : (plays : List Played) (t : Table) (number : ℕ) (layout : Defenders) (rest : List (ℕ × Defenders)) (found : Contradiction) → verdict plays t layout ≡ Some found
+pub dropped_no : (plays : List Played) (t : PositionValue) (number : ℕ) (layout : Layout) (rest : List (ℕ × Layout)) (found : Contradiction) → verdict plays t layout ≡ Some found
     → dropped plays t ((number, layout) ∷ rest) ≡ record { number = number; cause = found.cause; play = found.play } ∷ dropped plays t rest
 dropped_no plays t number layout rest found some = ap (λ v. cons_option (option_map (λ c. record { number = number; cause = c.cause; play = c.play }) v) (dropped plays t rest)) some
 
 -- a left hand more for the position after the play
-pub node_more : (plays : List Played) (t : Table) (lefts longer : List (List ℕ)) (before : Option Table) (position : Table) (left : List ℕ)
-    → MatchOption before (lefts ≡ []) (IsAfter plays t lefts) → position ≡ table_after t plays → IsState (record { table = position; left = left })
+pub node_more : (plays : List Played) (t : PositionValue) (lefts longer : List (List ℕ)) (before : Option PositionValue) (position : PositionValue) (left : List ℕ)
+    → MatchOption before (lefts ≡ []) (IsAfter plays t lefts) → position ≡ position_after t plays → IsState (record { position = position; left = left })
     → longer ≡ lefts ++ left ∷ [] → length lefts < 64 → IsAfter plays t longer position
 node_more plays t lefts longer None position left none same state added few =
     let one : longer ≡ left ∷ [] = added ∙ ap (λ l. l ++ left ∷ []) none in
@@ -78,7 +78,7 @@ node_more plays t lefts longer None position left none same state added few =
     }
 node_more plays t lefts longer (Some before) position left after same state added few =
     let both : before ≡ position = after.same ∙ sym same in
-    let old = subst (λ (p : Table). All (FitsLeft p) lefts) both after.node.fits in
+    let old = subst (λ (p : PositionValue). All (FitsLeft p) lefts) both after.node.fits in
     record {
       same = same;
       node = record {
@@ -89,8 +89,8 @@ node_more plays t lefts longer (Some before) position left after same state adde
       };
     }
 
-pub same_position : (plays : List Played) (t : Table) (lefts same_lefts : List (List ℕ)) (position same : Option Table)
+pub same_position : (plays : List Played) (t : PositionValue) (lefts same_lefts : List (List ℕ)) (position same : Option PositionValue)
     → MatchOption position (lefts ≡ []) (IsAfter plays t lefts) → same_lefts ≡ lefts → same ≡ position → MatchOption same (same_lefts ≡ []) (IsAfter plays t same_lefts)
 same_position plays t lefts same_lefts position same after lefts_same position_same =
-    subst (λ (o : Option Table). MatchOption o (same_lefts ≡ []) (IsAfter plays t same_lefts)) (sym position_same)
+    subst (λ (o : Option PositionValue). MatchOption o (same_lefts ≡ []) (IsAfter plays t same_lefts)) (sym position_same)
     (subst (λ (l : List (List ℕ)). MatchOption position (l ≡ []) (IsAfter plays t l)) (sym lefts_same) after)

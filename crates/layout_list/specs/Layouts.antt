@@ -1,7 +1,7 @@
 -- The kept layouts of a file, or its first fault.
 use Rattle.std.specs.Prelude.{◌≡◌, ℕ, Bool, Option, None, Some, is_none, Result, Ok, Err, List, [], ◌∷◌, map, filter, filter_map, option_map, ◌⊎◌}
 use Rattle.std.specs.List.{enumerate_from}
-use Rattle.trick_rules.specs.Table.{Table}
+use Rattle.trick_rules.specs.Positions.{PositionValue}
 use Rattle.trick_rules.specs.Nodes.{IsNode}
 use Rattle.pbn_deal.specs.declared.board.Played.{Played}
 use Rattle.pbn_deal.specs.Boards.{BoardValue}
@@ -10,30 +10,30 @@ use Rattle.byte_text.specs.Steps.{◌>>=◌}
 use Rattle.layout_list.specs.declared.fault.LayoutFault.{LayoutFault}
 use Rattle.layout_list.specs.declared.fault.LayoutFault.TheVariants.{NoneLeft, Memory}
 use Rattle.layout_list.specs.declared.kept.Dropped.{Dropped}
-use Rattle.layout_list.specs.declared.line.Defenders.{Defenders}
+use Rattle.layout_list.specs.declared.line.Layout.{Layout}
 use Rattle.layout_list.specs.declared.verdict.Contradiction.{Contradiction}
 use Rattle.layout_list.specs.Kept.{KeptValue}
 use Rattle.layout_list.specs.Lines.{numbered_lines, layout_lines, lines_read}
-use Rattle.layout_list.specs.Verdicts.{first_table, contradiction, table_after, hand_after}
+use Rattle.layout_list.specs.Verdicts.{first_position, contradiction, position_after, hand_after}
 
 -- what the play says of a layout, from this position on
-abbrev pub verdict : List Played → Table → Defenders → Option Contradiction
-verdict plays t layout = contradiction 1 (record { table = t; left = layout.left }) plays
+abbrev pub verdict : List Played → PositionValue → Layout → Option Contradiction
+verdict plays t layout = contradiction 1 (record { position = t; left = layout.left }) plays
 
 -- the layouts that the play allows, with their numbers
-abbrev pub allowed : List Played → Table → List (ℕ × Defenders) → List (ℕ × Defenders)
+abbrev pub allowed : List Played → PositionValue → List (ℕ × Layout) → List (ℕ × Layout)
 allowed plays t layouts = filter (λ l. is_none (verdict plays t l.1)) layouts
 
 -- those that it doesn't, with the first card that each contradicts
-abbrev pub dropped : List Played → Table → List (ℕ × Defenders) → List Dropped
+abbrev pub dropped : List Played → PositionValue → List (ℕ × Layout) → List Dropped
 dropped plays t layouts = filter_map (λ l. option_map (λ c. record { number = l.0; cause = c.cause; play = c.play }) (verdict plays t l.1)) layouts
 
 -- the numbers of the layouts that the play allows
-abbrev pub numbers_kept : List Played → Table → List (ℕ × Defenders) → List ℕ
+abbrev pub numbers_kept : List Played → PositionValue → List (ℕ × Layout) → List ℕ
 numbers_kept plays t layouts = map (λ l. l.0) (allowed plays t layouts)
 
 -- Left's cards after the play in the layouts that it allows
-abbrev pub lefts_kept : List Played → Table → List (ℕ × Defenders) → List (List ℕ)
+abbrev pub lefts_kept : List Played → PositionValue → List (ℕ × Layout) → List (List ℕ)
 lefts_kept plays t layouts = map (λ l. hand_after l.1.left plays) (allowed plays t layouts)
 
 -- the fault that no layout is left, or else what is kept
@@ -42,29 +42,29 @@ unless_none [] kept = Err NoneLeft
 unless_none (number ∷ numbers) kept = Ok kept
 
 -- what is kept of numbered layouts that have one position before the first card
-abbrev pub kept_over : List Played → Table → List (ℕ × Defenders) → Result KeptValue LayoutFault
+abbrev pub kept_over : List Played → PositionValue → List (ℕ × Layout) → Result KeptValue LayoutFault
 kept_over plays t layouts =
     unless_none (numbers_kept plays t layouts)
     (record {
       numbers = numbers_kept plays t layouts;
       dropped = dropped plays t layouts;
-      node = record { table = table_after t plays; lefts = lefts_kept plays t layouts };
+      node = record { position = position_after t plays; lefts = lefts_kept plays t layouts };
     })
 
 -- what is kept of the layouts of a board
-abbrev pub kept_of : BoardValue → List Defenders → Result KeptValue LayoutFault
+abbrev pub kept_of : BoardValue → List Layout → Result KeptValue LayoutFault
 kept_of board [] = Err NoneLeft
-kept_of board (first ∷ rest) = kept_over board.plays (first_table board (together first.left first.right)) (enumerate_from 1 (first ∷ rest))
+kept_of board (first ∷ rest) = kept_over board.plays (first_position board (together first.left first.right)) (enumerate_from 1 (first ∷ rest))
 
 -- the layouts of a file that the play of a board allows, or the first fault
 unfoldable pub layouts_read : List ℕ → BoardValue → Result KeptValue LayoutFault
 layouts_read bytes board = lines_read board board.unseen 0 (layout_lines (numbered_lines bytes)) >>= kept_of board
 
 -- a fault that may be given where this is to be read: want of memory, or the fault of what is read
-abbrev pub IsFaultOf : {A : Type 0} → Result A LayoutFault → LayoutFault → Type 0
-IsFaultOf expected fault = (fault ≡ Memory) ⊎ (expected ≡ Err fault)
+abbrev pub IsLayoutFaultOf : {A : Type 0} → Result A LayoutFault → LayoutFault → Type 0
+IsLayoutFaultOf expected fault = (fault ≡ Memory) ⊎ (expected ≡ Err fault)
 
 -- a position that is the one after the play, and a node with these hands of Left's
-pub record IsAfter (plays : List Played) (t : Table) (lefts : List (List ℕ)) (position : Table) : Type 0 where
-  pub same : position ≡ table_after t plays
-  pub node : IsNode (record { table = position; lefts = lefts })
+pub record IsAfter (plays : List Played) (t : PositionValue) (lefts : List (List ℕ)) (position : PositionValue) : Type 0 where
+  pub same : position ≡ position_after t plays
+  pub node : IsNode (record { position = position; lefts = lefts })

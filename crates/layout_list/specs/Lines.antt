@@ -14,7 +14,7 @@ use Rattle.pbn_deal.specs.Sections.{prepend}
 use Rattle.byte_text.specs.Steps.{◌>>=◌}
 use Rattle.layout_list.specs.declared.fault.LayoutFault.{LayoutFault}
 use Rattle.layout_list.specs.declared.fault.LayoutFault.TheVariants.{BadLine, OtherHands, TooMany}
-use Rattle.layout_list.specs.declared.line.Defenders.{Defenders}
+use Rattle.layout_list.specs.declared.line.Layout.{Layout}
 
 -- ---- lines
 
@@ -43,33 +43,33 @@ layout_lines lines = filter (λ line. not (is_skipped line.1)) lines
 -- ---- one layout
 
 -- two sets have the same cards
-abbrev pub same_cards : List ℕ → List ℕ → Bool
-same_cards a b = bytes_eq a b
+abbrev pub same_set : List ℕ → List ℕ → Bool
+same_set a b = bytes_eq a b
 
 -- the cards of the two defenders, where they are told
 abbrev pub is_told : Option (List ℕ) → List ℕ → Bool
 is_told None cards = true
-is_told (Some unseen) cards = same_cards cards unseen
+is_told (Some unseen) cards = same_set cards unseen
 
 -- the defenders' hands, where all four hands are shown, declarer's side has the board's hands and the defenders have the unseen cards
-abbrev pub defenders_of : BoardValue → Option (List ℕ) → Option (List ℕ) → Option (List ℕ) → Option (List ℕ) → Option (List ℕ) → Option Defenders
-defenders_of board unseen (Some own) (Some dummy) (Some left) (Some right) =
-    if same_cards own board.declarer_hand && same_cards dummy board.dummy_hand && is_told unseen (together left right) then Some (record { left = left; right = right })
+abbrev pub layout_of : BoardValue → Option (List ℕ) → Option (List ℕ) → Option (List ℕ) → Option (List ℕ) → Option (List ℕ) → Option Layout
+layout_of board unseen (Some own) (Some dummy) (Some left) (Some right) =
+    if same_set own board.declarer_hand && same_set dummy board.dummy_hand && is_told unseen (together left right) then Some (record { left = left; right = right })
     else None
-defenders_of board unseen _ _ _ _ = None
+layout_of board unseen _ _ _ _ = None
 
 -- the defenders' hands in a deal that shows all four hands, as the board has them
-abbrev pub defenders_in : BoardValue → Option (List ℕ) → DealValue → Option Defenders
-defenders_in board unseen deal =
-    defenders_of board unseen (hand_at deal board.declarer) (hand_at deal (compass_of board.declarer Dummy)) (hand_at deal (compass_of board.declarer Left)) (hand_at deal (compass_of board.declarer Right))
+abbrev pub layout_in : BoardValue → Option (List ℕ) → DealValue → Option Layout
+layout_in board unseen deal =
+    layout_of board unseen (hand_at deal board.declarer) (hand_at deal (compass_of board.declarer Dummy)) (hand_at deal (compass_of board.declarer Left)) (hand_at deal (compass_of board.declarer Right))
 
 -- the defenders' hands in a deal that was read from this line, or the refusal of the line
-abbrev pub deal_of_line : BoardValue → Option (List ℕ) → ℕ → Result DealValue DealFault → Result Defenders LayoutFault
-deal_of_line board unseen number (Ok deal) = ok_or (defenders_in board unseen deal) (OtherHands number)
+abbrev pub deal_of_line : BoardValue → Option (List ℕ) → ℕ → Result DealValue DealFault → Result Layout LayoutFault
+deal_of_line board unseen number (Ok deal) = ok_or (layout_in board unseen deal) (OtherHands number)
 deal_of_line board unseen number (Err fault) = Err (BadLine number fault)
 
 -- the defenders' hands in a line, or its refusal
-unfoldable pub line_read : BoardValue → Option (List ℕ) → ℕ → List ℕ → Result Defenders LayoutFault
+unfoldable pub line_read : BoardValue → Option (List ℕ) → ℕ → List ℕ → Result Layout LayoutFault
 line_read board unseen number line = deal_of_line board unseen number (deal_read line)
 
 -- ---- all layouts
@@ -79,7 +79,7 @@ abbrev pub most_listed : ℕ
 most_listed = 64
 
 -- the layouts of the lines, after some that were read: at most 64 in all, and each with the unseen cards of the first where the board doesn't tell them
-abbrev pub lines_read : BoardValue → Option (List ℕ) → ℕ → List (ℕ × List ℕ) → Result (List Defenders) LayoutFault
+abbrev pub lines_read : BoardValue → Option (List ℕ) → ℕ → List (ℕ × List ℕ) → Result (List Layout) LayoutFault
 lines_read board unseen count [] = Ok []
 lines_read board unseen count (line ∷ lines) =
     if count == most_listed then Err (TooMany line.0)
@@ -88,7 +88,7 @@ lines_read board unseen count (line ∷ lines) =
 -- ---- what a layout that was read keeps
 
 -- a set for each defender, apart from each other and from declarer's side, each with a card for each trick
-pub record FitsBoard (board : BoardValue) (layout : Defenders) : Type 0 where
+pub record FitsBoard (board : BoardValue) (layout : Layout) : Type 0 where
   pub left_set : IsCardSet layout.left
   pub left_size : length layout.left ≡ tricks_of board
   pub unseen : FitsUnseen board (together layout.left layout.right)
@@ -99,16 +99,16 @@ IsTold None cards = Unit {0}
 IsTold (Some unseen) cards = cards ≡ unseen
 
 -- a layout of a board whose defenders hold these cards together
-pub record FitsOver (board : BoardValue) (unseen : List ℕ) (layout : Defenders) : Type 0 where
+pub record FitsOver (board : BoardValue) (unseen : List ℕ) (layout : Layout) : Type 0 where
   pub fits : FitsBoard board layout
   pub same : together layout.left layout.right ≡ unseen
 
 -- layouts of a board, each with the same cards together, which are told if there is a layout
-abbrev pub AreOver : BoardValue → Option (List ℕ) → List Defenders → Type 0
+abbrev pub AreOver : BoardValue → Option (List ℕ) → List Layout → Type 0
 AreOver board None layouts = layouts ≡ []
 AreOver board (Some unseen) layouts = All (FitsOver board unseen) layouts
 
 -- layouts of a board whose defenders hold the same cards together
-abbrev pub IsOneDeal : BoardValue → List Defenders → Type 0
+abbrev pub IsOneDeal : BoardValue → List Layout → Type 0
 IsOneDeal board [] = Unit {0}
 IsOneDeal board (first ∷ rest) = All (FitsOver board (together first.left first.right)) (first ∷ rest)

@@ -11,8 +11,8 @@ pub enum Cause {
     Revoke,
 }
 
-/// A layout that the play contradicts: its number in the file, from 1, and the first defender's card that it
-/// contradicts, by the card's number in order of play, from 1.
+/// A layout that the play contradicts: its number in the file, from 1, and the first defender's
+/// card that it contradicts, by the card's number in order of play, from 1.
 #[derive(Clone, Copy, Debug, PartialEq, Eq)]
 pub struct Dropped {
     pub number: u16,
@@ -20,7 +20,8 @@ pub struct Dropped {
     pub play: u16,
 }
 
-/// The layouts of a file that the play allows, by number, and those that it doesn't, each in file order.
+/// The layouts of a file that the play allows, by number, and those that it doesn't, each in file
+/// order.
 ///
 /// The node is the position after the plays with the kept layouts, at least one of them.
 #[derive(Debug, Drop)]
@@ -35,5 +36,9 @@ impl Model for Kept {
 
     ghost Value = { KeptValue };
 
-    ghost view = { λ kept. record { numbers = kept.numbers.items; dropped = kept.dropped.items; node = kept.node } };
+    ghost view = { λ kept. record {
+      numbers = kept.numbers.items;
+      dropped = kept.dropped.items;
+      node = kept.node;
+    } };
 }

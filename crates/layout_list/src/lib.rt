@@ -11,5 +11,5 @@ mod verdict;
 
 pub use fault::LayoutFault;
 pub use kept::{Cause, Dropped, Kept};
-pub use line::{Defenders, MOST_LISTED, read_lines};
+pub use line::{Layout, MOST_LISTED, read_lines};
 pub use list::layouts;

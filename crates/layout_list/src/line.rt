@@ -2,8 +2,8 @@
 ghost use Rattle.std.specs.Prelude.{◌≡◌, ◌&&◌, ◌<◌, ◌≤◌, ◌-◌, ◌^◌, Ok, length, MatchResult, IfOk, IfSome};
 ghost use Rattle.pbn_deal.specs.BoardRead.{together};
 ghost use Rattle.pbn_deal.specs.Deal.{IsSoundDeal};
-ghost use Rattle.layout_list.specs.Lines.{is_skipped, same_cards, is_told, defenders_in, line_read, numbered_lines, layout_lines, lines_read, most_listed, FitsBoard, IsTold, IsOneDeal};
-ghost use Rattle.layout_list.specs.Layouts.{IsFaultOf};
+ghost use Rattle.layout_list.specs.Lines.{is_skipped, same_set, is_told, layout_in, line_read, numbered_lines, layout_lines, lines_read, most_listed, FitsBoard, IsTold, IsOneDeal};
+ghost use Rattle.layout_list.specs.Layouts.{IsLayoutFaultOf};
 
 use crate::fault::LayoutFault;
 use byte_text::{are_blanks, split_line};
@@ -13,7 +13,7 @@ use std::alloc::Global;
 
 /// The hands of the two defenders before the first card.
 #[derive(Clone, Copy, Debug)]
-pub struct Defenders {
+pub struct Layout {
     pub left: CardSet,
     pub right: CardSet,
 }
@@ -37,16 +37,17 @@ fn is_told(unseen: Option<CardSet>, cards: CardSet) -> bool
 
 // Whether these are the board's hands of declarer's side.
 fn has_hands(board: &Board, own: CardSet, dummy: CardSet) -> bool
-    ensures { result ≡ (same_cards own board.now.declarer_hand && same_cards dummy board.now.dummy_hand) }
+    ensures { result
+        ≡ (same_set own board.now.declarer_hand && same_set dummy board.now.dummy_hand) }
 {
     own == board.declarer_hand() && dummy == board.dummy_hand()
 }
 
-// The defenders' hands of a deal that shows all four hands: declarer's side has the board's, and the defenders have the
-// unseen cards.
-fn defenders_in(board: &Board, unseen: Option<CardSet>, deal: &DealValue) -> Option<Defenders>
+// The defenders' hands of a deal that shows all four hands: declarer's side has the board's, and
+// the defenders have the unseen cards.
+fn layout_in(board: &Board, unseen: Option<CardSet>, deal: &DealValue) -> Option<Layout>
     requires { IsSoundDeal deal.now }
-    ensures value { result ≡ defenders_in board.now unseen deal.now }
+    ensures value { result ≡ layout_in board.now unseen deal.now }
     ensures fits { IfSome result (FitsBoard board.now) }
     ensures told { IfSome result (λ layout. IsTold unseen (together layout.left layout.right)) }
 {
@@ -55,7 +56,7 @@ fn defenders_in(board: &Board, unseen: Option<CardSet>, deal: &DealValue) -> Opt
     let left = deal.hand(board.compass(Seat::Left))?;
     let right = deal.hand(board.compass(Seat::Right))?;
     if has_hands(board, own, dummy) && is_told(unseen, left.either(right)) {
-        Some(Defenders { left, right })
+        Some(Layout { left, right })
     } else {
         None
     }
@@ -68,13 +69,13 @@ fn read_line(
     unseen: Option<CardSet>,
     number: u32,
     line: &[u8],
-) -> Result<Defenders, LayoutFault>
+) -> Result<Layout, LayoutFault>
     ensures value { result ≡ line_read board.now unseen number line.now }
     ensures fits { IfOk result (FitsBoard board.now) }
     ensures told { IfOk result (λ layout. IsTold unseen (together layout.left layout.right)) }
 {
     match read_deal(line) {
-        Ok(deal) => defenders_in(board, unseen, &deal).ok_or(LayoutFault::OtherHands(number)),
+        Ok(deal) => layout_in(board, unseen, &deal).ok_or(LayoutFault::OtherHands(number)),
         Err(fault) => Err(LayoutFault::BadLine(number, fault)),
     }
 }
@@ -83,11 +84,13 @@ fn read_line(
 pub const MOST_LISTED: usize = 64;
 
 /// The layouts of a file's lines, in order, or the first fault.
-pub fn read_lines(alloc: Global, bytes: &[u8], board: &Board) -> Result<Vec<Defenders>, LayoutFault>
+pub fn read_lines(alloc: Global, bytes: &[u8], board: &Board) -> Result<Vec<Layout>, LayoutFault>
     requires { length bytes.now < 2 ^ 32 - 1 }
     ensures layouts { MatchResult result
-        (λ layouts. lines_read board.now board.now.unseen 0 (layout_lines (numbered_lines bytes.now)) ≡ Ok layouts.items)
-        (IsFaultOf (lines_read board.now board.now.unseen 0 (layout_lines (numbered_lines bytes.now)))) }
+        (λ layouts. lines_read board.now board.now.unseen 0
+        (layout_lines (numbered_lines bytes.now)) ≡ Ok layouts.items)
+        (IsLayoutFaultOf
+        (lines_read board.now board.now.unseen 0 (layout_lines (numbered_lines bytes.now)))) }
     ensures one_deal { IfOk result (λ layouts. IsOneDeal board.now layouts.items) }
     ensures few { IfOk result (λ layouts. length layouts.items ≤ most_listed) }
 {

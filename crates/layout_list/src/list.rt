@@ -1,24 +1,24 @@
 //! The layouts of a file that the play of a board allows.
 ghost use Rattle.std.specs.Prelude.{◌≡◌, ◌<◌, ◌≤◌, ◌-◌, ◌^◌, ◌++◌, ◌∷◌, Ok, Some, None, [], map, length, All, MatchResult, MatchOption, IfOk, IfErr, OnOk};
 ghost use Rattle.std.specs.List.{enumerate_from};
-ghost use Rattle.trick_rules.specs.Table.{IsState};
+ghost use Rattle.trick_rules.specs.Positions.{IsState};
 ghost use Rattle.trick_rules.specs.Nodes.{IsNode};
 ghost use Rattle.pbn_deal.specs.Boards.{IsCourse};
 ghost use Rattle.layout_list.specs.Lines.{IsOneDeal, most_listed};
 ghost use Rattle.layout_list.specs.Verdicts.{hand_after, course_of};
-ghost use Rattle.layout_list.specs.Layouts.{numbers_kept, lefts_kept, dropped, IsAfter, kept_of, layouts_read, IsFaultOf};
+ghost use Rattle.layout_list.specs.Layouts.{numbers_kept, lefts_kept, dropped, IsAfter, kept_of, layouts_read, IsLayoutFaultOf};
 
 use crate::fault::LayoutFault;
 use crate::kept::{Dropped, Kept};
-use crate::line::{Defenders, read_lines};
+use crate::line::{Layout, read_lines};
 use crate::verdict::{Followed, first_position, follow};
 use card_sets::CardSet;
 use pbn_deal::{Board, Played};
 use std::alloc::Global;
 use trick_rules::{Node, Position};
 
-// The layouts that the play allows, by number and by Left's cards after it, and those that it doesn't. The position
-// after the play is there where a layout is allowed.
+// The layouts that the play allows, by number and by Left's cards after it, and those that it
+// doesn't. The position after the play is there where a layout is allowed.
 #[derive(Debug, Drop)]
 struct Sorting {
     numbers: Vec<u16>,
@@ -44,8 +44,10 @@ impl Sorting {
 
     // Adds a layout that the play allows.
     fn allow(&mut self, number: u16, followed: Followed) -> Result<(), LayoutFault>
-        ensures numbers { OnOk result (self.new.numbers.items ≡ self.old.numbers.items ++ number ∷ []) }
-        ensures lefts { OnOk result (self.new.lefts.items ≡ self.old.lefts.items ++ followed.left ∷ []) }
+        ensures numbers { OnOk result
+            (self.new.numbers.items ≡ self.old.numbers.items ++ number ∷ []) }
+        ensures lefts { OnOk result
+            (self.new.lefts.items ≡ self.old.lefts.items ++ followed.left ∷ []) }
         ensures dropped { OnOk result (self.new.dropped.items ≡ self.old.dropped.items) }
         ensures position { OnOk result (self.new.position ≡ Some followed.position) }
         ensures memory { IfErr result (λ fault. fault ≡ LayoutFault.Memory) }
@@ -62,7 +64,8 @@ impl Sorting {
     fn rule_out(&mut self, layout: Dropped) -> Result<(), LayoutFault>
         ensures numbers { self.new.numbers ≡ self.old.numbers }
         ensures lefts { self.new.lefts ≡ self.old.lefts }
-        ensures dropped { OnOk result (self.new.dropped.items ≡ self.old.dropped.items ++ layout ∷ []) }
+        ensures dropped { OnOk result
+            (self.new.dropped.items ≡ self.old.dropped.items ++ layout ∷ []) }
         ensures position { self.new.position ≡ self.old.position }
         ensures memory { IfErr result (λ fault. fault ≡ LayoutFault.Memory) }
     {
@@ -75,16 +78,22 @@ fn sort_out(
     alloc: Global,
     plays: &[Played],
     start: &Position,
-    layouts: &[Defenders],
+    layouts: &[Layout],
 ) -> Result<Sorting, LayoutFault>
-    requires states { All (λ d. IsState (record { table = start.now; left = d.left })) layouts.now }
+    requires states { All
+        (λ d. IsState (record { position = start.now; left = d.left })) layouts.now }
     requires fair { IsCourse start.now.trump (course_of start.now) plays.now }
     requires short { length plays.now < 65535 }
     requires few { length layouts.now ≤ most_listed }
-    ensures numbers { IfOk result (λ s. s.numbers.items ≡ numbers_kept plays.now start.now (enumerate_from 1 layouts.now)) }
-    ensures lefts { IfOk result (λ s. s.lefts.items ≡ lefts_kept plays.now start.now (enumerate_from 1 layouts.now)) }
-    ensures dropped { IfOk result (λ s. s.dropped.items ≡ dropped plays.now start.now (enumerate_from 1 layouts.now)) }
-    ensures position { IfOk result (λ s. MatchOption s.position (s.lefts.items ≡ []) (IsAfter plays.now start.now s.lefts.items)) }
+    ensures numbers { IfOk result
+        (λ s. s.numbers.items ≡ numbers_kept plays.now start.now (enumerate_from 1 layouts.now)) }
+    ensures lefts { IfOk result
+        (λ s. s.lefts.items ≡ lefts_kept plays.now start.now (enumerate_from 1 layouts.now)) }
+    ensures dropped { IfOk result
+        (λ s. s.dropped.items ≡ dropped plays.now start.now (enumerate_from 1 layouts.now)) }
+    ensures position { IfOk result
+        (λ s. MatchOption s.position (s.lefts.items ≡ [])
+        (IsAfter plays.now start.now s.lefts.items)) }
     ensures few { IfOk result (λ s. length s.lefts.items ≤ most_listed) }
     ensures memory { IfErr result (λ fault. fault ≡ LayoutFault.Memory) }
 {
@@ -105,8 +114,8 @@ fn sort_out(
 
 // The node of a position and these hands of Left's.
 fn root_node(alloc: Global, position: Position, lefts: &[CardSet]) -> Result<Node, LayoutFault>
-    requires { IsNode (record { table = position; lefts = lefts.now }) }
-    ensures node { IfOk result (λ node. node ≡ record { table = position; lefts = lefts.now }) }
+    requires { IsNode (record { position = position; lefts = lefts.now }) }
+    ensures node { IfOk result (λ node. node ≡ record { position = position; lefts = lefts.now }) }
     ensures memory { IfErr result (λ fault. fault ≡ LayoutFault.Memory) }
 {
     match Node::new(alloc, position, lefts) {
@@ -116,10 +125,12 @@ fn root_node(alloc: Global, position: Position, lefts: &[CardSet]) -> Result<Nod
 }
 
 // What is kept of the layouts of a board: those that the play allows, at the position after it.
-fn keep(alloc: Global, board: &Board, layouts: &[Defenders]) -> Result<Kept, LayoutFault>
+fn keep(alloc: Global, board: &Board, layouts: &[Layout]) -> Result<Kept, LayoutFault>
     requires one_deal { IsOneDeal board.now layouts.now }
     requires few { length layouts.now ≤ most_listed }
-    ensures kept { MatchResult result (λ kept. kept_of board.now layouts.now ≡ Ok kept) (IsFaultOf (kept_of board.now layouts.now)) }
+    ensures kept { MatchResult result
+        (λ kept. kept_of board.now layouts.now ≡ Ok kept)
+        (IsLayoutFaultOf (kept_of board.now layouts.now)) }
     ensures as_many { IfOk result (λ kept. length kept.numbers ≡ length kept.node.lefts) }
     ensures few { IfOk result (λ kept. length kept.node.lefts ≤ most_listed) }
 {
@@ -144,16 +155,20 @@ fn keep(alloc: Global, board: &Board, layouts: &[Defenders]) -> Result<Kept, Lay
     })
 }
 
-/// The layouts of a file that the play of a board allows, and the first card that each other one contradicts.
+/// The layouts of a file that the play of a board allows, and the first card that each other one
+/// contradicts.
 ///
-/// A line is a layout in the Deal form, unless it is of blanks alone or begins with `%`. It shows all four hands, those
-/// of declarer's side as on the board and those of the defenders with the unseen cards, which are the first layout's
-/// where the board doesn't tell them. The file has at most 64 layouts. The first fault in the order of the lines is
-/// given, and `NoneLeft` where the play allows none.
+/// A line is a layout in the Deal form, unless it is of blanks alone or begins with `%`. It shows
+/// all four hands, those of declarer's side as on the board and those of the defenders with the
+/// unseen cards, which are the first layout's where the board doesn't tell them. The file has at
+/// most 64 layouts. The first fault in the order of the lines is given, and `NoneLeft` where the
+/// play allows none.
 #[tactic(auto, unfolding(crate::specs::Layouts::layouts_read))]
 pub fn layouts(alloc: Global, bytes: &[u8], board: &Board) -> Result<Kept, LayoutFault>
     requires { length bytes.now < 2 ^ 32 - 1 }
-    ensures kept { MatchResult result (λ kept. layouts_read bytes.now board.now ≡ Ok kept) (IsFaultOf (layouts_read bytes.now board.now)) }
+    ensures kept { MatchResult result
+        (λ kept. layouts_read bytes.now board.now ≡ Ok kept)
+        (IsLayoutFaultOf (layouts_read bytes.now board.now)) }
     ensures as_many { IfOk result (λ kept. length kept.numbers ≡ length kept.node.lefts) }
     ensures few { IfOk result (λ kept. length kept.node.lefts ≤ most_listed) }
 {

@@ -1,8 +1,8 @@
 //! What the play says of a layout.
 ghost use Rattle.std.specs.Prelude.{◌≡◌, ◌<◌, Some, None, length, MatchResult, IfOk};
-ghost use Rattle.trick_rules.specs.Table.{IsSound, IsState};
+ghost use Rattle.trick_rules.specs.Positions.{IsSound, IsState};
 ghost use Rattle.pbn_deal.specs.Boards.{IsCourse, FitsUnseen};
-ghost use Rattle.layout_list.specs.Verdicts.{first_table, cause_of, contradiction, table_after, hand_after, course_of};
+ghost use Rattle.layout_list.specs.Verdicts.{first_position, cause_of, contradiction, position_after, hand_after, course_of};
 
 use crate::kept::Cause;
 use card_sets::{CardSet, Seat};
@@ -18,7 +18,7 @@ pub struct Contradiction {
 
 // Why a defender can't have played this card at a position where Left holds these cards.
 fn cause_of(position: &Position, left: CardSet, play: Played) -> Option<Cause>
-    ensures { result ≡ cause_of (record { table = position.now; left = left }) play }
+    ensures { result ≡ cause_of (record { position = position.now; left = left }) play }
 {
     if matches!(play.seat, Seat::Declarer | Seat::Dummy) {
         return None;
@@ -43,7 +43,7 @@ pub struct Followed {
 /// The position before the first card, where these cards are unseen.
 pub fn first_position(board: &Board, unseen: CardSet) -> Position
     requires { FitsUnseen board.now unseen }
-    ensures value { result ≡ first_table board.now unseen }
+    ensures value { result ≡ first_position board.now unseen }
     ensures sound { IsSound result }
 {
     Position {
@@ -56,17 +56,21 @@ pub fn first_position(board: &Board, unseen: CardSet) -> Position
     }
 }
 
-/// Follows the play from a position where Left holds these cards, up to the first card that this contradicts.
+/// Follows the play from a position where Left holds these cards, up to the first card that this
+/// contradicts.
 pub fn follow(plays: &[Played], start: Position, left: CardSet) -> Result<Followed, Contradiction>
-    requires state { IsState (record { table = start; left = left }) }
+    requires state { IsState (record { position = start; left = left }) }
     requires fair { IsCourse start.trump (course_of start) plays.now }
     requires few { length plays.now < 65535 }
     ensures verdict { MatchResult result
-        (λ _. contradiction 1 (record { table = start; left = left }) plays.now ≡ None)
-        (λ found. contradiction 1 (record { table = start; left = left }) plays.now ≡ Some found) }
-    ensures position { IfOk result (λ followed. followed.position ≡ table_after start plays.now) }
+        (λ _. contradiction 1 (record { position = start; left = left }) plays.now ≡ None)
+        (λ found. contradiction 1 (record { position = start; left = left }) plays.now
+        ≡ Some found) }
+    ensures position { IfOk result
+        (λ followed. followed.position ≡ position_after start plays.now) }
     ensures left { IfOk result (λ followed. followed.left ≡ hand_after left plays.now) }
-    ensures state { IfOk result (λ followed. IsState (record { table = followed.position; left = followed.left })) }
+    ensures state { IfOk result
+        (λ followed. IsState (record { position = followed.position; left = followed.left })) }
 {
     let mut position = start;
     let mut hand = left;

@@ -8,7 +8,7 @@ use Rattle.std.proofs.lemmas.Nat.{pow_pos}
 use Rattle.card_sets.specs.SetWords.{has_card, cards_where, IsCardSet}
 use Rattle.card_sets.proofs.Sets.{has_card-cards_where, cards_where-agree}
 use Rattle.pbn_deal.specs.BoardRead.{together}
-use Rattle.layout_list.specs.declared.line.Defenders.{Defenders}
+use Rattle.layout_list.specs.declared.line.Layout.{Layout}
 use Rattle.layout_maker.specs.Divisions.{hands_of_size, layout_with}
 use Rattle.layout_maker.specs.Choosing.{ways}
 use Rattle.layout_maker.proofs.Hands.{map-same, map-map, map-append, hands_of_size-none}
@@ -44,7 +44,7 @@ first_row (suc chosen) = zeros 13 chosen
 -- ---- layouts of hands
 
 -- the layouts with some hand and each of these more cards
-abbrev pub layouts_of : List ℕ → List ℕ → List (List ℕ) → List Defenders
+abbrev pub layouts_of : List ℕ → List ℕ → List (List ℕ) → List Layout
 layouts_of unseen hand choices = map (λ more. layout_with unseen (together hand more)) choices
 
 together-nil : (hand : List ℕ) → IsCardSet hand → together hand [] ≡ hand

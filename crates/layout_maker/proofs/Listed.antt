@@ -9,7 +9,7 @@ use Rattle.card_sets.specs.declared.seat.Seat.TheVariants.{Declarer, Left, Dummy
 use Rattle.card_sets.specs.SetWords.{has_card, IsCardSet}
 use Rattle.card_sets.proofs.Sets.{has_card-filter, has_card-cards_where, same_set, IsCardSet-filter, IsCardSet-cards_where, IsCardSet-tail, tail-after, Apart-minus}
 use Rattle.card_sets.proofs.SetCounts.{nil_from_length}
-use Rattle.trick_rules.specs.Table.{State, IsSound, IsState}
+use Rattle.trick_rules.specs.Positions.{State, IsSound, IsState}
 use Rattle.trick_rules.specs.Play.{take_out, after}
 use Rattle.trick_rules.proofs.BetweenTricks.{between_tricks_sound}
 use Rattle.trick_rules.proofs.CardLists.{has_card-take_out}
@@ -17,9 +17,9 @@ use Rattle.trick_rules.proofs.States.{legal_cards-low, right_of-not_left}
 use Rattle.pbn_deal.specs.declared.board.Played.{Played}
 use Rattle.pbn_deal.specs.BoardRead.{together}
 use Rattle.pbn_deal.specs.Boards.{BoardValue, FitsUnseen, IsDealt, IsBoard, IsFair, IsCourse, tricks_of}
-use Rattle.layout_list.specs.declared.line.Defenders.{Defenders}
+use Rattle.layout_list.specs.declared.line.Layout.{Layout}
 use Rattle.layout_list.specs.Lines.{FitsOver}
-use Rattle.layout_list.specs.Verdicts.{first_table, cause_of, contradiction, table_after, hand_after, course_of}
+use Rattle.layout_list.specs.Verdicts.{first_position, cause_of, contradiction, position_after, hand_after, course_of}
 use Rattle.layout_list.proofs.Follow.{Onward, onward}
 use Rattle.layout_list.proofs.Keep.{start_states}
 use Rattle.layout_maker.specs.Divisions.{hands_of_size, layout_with, divisions, is_allowed, layouts_over, IsDivision, ComesBefore}
@@ -117,17 +117,17 @@ either_bits true r apart = apart refl
 either_bits false true apart = refl
 either_bits false false apart = refl
 
-has_whole : (unseen : List ℕ) (size : ℕ) (layout : Defenders) → IsDivision unseen size layout → (c : ℕ) → c < 52 → has_card unseen c ≡ (has_card layout.left c || has_card layout.right c)
+has_whole : (unseen : List ℕ) (size : ℕ) (layout : Layout) → IsDivision unseen size layout → (c : ℕ) → c < 52 → has_card unseen c ≡ (has_card layout.left c || has_card layout.right c)
 has_whole unseen size layout div c within = ap (λ cards. has_card cards c) (sym div.whole) ∙ has_card-cards_where (λ d. has_card layout.left d || has_card layout.right d) c within
 
-division_is : (unseen : List ℕ) (size : ℕ) (layout : Defenders) → IsCardSet unseen → IsDivision unseen size layout → layout_with unseen layout.left ≡ layout
+division_is : (unseen : List ℕ) (size : ℕ) (layout : Layout) → IsCardSet unseen → IsDivision unseen size layout → layout_with unseen layout.left ≡ layout
 division_is unseen size layout a_set div =
     ap (λ right. record { left = layout.left; right = right })
     (same_set (filter (λ c. not (has_card layout.left c)) unseen) layout.right (IsCardSet-filter (λ c. not (has_card layout.left c)) unseen a_set) div.right_set
     (λ c within. has_card-filter (λ d. not (has_card layout.left d)) unseen c ∙ ap (λ b. b && not (has_card layout.left c)) (has_whole unseen size layout div c within)
     ∙ sym (either_bits (has_card layout.left c) (has_card layout.right c) (div.apart c))))
 
-left_part : (unseen : List ℕ) (size : ℕ) (layout : Defenders) → IsCardSet unseen → IsDivision unseen size layout → IsPart unseen layout.left
+left_part : (unseen : List ℕ) (size : ℕ) (layout : Layout) → IsCardSet unseen → IsDivision unseen size layout → IsPart unseen layout.left
 left_part unseen size layout a_set div =
     same_set (filter (has_card layout.left) unseen) layout.left (IsCardSet-filter (has_card layout.left) unseen a_set) div.left_set
     (λ c within. has_card-filter (has_card layout.left) unseen c ∙ ap (λ b. b && has_card layout.left c) (has_whole unseen size layout div c within) ∙ left_bits (has_card layout.left c) (has_card layout.right c)) where
@@ -136,7 +136,7 @@ left_part unseen size layout a_set div =
       left_bits false true = refl
       left_bits false false = refl
 
-pub each_division_is_there : (b : BoardValue) (unseen : List ℕ) (layout : Defenders) → IsBoard b → b.unseen ≡ Some unseen → IsDivision unseen (tricks_of b) layout → is_allowed b unseen layout ≡ true
+pub each_division_is_there : (b : BoardValue) (unseen : List ℕ) (layout : Layout) → IsBoard b → b.unseen ≡ Some unseen → IsDivision unseen (tricks_of b) layout → is_allowed b unseen layout ≡ true
     → Contains (layouts_over b unseen) layout
 unfolding layouts_over
 each_division_is_there b unseen layout sound shown div allowed =
@@ -219,23 +219,23 @@ each_before_the_later b unseen sound shown =
 pub none_stands_twice : (b : BoardValue) (unseen : List ℕ) → IsBoard b → b.unseen ≡ Some unseen → AllPairs (λ layout later. layout ≢ later) (layouts_over b unseen)
 none_stands_twice b unseen sound shown =
     AllPairs-weaker (λ _. Unit {0}) (λ layout later. HasEarlier layout.left later.left) (λ layout later. layout ≢ later) (layouts_over b unseen)
-    (λ layout later _ _ before same. both_ways (has_card later.left before.0) before.2 (ap (λ (d : Defenders). has_card d.left before.0) (sym same) ∙ before.1))
+    (λ layout later _ _ before same. both_ways (has_card later.left before.0) before.2 (ap (λ (d : Layout). has_card d.left before.0) (sym same) ∙ before.1))
     (λ k d within. tt) (each_before_the_later b unseen sound shown)
 
 -- ---- the order of the cards still held
 
 -- a card that only one of two hands has isn't played, where nothing contradicts either
-not_played : (s : State) (other : List ℕ) (seat : Seat) (card c : ℕ) → IsState s → IsFair (course_of s.table) seat card
-    → cause_of s (record { seat = seat; card = card }) ≡ None → cause_of (record { table = s.table; left = other }) (record { seat = seat; card = card }) ≡ None
+not_played : (s : State) (other : List ℕ) (seat : Seat) (card c : ℕ) → IsState s → IsFair (course_of s.position) seat card
+    → cause_of s (record { seat = seat; card = card }) ≡ None → cause_of (record { position = s.position; left = other }) (record { seat = seat; card = card }) ≡ None
     → has_card s.left c ≡ true → has_card other c ≡ false → c ≡ card → ⊥
 not_played s other Declarer card c state fair none other_none holds out same =
-    both_ways (has_card s.table.unseen card) (state.sound.declarer_unseen card (legal_cards-low s.table.trick.cards s.table.declarer card fair)) (state.fits.part card (ap (has_card s.left) (sym same) ∙ holds))
+    both_ways (has_card s.position.unseen card) (state.sound.declarer_unseen card (legal_cards-low s.position.trick.cards s.position.declarer card fair)) (state.fits.part card (ap (has_card s.left) (sym same) ∙ holds))
 not_played s other Dummy card c state fair none other_none holds out same =
-    both_ways (has_card s.table.unseen card) (state.sound.dummy_unseen card (legal_cards-low s.table.trick.cards s.table.dummy card fair)) (state.fits.part card (ap (has_card s.left) (sym same) ∙ holds))
+    both_ways (has_card s.position.unseen card) (state.sound.dummy_unseen card (legal_cards-low s.position.trick.cards s.position.dummy card fair)) (state.fits.part card (ap (has_card s.left) (sym same) ∙ holds))
 not_played s other Left card c state fair none other_none holds out same =
-    both_ways (has_card other c) out (ap (has_card other) same ∙ (follows_if_none s.table.trick.cards other card other_none).0)
+    both_ways (has_card other c) out (ap (has_card other) same ∙ (follows_if_none s.position.trick.cards other card other_none).0)
 not_played s other Right card c state fair none other_none holds out same =
-    both_ways (has_card s.left c) (ap (has_card s.left) same ∙ right_of-not_left s card (follows_if_none s.table.trick.cards (filter (λ d. not (has_card s.left d)) s.table.unseen) card none).0) holds
+    both_ways (has_card s.left c) (ap (has_card s.left) same ∙ right_of-not_left s card (follows_if_none s.position.trick.cards (filter (λ d. not (has_card s.left d)) s.position.unseen) card none).0) holds
 
 before_after : (card : ℕ) (hand other : List ℕ) (before : HasEarlier hand other) → (before.0 ≡ card → ⊥) → HasEarlier (take_out card hand) (take_out card other)
 before_after card hand other before differs =
@@ -246,18 +246,18 @@ before_after card hand other before differs =
       λ lower lt. has_card-take_out card hand lower ∙ ap (λ b. b && not (lower == card)) (before.3 lower lt) ∙ sym (has_card-take_out card other lower),
     )
 
-before_to_the_end : (n : ℕ) (s : State) (other : List ℕ) (plays : List Played) → IsState s → IsCourse s.table.trump (course_of s.table) plays
-    → is_none (contradiction n s plays) ≡ true → is_none (contradiction n (record { table = s.table; left = other }) plays) ≡ true
+before_to_the_end : (n : ℕ) (s : State) (other : List ℕ) (plays : List Played) → IsState s → IsCourse s.position.trump (course_of s.position) plays
+    → is_none (contradiction n s plays) ≡ true → is_none (contradiction n (record { position = s.position; left = other }) plays) ≡ true
     → HasEarlier s.left other → HasEarlier (hand_after s.left plays) (hand_after other plays)
 before_to_the_end n s other [] state course none other_none before = before
 before_to_the_end n s other (play ∷ plays) state course none other_none before =
     let first = none_parts (cause_of s play) n (contradiction (n + 1) (after s play.card) plays) none in
-    let other_first = none_parts (cause_of (record { table = s.table; left = other }) play) n (contradiction (n + 1) (after (record { table = s.table; left = other }) play.card) plays) other_none in
+    let other_first = none_parts (cause_of (record { position = s.position; left = other }) play) n (contradiction (n + 1) (after (record { position = s.position; left = other }) play.card) plays) other_none in
     let on : Onward s play plays = onward s play plays state course first.0 in
     before_to_the_end (n + 1) (after s play.card) (take_out play.card other) plays on.state on.fair first.1 other_first.1
     (before_after play.card s.left other before (not_played s other play.seat play.card before.0 state course.1 first.0 other_first.0 before.1 before.2))
 
-first_sound : (b : BoardValue) (unseen : List ℕ) → IsDealt b → FitsUnseen b unseen → IsSound (first_table b unseen)
+first_sound : (b : BoardValue) (unseen : List ℕ) → IsDealt b → FitsUnseen b unseen → IsSound (first_position b unseen)
 first_sound b unseen dealt fits =
     between_tricks_sound b.declarer_hand b.dummy_hand unseen b.leader b.need b.trump
     (record {
@@ -272,14 +272,14 @@ first_sound b unseen dealt fits =
     })
     dealt.need_fits
 
-first_state : (b : BoardValue) (unseen : List ℕ) (layout : Defenders) → IsBoard b → b.unseen ≡ Some unseen → IsDivision unseen (tricks_of b) layout → IsState (record { table = first_table b unseen; left = layout.left })
+first_state : (b : BoardValue) (unseen : List ℕ) (layout : Layout) → IsBoard b → b.unseen ≡ Some unseen → IsDivision unseen (tricks_of b) layout → IsState (record { position = first_position b unseen; left = layout.left })
 first_state b unseen layout sound shown div =
     let fits = shown_fits b unseen sound shown in
     let over : FitsOver b unseen layout = record { fits = record { left_set = div.left_set; left_size = div.left_size; unseen = subst (FitsUnseen b) (sym div.whole) fits }; same = div.whole } in
     start_states b unseen (layout ∷ []) (first_sound b unseen sound.dealt fits) (All-cons (FitsOver b unseen) layout [] over (All-nil (FitsOver b unseen))) 0 layout (omega arith)
 
-state_at_the_end : (n : ℕ) (s : State) (plays : List Played) → IsState s → IsCourse s.table.trump (course_of s.table) plays → is_none (contradiction n s plays) ≡ true
-    → IsState (record { table = table_after s.table plays; left = hand_after s.left plays })
+state_at_the_end : (n : ℕ) (s : State) (plays : List Played) → IsState s → IsCourse s.position.trump (course_of s.position) plays → is_none (contradiction n s plays) ≡ true
+    → IsState (record { position = position_after s.position plays; left = hand_after s.left plays })
 state_at_the_end n s [] state course none = state
 state_at_the_end n s (play ∷ plays) state course none =
     let first = none_parts (cause_of s play) n (contradiction (n + 1) (after s play.card) plays) none in
@@ -343,9 +343,9 @@ in_order_of_what_is_held b unseen sound shown =
     (λ layout later. ComesBefore (hand_after layout.left b.plays) (hand_after later.left b.plays)) (layouts_over b unseen)
     (λ layout later this that before.
     let this_state = first_state b unseen layout sound shown this.0 in
-    let this_end = state_at_the_end 1 (record { table = first_table b unseen; left = layout.left }) b.plays this_state sound.fair this.1 in
-    let that_end = state_at_the_end 1 (record { table = first_table b unseen; left = later.left }) b.plays (first_state b unseen later sound shown that.0) sound.fair that.1 in
+    let this_end = state_at_the_end 1 (record { position = first_position b unseen; left = layout.left }) b.plays this_state sound.fair this.1 in
+    let that_end = state_at_the_end 1 (record { position = first_position b unseen; left = later.left }) b.plays (first_state b unseen later sound shown that.0) sound.fair that.1 in
     card_by_card (hand_after layout.left b.plays) (hand_after later.left b.plays) this_end.fits.set that_end.fits.set (omega (arith, this_end.fits.count, that_end.fits.count))
-    (before_to_the_end 1 (record { table = first_table b unseen; left = layout.left }) later.left b.plays this_state sound.fair this.1 that.1 before))
+    (before_to_the_end 1 (record { position = first_position b unseen; left = layout.left }) later.left b.plays this_state sound.fair this.1 that.1 before))
     (λ k d within. (each_is_a_division b unseen sound shown k d within, each_is_allowed b unseen k d within))
     (each_before_the_later b unseen sound shown)

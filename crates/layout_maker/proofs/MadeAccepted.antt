@@ -9,11 +9,11 @@ use Rattle.std.proofs.lemmas.List.Sorted.{IsPermutation-refl}
 use Rattle.pbn_deal.specs.BoardRead.{together}
 use Rattle.byte_text.specs.Steps.{◌>>=◌}
 use Rattle.layout_list.specs.declared.fault.LayoutFault.{LayoutFault}
-use Rattle.layout_list.specs.declared.line.Defenders.{Defenders}
+use Rattle.layout_list.specs.declared.line.Layout.{Layout}
 use Rattle.layout_list.specs.Kept.{KeptValue}
 use Rattle.layout_list.specs.Lines.{layout_lines, numbered_lines, lines_read}
 use Rattle.layout_list.specs.Layouts.{kept_of, layouts_read}
-use Rattle.layout_list.specs.Verdicts.{first_table}
+use Rattle.layout_list.specs.Verdicts.{first_position}
 use Rattle.layout_maker.specs.Generator.{Shuffle, shuffled, orders}
 use Rattle.layout_maker.specs.MadeProblem.{dealt, set_of, undealt, made_deal, made_layouts, IsAcceptedProblem}
 use Rattle.layout_maker.proofs.Shuffles.{orders-permutations, length-orders}
@@ -44,10 +44,10 @@ each_layout number =
     All-weaker (IsPermutation cards) (IsLayout (north_cards number) (south_cards number) cards) (λ order moved. record { hands = dealt_hands number order moved; moved = moved }) (orders 40 (undealt number))
     (orders-permutations 40 (undealt number) (omega (arith, length-undealt number)))
 
-abbrev first_layout : ℕ → Defenders
+abbrev first_layout : ℕ → Layout
 first_layout number = defenders_by (shuffled (undealt number)).items
 
-abbrev later_layouts : ℕ → List Defenders
+abbrev later_layouts : ℕ → List Layout
 later_layouts number = map defenders_by (orders 39 (shuffled (undealt number)))
 
 abbrev made_kept : ℕ → KeptValue
@@ -63,7 +63,7 @@ layouts_read-made number =
     let board = made_board north south in
     let few : 0 + length all ≤ 64 = omega (arith, length-orders 40 (undealt number)) in
     let lines : lines_read board None 0 (layout_lines (numbered_lines (made_layouts number))) ≡ Ok (map defenders_by all) = lines_read-made north south cards all (each_layout number) None 1 0 refl few in
-    ap (λ (found : Result (List Defenders) LayoutFault). found >>= kept_of board) (lines ∙ ap (λ (l : List (List ℕ)). Ok (map defenders_by l)) (orders-suc 39 (undealt number)))
+    ap (λ (found : Result (List Layout) LayoutFault). found >>= kept_of board) (lines ∙ ap (λ (l : List (List ℕ)). Ok (map defenders_by l)) (orders-suc 39 (undealt number)))
     ∙ kept_of-made north south (first_layout number) (later_layouts number)
 
 -- ---- the whole
@@ -77,7 +77,7 @@ accepted number =
     let north = north_cards number in
     let south = south_cards number in
     let hands = hands_of number in
-    let t = first_table (made_board north south) (together (first_layout number).left (first_layout number).right) in
+    let t = first_position (made_board north south) (together (first_layout number).left (first_layout number).right) in
     let five : length (set_of south) ≡ 5 = length-set_of south (λ card. omega (arith, hands.inside card)) ∙ hands.south_five in
     record {
       game = made_game (own_text north south);

@@ -12,17 +12,17 @@ use Rattle.std.proofs.lemmas.Slice.Eq.{bytes_eq-Decides}
 use Rattle.card_sets.specs.declared.seat.Seat.TheVariants.{Declarer}
 use Rattle.card_sets.specs.declared.seat.Compass.TheVariants.{S}
 use Rattle.trick_rules.specs.declared.trump.Trump.TheVariants.{NoTrump}
-use Rattle.trick_rules.specs.Table.{Table}
+use Rattle.trick_rules.specs.Positions.{PositionValue}
 use Rattle.pbn_deal.specs.Boards.{BoardValue, dealt_board}
 use Rattle.pbn_deal.specs.BoardRead.{together}
 use Rattle.pbn_deal.specs.Writing.{deal_text}
-use Rattle.layout_list.specs.declared.line.Defenders.{Defenders}
+use Rattle.layout_list.specs.declared.line.Layout.{Layout}
 use Rattle.layout_list.specs.Kept.{KeptValue}
 use Rattle.byte_text.specs.Lines.{is_line_end}
-use Rattle.layout_list.specs.Lines.{layout_lines, same_cards, is_told, deal_of_line, line_read, lines_read}
+use Rattle.layout_list.specs.Lines.{layout_lines, same_set, is_told, deal_of_line, line_read, lines_read}
 use Rattle.layout_list.specs.Layouts.{allowed, dropped, numbers_kept, lefts_kept, kept_of}
-use Rattle.layout_list.specs.Verdicts.{first_table}
-use Rattle.layout_maker.specs.MadeProblem.{set_of, west_hand, east_hand, layout_line, layout_file}
+use Rattle.layout_list.specs.Verdicts.{first_position}
+use Rattle.layout_maker.specs.MadeProblem.{set_of, west_hand, east_hand, order_line, layout_file}
 use Rattle.layout_maker.proofs.MadeHands.{AreHands, together-set_of}
 use Rattle.layout_maker.proofs.MadeDeals.{all_read}
 use Rattle.layout_maker.proofs.MadeTexts.{deal_text-passes, length-deal_text}
@@ -45,15 +45,15 @@ abbrev pub made_board : List ℕ → List ℕ → BoardValue
 made_board north south = dealt_board S NoTrump 2 Declarer (set_of south) (set_of north) None
 
 -- the defenders' hands by an order of their cards
-abbrev pub defenders_by : List ℕ → Defenders
+abbrev pub defenders_by : List ℕ → Layout
 defenders_by order = record { left = west_hand order; right = east_hand order }
 
 -- the text of a layout's line
 abbrev line_text : List ℕ → List ℕ → List ℕ → List ℕ
 line_text north south order = deal_text (Some (set_of north) ∷ Some (east_hand order) ∷ Some (set_of south) ∷ Some (west_hand order) ∷ [])
 
-same_cards-refl : (cards : List ℕ) → same_cards cards cards ≡ true
-same_cards-refl cards = (bytes_eq-Decides cards cards).1 refl
+same_set-refl : (cards : List ℕ) → same_set cards cards ≡ true
+same_set-refl cards = (bytes_eq-Decides cards cards).1 refl
 
 -- an order of these cards, with the hands of North and South
 pub record IsLayout (north south cards order : List ℕ) : Type 0 where
@@ -75,11 +75,11 @@ unfolding line_read
 line_read-made north south cards order unseen number layout told =
     let told_here : is_told unseen (together (west_hand order) (east_hand order)) ≡ true = ap (is_told unseen) (together-order north south cards order layout) ∙ told in
     ap (deal_of_line (made_board north south) unseen number) (all_read south north (take 5 order) (drop 5 order) layout.hands)
-    ∙ rw (same_cards-refl (set_of south), same_cards-refl (set_of north), told_here) refl
+    ∙ rw (same_set-refl (set_of south), same_set-refl (set_of north), told_here) refl
 
 -- ---- all layouts
 
-lines_read-cons : (board : BoardValue) (unseen : Option (List ℕ)) (number count : ℕ) (text : List ℕ) (lines : List (ℕ × List ℕ)) (layout : Defenders) (layouts : List Defenders) → count < 64
+lines_read-cons : (board : BoardValue) (unseen : Option (List ℕ)) (number count : ℕ) (text : List ℕ) (lines : List (ℕ × List ℕ)) (layout : Layout) (layouts : List Layout) → count < 64
     → line_read board unseen number text ≡ Ok layout → lines_read board (Some (together layout.left layout.right)) (count + 1) lines ≡ Ok layouts
     → lines_read board unseen count ((number, text) ∷ lines) ≡ Ok (layout ∷ layouts)
 lines_read-cons board unseen number count text lines layout layouts few one others = rw (ne_eqb count 64 (λ same. absurd (omega arith)), one, others) refl
@@ -87,7 +87,7 @@ lines_read-cons board unseen number count text lines layout layouts few one othe
 pub lines_read-made : (north south cards : List ℕ) (orders : List (List ℕ)) → All (IsLayout north south cards) orders → (unseen : Option (List ℕ)) (number count : ℕ)
     → is_told unseen (set_of cards) ≡ true → count + length orders ≤ 64
     → lines_read (made_board north south) unseen count (layout_lines (enumerate_from number (slice_split is_line_end (layout_file (set_of north) (set_of south) orders)))) ≡ Ok (map defenders_by orders)
-unfolding layout_line
+unfolding order_line
 lines_read-made north south cards [] each unseen number count told few = refl
 lines_read-made north south cards (order ∷ orders) each unseen number count told few =
     let board = made_board north south in
@@ -100,7 +100,7 @@ lines_read-made north south cards (order ∷ orders) each unseen number count to
     let split : slice_split is_line_end (layout_file (set_of north) (set_of south) (order ∷ orders)) ≡ text ∷ slice_split is_line_end more =
     ap (slice_split is_line_end) (append_assoc text (10 ∷ []) more) ∙ split_line text more plain in
     let same : is_told (Some (together (west_hand order) (east_hand order))) (set_of cards) ≡ true =
-    ap (λ (t : List ℕ). same_cards (set_of cards) t) (together-order north south cards order layout) ∙ same_cards-refl (set_of cards) in
+    ap (λ (t : List ℕ). same_set (set_of cards) t) (together-order north south cards order layout) ∙ same_set-refl (set_of cards) in
     ap (λ (lines : List (List ℕ)). lines_read board unseen count (layout_lines (enumerate_from number lines))) split
     ∙ lines_read-cons board unseen number count text rest (defenders_by order) (map defenders_by orders) (omega arith)
     (line_read-made north south cards order unseen number layout told)
@@ -108,35 +108,35 @@ lines_read-made north south cards (order ∷ orders) each unseen number count to
 
 -- ---- what is kept
 
-allowed-all : (t : Table) (layouts : List (ℕ × Defenders)) → allowed [] t layouts ≡ layouts
+allowed-all : (t : PositionValue) (layouts : List (ℕ × Layout)) → allowed [] t layouts ≡ layouts
 allowed-all t [] = refl
 allowed-all t (layout ∷ layouts) = ap (λ rest. layout ∷ rest) (allowed-all t layouts)
 
-pub dropped-none : (t : Table) (layouts : List (ℕ × Defenders)) → dropped [] t layouts ≡ []
+pub dropped-none : (t : PositionValue) (layouts : List (ℕ × Layout)) → dropped [] t layouts ≡ []
 dropped-none t [] = refl
 dropped-none t (layout ∷ layouts) = dropped-none t layouts
 
-length-enumerated : (number : ℕ) (layouts : List Defenders) → length (map (λ (l : ℕ × Defenders). l.0) (enumerate_from number layouts)) ≡ length layouts
+length-enumerated : (number : ℕ) (layouts : List Layout) → length (map (λ (l : ℕ × Layout). l.0) (enumerate_from number layouts)) ≡ length layouts
 length-enumerated number [] = refl
 length-enumerated number (layout ∷ layouts) = ap (λ n. suc n) (length-enumerated (number + 1) layouts)
 
-pub length-numbers_kept : (t : Table) (layouts : List Defenders) → length (numbers_kept [] t (enumerate_from 1 layouts)) ≡ length layouts
-length-numbers_kept t layouts = ap (λ ls. length (map (λ (l : ℕ × Defenders). l.0) ls)) (allowed-all t (enumerate_from 1 layouts)) ∙ length-enumerated 1 layouts
+pub length-numbers_kept : (t : PositionValue) (layouts : List Layout) → length (numbers_kept [] t (enumerate_from 1 layouts)) ≡ length layouts
+length-numbers_kept t layouts = ap (λ ls. length (map (λ (l : ℕ × Layout). l.0) ls)) (allowed-all t (enumerate_from 1 layouts)) ∙ length-enumerated 1 layouts
 
 -- the position before the first card, and all layouts with their numbers
-abbrev pub whole_kept : List ℕ → List ℕ → Defenders → List Defenders → KeptValue
+abbrev pub whole_kept : List ℕ → List ℕ → Layout → List Layout → KeptValue
 whole_kept north south first layouts =
-    let t = first_table (made_board north south) (together first.left first.right) in
+    let t = first_position (made_board north south) (together first.left first.right) in
     let numbered = enumerate_from 1 (first ∷ layouts) in
-    record { numbers = numbers_kept [] t numbered; dropped = dropped [] t numbered; node = record { table = t; lefts = lefts_kept [] t numbered } }
+    record { numbers = numbers_kept [] t numbered; dropped = dropped [] t numbered; node = record { position = t; lefts = lefts_kept [] t numbered } }
 
-pub kept_of-made : (north south : List ℕ) (first : Defenders) (layouts : List Defenders) → kept_of (made_board north south) (first ∷ layouts) ≡ Ok (whole_kept north south first layouts)
+pub kept_of-made : (north south : List ℕ) (first : Layout) (layouts : List Layout) → kept_of (made_board north south) (first ∷ layouts) ≡ Ok (whole_kept north south first layouts)
 kept_of-made north south first layouts = refl
 
 -- ---- how long the file is
 
 pub length-layout_file : (north south : List ℕ) (orders : List (List ℕ)) → length (layout_file north south orders) ≤ 226 * length orders
-unfolding layout_line
+unfolding order_line
 length-layout_file north south [] = omega arith
 length-layout_file north south (order ∷ orders) =
     let text = deal_text (Some north ∷ Some (east_hand order) ∷ Some south ∷ Some (west_hand order) ∷ []) in

@@ -9,7 +9,7 @@ use Rattle.card_sets.specs.Cards.{card_of}
 use Rattle.card_sets.specs.SetWords.{has_card, cards_where}
 use Rattle.card_sets.proofs.Sets.{has_card-cards_where, cards_where-agree, has_card-push}
 use Rattle.layout_maker.specs.Generator.{Shuffle, next_state, exchanged, exchanged_from, shuffled, orders}
-use Rattle.layout_maker.specs.MadeProblem.{short_pack, set_of, layout_line, layout_file}
+use Rattle.layout_maker.specs.MadeProblem.{short_pack, set_of, order_line, layout_file}
 
 -- ---- the short pack
 
@@ -69,20 +69,20 @@ shuffled-end place shuffle whole none so_far =
 -- ---- layout files, line by line
 
 layout_file-suc : (north south : List ℕ) (times : ℕ) (shuffle : Shuffle)
-    → layout_line north south (shuffled shuffle).items ++ layout_file north south (orders times (shuffled shuffle)) ≡ layout_file north south (orders (suc times) shuffle)
+    → order_line north south (shuffled shuffle).items ++ layout_file north south (orders times (shuffled shuffle)) ≡ layout_file north south (orders (suc times) shuffle)
 unfolding orders
 layout_file-suc north south times shuffle = refl
 
 -- one line more
 pub layout_file-step : (text longer north south cards those : List ℕ) (state more count : ℕ) (whole : List ℕ) → count < 40
-    → those ≡ (shuffled (record { items = cards; state = state })).items → more ≡ (shuffled (record { items = cards; state = state })).state → longer ≡ text ++ layout_line north south those
+    → those ≡ (shuffled (record { items = cards; state = state })).items → more ≡ (shuffled (record { items = cards; state = state })).state → longer ≡ text ++ order_line north south those
     → text ++ layout_file north south (orders (40 - count) (record { items = cards; state = state })) ≡ whole → longer ++ layout_file north south (orders (40 - (count + 1)) (record { items = those; state = more })) ≡ whole
 layout_file-step text longer north south cards those state more count whole inside those-is more-is longer-is so_far =
     let rest = 40 - (count + 1) in
     let start : Shuffle = record { items = cards; state = state } in
     let times : suc rest ≡ 40 - count = omega arith in
-    ap₂ (λ (l : List ℕ) (n : Shuffle). l ++ layout_file north south (orders rest n)) (longer-is ∙ ap (λ i. text ++ layout_line north south i) those-is) (ap₂ (λ (i : List ℕ) (s : ℕ). record { items = i; state = s }) those-is more-is)
-    ∙ append_assoc text (layout_line north south (shuffled start).items) (layout_file north south (orders rest (shuffled start)))
+    ap₂ (λ (l : List ℕ) (n : Shuffle). l ++ layout_file north south (orders rest n)) (longer-is ∙ ap (λ i. text ++ order_line north south i) those-is) (ap₂ (λ (i : List ℕ) (s : ℕ). record { items = i; state = s }) those-is more-is)
+    ∙ append_assoc text (order_line north south (shuffled start).items) (layout_file north south (orders rest (shuffled start)))
     ∙ ap (λ l. text ++ l) (layout_file-suc north south rest start ∙ ap (λ n. layout_file north south (orders n start)) times) ∙ so_far
 
 -- no line more

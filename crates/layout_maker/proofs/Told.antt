@@ -8,7 +8,7 @@ use Rattle.card_sets.specs.declared.seat.Seat.TheVariants.{Declarer, Left, Dummy
 use Rattle.card_sets.specs.Cards.{suit_of, same_suit}
 use Rattle.card_sets.specs.SetWords.{has_card, IsCardSet, IsSubset}
 use Rattle.card_sets.proofs.Sets.{has_card-filter, filter-none, fails-filter_nil}
-use Rattle.trick_rules.specs.Table.{Table, State}
+use Rattle.trick_rules.specs.Positions.{PositionValue, State}
 use Rattle.trick_rules.specs.Play.{of_suit, or_whole, legal_cards, suit_led, take_out, put_card, end_trick, after_card, after}
 use Rattle.trick_rules.proofs.CardLists.{has_card-take_out, take_out-gone, list_all-from_cards, cards_from_list_all}
 use Rattle.trick_rules.proofs.States.{legal_cards-low, after_card-unseen}
@@ -17,7 +17,7 @@ use Rattle.pbn_deal.specs.Boards.{BoardValue, next_trick, first_trick, tricks_of
 use Rattle.layout_list.specs.declared.kept.Cause.{Cause}
 use Rattle.layout_list.specs.declared.kept.Cause.TheVariants.{NotHeld, Revoke}
 use Rattle.layout_list.specs.declared.verdict.Contradiction.{Contradiction}
-use Rattle.layout_list.specs.Verdicts.{first_table, cause_of, or_later, contradiction}
+use Rattle.layout_list.specs.Verdicts.{first_position, cause_of, or_later, contradiction}
 use Rattle.layout_maker.specs.declared.allowed.MayHold.{MayHold}
 use Rattle.layout_maker.specs.Divisions.{hands_of_size, layout_with, is_allowed, layouts_over, if_few, layouts_shown, layouts_made}
 use Rattle.layout_maker.specs.Choosing.{shows_void, without, narrowed, after_plays, fits, fitting_hands}
@@ -232,23 +232,23 @@ right_from trick hand unseen held hidden card may now in_hidden narrow =
 
 -- ---- the whole play
 
-after_card-trump : (t : Table) (card : ℕ) → (after_card t card).trump ≡ t.trump
+after_card-trump : (t : PositionValue) (card : ℕ) → (after_card t card).trump ≡ t.trump
 after_card-trump t card = by_end (length t.trick.cards == 3) where
   by_end : (b : Bool) → (cond b (end_trick (put_card t card)) (put_card t card)).trump ≡ t.trump
   by_end true = refl
   by_end false = refl
 
-after_card-trick : (t : Table) (card : ℕ) → (after_card t card).trick ≡ next_trick t.trump t.trick card
+after_card-trick : (t : PositionValue) (card : ℕ) → (after_card t card).trick ≡ next_trick t.trump t.trick card
 after_card-trick t card = by_end (length t.trick.cards == 3) where
   by_end : (b : Bool) → (cond b (end_trick (put_card t card)) (put_card t card)).trick ≡ cond b (end_trick (put_card t card)).trick (put_card t card).trick
   by_end true = refl
   by_end false = refl
 
 -- what is known after the plays of a position
-abbrev told : Table → MayHold → List Played → Option MayHold
+abbrev told : PositionValue → MayHold → List Played → Option MayHold
 told t may plays = after_plays t.trump t.trick t.unseen may plays
 
-told-after : (t : Table) (card : ℕ) (may : MayHold) (plays : List Played) → told (after_card t card) may plays ≡ after_plays t.trump (next_trick t.trump t.trick card) (take_out card t.unseen) may plays
+told-after : (t : PositionValue) (card : ℕ) (may : MayHold) (plays : List Played) → told (after_card t card) may plays ≡ after_plays t.trump (next_trick t.trump t.trick card) (take_out card t.unseen) may plays
 told-after t card may plays =
     ap₂ (λ trump trick. after_plays trump trick (after_card t card).unseen may plays) (after_card-trump t card) (after_card-trick t card)
     ∙ ap (λ unseen. after_plays t.trump (next_trick t.trump t.trick card) unseen may plays) (after_card-unseen t card)
@@ -296,53 +296,53 @@ told_on b next so = ap (λ x. cond x next None) so
 told_off : (b : Bool) (next : Option MayHold) → b ≡ false → cond b next None ≡ None
 told_off b next not_so = ap (λ x. cond x next None) not_so
 
-tells_at : (n : ℕ) (s : State) (seat : Seat) (card : ℕ) (plays : List Played) (may : MayHold) (hand unseen : List ℕ) → LeftOf hand unseen s.left s.table.unseen
-    → ((next : MayHold) → Tells (n + 1) (after s card) plays next hand unseen (told (after_card s.table card) next plays))
-    → Tells n s (record { seat = seat; card = card } ∷ plays) may hand unseen (told s.table may (record { seat = seat; card = card } ∷ plays))
+tells_at : (n : ℕ) (s : State) (seat : Seat) (card : ℕ) (plays : List Played) (may : MayHold) (hand unseen : List ℕ) → LeftOf hand unseen s.left s.position.unseen
+    → ((next : MayHold) → Tells (n + 1) (after s card) plays next hand unseen (told (after_card s.position card) next plays))
+    → Tells n s (record { seat = seat; card = card } ∷ plays) may hand unseen (told s.position may (record { seat = seat; card = card } ∷ plays))
 tells_at n s Declarer card plays may hand unseen now rest =
-    subst (Tells n s (record { seat = Declarer; card = card } ∷ plays) may hand unseen) (told-after s.table card may plays)
-    (tells_step n s (record { seat = Declarer; card = card }) plays may may hand unseen (told (after_card s.table card) may plays) (λ holds none. holds) (λ holds. (holds, refl)) (rest may))
+    subst (Tells n s (record { seat = Declarer; card = card } ∷ plays) may hand unseen) (told-after s.position card may plays)
+    (tells_step n s (record { seat = Declarer; card = card }) plays may may hand unseen (told (after_card s.position card) may plays) (λ holds none. holds) (λ holds. (holds, refl)) (rest may))
 tells_at n s Dummy card plays may hand unseen now rest =
-    subst (Tells n s (record { seat = Dummy; card = card } ∷ plays) may hand unseen) (told-after s.table card may plays)
-    (tells_step n s (record { seat = Dummy; card = card }) plays may may hand unseen (told (after_card s.table card) may plays) (λ holds none. holds) (λ holds. (holds, refl)) (rest may))
+    subst (Tells n s (record { seat = Dummy; card = card } ∷ plays) may hand unseen) (told-after s.position card may plays)
+    (tells_step n s (record { seat = Dummy; card = card }) plays may may hand unseen (told (after_card s.position card) may plays) (λ holds none. holds) (λ holds. (holds, refl)) (rest may))
 tells_at n s Left card plays may hand unseen now rest =
     let play : Played = record { seat = Left; card = card } in
-    let next = narrowed Left s.table.trick.cards s.table.unseen card may in
-    let more = after_plays s.table.trump (next_trick s.table.trump s.table.trick card) (take_out card s.table.unseen) next plays in
-    elim (cases_Bool (has_card s.table.unseen card)) as (λ _. Tells n s (play ∷ plays) may hand unseen (told s.table may (play ∷ plays))) [
+    let next = narrowed Left s.position.trick.cards s.position.unseen card may in
+    let more = after_plays s.position.trump (next_trick s.position.trump s.position.trick card) (take_out card s.position.unseen) next plays in
+    elim (cases_Bool (has_card s.position.unseen card)) as (λ _. Tells n s (play ∷ plays) may hand unseen (told s.position may (play ∷ plays))) [
       | inl so ↦
-          subst (Tells n s (play ∷ plays) may hand unseen) (told-after s.table card next plays ∙ sym (told_on (has_card s.table.unseen card) more so))
-          (tells_step n s play plays may next hand unseen (told (after_card s.table card) next plays)
-          (λ holds none. left_holds s.table.trick.cards hand unseen s.left s.table.unseen card may now holds (follows_if_none s.table.trick.cards s.left card none))
-          (λ holds. (let back = left_from s.table.trick.cards hand unseen s.left s.table.unseen card may now so holds in (back.0, none_if_follows s.table.trick.cards s.left card back.1)))
+          subst (Tells n s (play ∷ plays) may hand unseen) (told-after s.position card next plays ∙ sym (told_on (has_card s.position.unseen card) more so))
+          (tells_step n s play plays may next hand unseen (told (after_card s.position card) next plays)
+          (λ holds none. left_holds s.position.trick.cards hand unseen s.left s.position.unseen card may now holds (follows_if_none s.position.trick.cards s.left card none))
+          (λ holds. (let back = left_from s.position.trick.cards hand unseen s.left s.position.unseen card may now so holds in (back.0, none_if_follows s.position.trick.cards s.left card back.1)))
           (rest next))
       | inr not_so ↦
-          subst (Tells n s (play ∷ plays) may hand unseen) (sym (told_off (has_card s.table.unseen card) more not_so))
+          subst (Tells n s (play ∷ plays) may hand unseen) (sym (told_off (has_card s.position.unseen card) more not_so))
           (not_hidden n s play plays may hand unseen
-          (λ none. both_ways (has_card s.table.unseen card) not_so ((and_parts (has_card hand card) (has_card s.table.unseen card) (sym (now.held_is card) ∙ (follows_if_none s.table.trick.cards s.left card none).0)).1)))
+          (λ none. both_ways (has_card s.position.unseen card) not_so ((and_parts (has_card hand card) (has_card s.position.unseen card) (sym (now.held_is card) ∙ (follows_if_none s.position.trick.cards s.left card none).0)).1)))
     ]
 tells_at n s Right card plays may hand unseen now rest =
     let play : Played = record { seat = Right; card = card } in
-    let next = narrowed Right s.table.trick.cards s.table.unseen card may in
-    let more = after_plays s.table.trump (next_trick s.table.trump s.table.trick card) (take_out card s.table.unseen) next plays in
-    elim (cases_Bool (has_card s.table.unseen card)) as (λ _. Tells n s (play ∷ plays) may hand unseen (told s.table may (play ∷ plays))) [
+    let next = narrowed Right s.position.trick.cards s.position.unseen card may in
+    let more = after_plays s.position.trump (next_trick s.position.trump s.position.trick card) (take_out card s.position.unseen) next plays in
+    elim (cases_Bool (has_card s.position.unseen card)) as (λ _. Tells n s (play ∷ plays) may hand unseen (told s.position may (play ∷ plays))) [
       | inl so ↦
-          subst (Tells n s (play ∷ plays) may hand unseen) (told-after s.table card next plays ∙ sym (told_on (has_card s.table.unseen card) more so))
-          (tells_step n s play plays may next hand unseen (told (after_card s.table card) next plays)
-          (λ holds none. right_holds s.table.trick.cards hand unseen s.left s.table.unseen card may now holds (follows_if_none s.table.trick.cards (rights s.left s.table.unseen) card none))
-          (λ holds. (let back = right_from s.table.trick.cards hand unseen s.left s.table.unseen card may now so holds in (back.0, none_if_follows s.table.trick.cards (rights s.left s.table.unseen) card back.1)))
+          subst (Tells n s (play ∷ plays) may hand unseen) (told-after s.position card next plays ∙ sym (told_on (has_card s.position.unseen card) more so))
+          (tells_step n s play plays may next hand unseen (told (after_card s.position card) next plays)
+          (λ holds none. right_holds s.position.trick.cards hand unseen s.left s.position.unseen card may now holds (follows_if_none s.position.trick.cards (rights s.left s.position.unseen) card none))
+          (λ holds. (let back = right_from s.position.trick.cards hand unseen s.left s.position.unseen card may now so holds in (back.0, none_if_follows s.position.trick.cards (rights s.left s.position.unseen) card back.1)))
           (rest next))
       | inr not_so ↦
-          subst (Tells n s (play ∷ plays) may hand unseen) (sym (told_off (has_card s.table.unseen card) more not_so))
+          subst (Tells n s (play ∷ plays) may hand unseen) (sym (told_off (has_card s.position.unseen card) more not_so))
           (not_hidden n s play plays may hand unseen
-          (λ none. both_ways (has_card s.table.unseen card) not_so (right_hidden s.left s.table.unseen card (follows_if_none s.table.trick.cards (rights s.left s.table.unseen) card none).0)))
+          (λ none. both_ways (has_card s.position.unseen card) not_so (right_hidden s.left s.position.unseen card (follows_if_none s.position.trick.cards (rights s.left s.position.unseen) card none).0)))
     ]
 
-tells : (n : ℕ) (s : State) (plays : List Played) (may : MayHold) (hand unseen : List ℕ) → LeftOf hand unseen s.left s.table.unseen → Tells n s plays may hand unseen (told s.table may plays)
+tells : (n : ℕ) (s : State) (plays : List Played) (may : MayHold) (hand unseen : List ℕ) → LeftOf hand unseen s.left s.position.unseen → Tells n s plays may hand unseen (told s.position may plays)
 tells n s [] may hand unseen now = (λ (holds, none). holds, λ holds. (holds, refl))
 tells n s (play ∷ plays) may hand unseen now =
-    let now_after : LeftOf hand unseen (take_out play.card s.left) (after_card s.table play.card).unseen =
-    subst (LeftOf hand unseen (take_out play.card s.left)) (sym (after_card-unseen s.table play.card)) (left_after hand unseen s.left s.table.unseen play.card now) in
+    let now_after : LeftOf hand unseen (take_out play.card s.left) (after_card s.position play.card).unseen =
+    subst (LeftOf hand unseen (take_out play.card s.left)) (sym (after_card-unseen s.position play.card)) (left_after hand unseen s.left s.position.unseen play.card now) in
     tells_at n s play.seat play.card plays may hand unseen now (λ next. tells (n + 1) (after s play.card) plays next hand unseen now_after)
 
 -- ---- what the play allows
@@ -389,13 +389,13 @@ left_at_first hand unseen part = record {
   in_whole false u holds = refl
 
 told_of : (b : BoardValue) (unseen hand : List ℕ) → IsSubset hand unseen
-    → Tells 1 (record { table = first_table b unseen; left = hand }) b.plays (any_card unseen) hand unseen (after_plays b.trump (first_trick b) unseen (any_card unseen) b.plays)
-told_of b unseen hand part = tells 1 (record { table = first_table b unseen; left = hand }) b.plays (any_card unseen) hand unseen (left_at_first hand unseen part)
+    → Tells 1 (record { position = first_position b unseen; left = hand }) b.plays (any_card unseen) hand unseen (after_plays b.trump (first_trick b) unseen (any_card unseen) b.plays)
+told_of b unseen hand part = tells 1 (record { position = first_position b unseen; left = hand }) b.plays (any_card unseen) hand unseen (left_at_first hand unseen part)
 
 is_allowed-fits : (b : BoardValue) (unseen hand : List ℕ) (may : MayHold) → after_plays b.trump (first_trick b) unseen (any_card unseen) b.plays ≡ Some may → IsSubset hand unseen
     → is_allowed b unseen (layout_with unseen hand) ≡ fits may unseen hand
 is_allowed-fits b unseen hand may is part =
-    let tells = subst (Tells 1 (record { table = first_table b unseen; left = hand }) b.plays (any_card unseen) hand unseen) is (told_of b unseen hand part) in
+    let tells = subst (Tells 1 (record { position = first_position b unseen; left = hand }) b.plays (any_card unseen) hand unseen) is (told_of b unseen hand part) in
     let at_first : Holds (any_card unseen) hand unseen = record { left = part; right = λ c in_unseen out. in_unseen } in
     same_from_both (is_allowed b unseen (layout_with unseen hand)) (fits may unseen hand)
     (λ allowed. fits_if_holds may hand unseen (tells.0 (at_first, allowed)))
@@ -423,7 +423,7 @@ layouts_over-none b unseen a_set is =
     ∙ ap (map (layout_with unseen))
     (filter-nothing (λ hand. is_allowed b unseen (layout_with unseen hand)) hands
     (λ k d within.
-    subst (Tells 1 (record { table = first_table b unseen; left = get_or hands k d }) b.plays (any_card unseen) (get_or hands k d) unseen) is
+    subst (Tells 1 (record { position = first_position b unseen; left = get_or hands k d }) b.plays (any_card unseen) (get_or hands k d) unseen) is
     (told_of b unseen (get_or hands k d) (IsPart-IsSubset unseen (get_or hands k d) (parts k d within)))))
 
 -- the answer where the unseen cards are told

@@ -6,7 +6,7 @@ use Rattle.card_sets.specs.declared.seat.Seat.TheVariants.{Declarer, Left, Dummy
 use Rattle.card_sets.specs.Cards.{suit_of, same_suit}
 use Rattle.card_sets.specs.SetWords.{has_card}
 use Rattle.trick_rules.specs.declared.trump.Trump.{Trump}
-use Rattle.trick_rules.specs.Table.{Played as Trick}
+use Rattle.trick_rules.specs.Positions.{TrickValue}
 use Rattle.trick_rules.specs.Play.{is_declarers, take_out}
 use Rattle.pbn_deal.specs.declared.board.Played.{Played}
 use Rattle.pbn_deal.specs.Boards.{next_trick}
@@ -32,7 +32,7 @@ narrowed Dummy trick unseen card may = may
 narrowed Right trick unseen card may = record { left = take_out card may.left; right = without (filter (shows_void trick card) unseen) may.right }
 
 -- the same after all cards; none where a defender played a card that wasn't unseen
-abbrev pub after_plays : Trump → Trick → List ℕ → MayHold → List Played → Option MayHold
+abbrev pub after_plays : Trump → TrickValue → List ℕ → MayHold → List Played → Option MayHold
 after_plays trump trick unseen may [] = Some may
 after_plays trump trick unseen may (play ∷ plays) =
     if is_declarers play.seat || has_card unseen play.card then after_plays trump (next_trick trump trick play.card) (take_out play.card unseen) (narrowed play.seat trick.cards unseen play.card may) plays

@@ -2,7 +2,7 @@
 use Rattle.std.specs.Prelude.{◌≡◌, ℕ, ◌%◌, ◌≤◌, true, false, nat_le, Some, None, Ok, List, [], ◌∷◌, ◌++◌, length, take, drop, flat_map, codes}
 use Rattle.card_sets.specs.Cards.{rank_of}
 use Rattle.card_sets.specs.SetWords.{has_card, cards_where}
-use Rattle.trick_rules.specs.Table.{to_play}
+use Rattle.trick_rules.specs.Positions.{to_play}
 use Rattle.trick_rules.specs.Play.{is_over, is_declarers}
 use Rattle.pbn_text.specs.Games.{GameValue}
 use Rattle.pbn_text.specs.Grammar.{games_read}
@@ -61,12 +61,12 @@ deal_file north south =
     ++ tag_line (codes "EndLead") (codes "S")
 
 -- the line of a layout: North's and South's hands, and the defenders' cards in this order
-unfoldable pub layout_line : List ℕ → List ℕ → List ℕ → List ℕ
-layout_line north south order = deal_text (Some north ∷ Some (east_hand order) ∷ Some south ∷ Some (west_hand order) ∷ []) ++ codes "\n"
+unfoldable pub order_line : List ℕ → List ℕ → List ℕ → List ℕ
+order_line north south order = deal_text (Some north ∷ Some (east_hand order) ∷ Some south ∷ Some (west_hand order) ∷ []) ++ codes "\n"
 
 -- a layout file with a line for each order of the defenders' cards
 abbrev pub layout_file : List ℕ → List ℕ → List (List ℕ) → List ℕ
-layout_file north south all = flat_map (layout_line north south) all
+layout_file north south all = flat_map (order_line north south) all
 
 -- the deal file of a number
 unfoldable pub made_deal : ℕ → List ℕ
@@ -89,7 +89,7 @@ pub record IsAcceptedProblem (number : ℕ) : Type 0 where
   pub its_layouts : layouts_read (made_layouts number) board ≡ Ok kept
   pub forty : length kept.numbers ≡ 40
   pub none_dropped : kept.dropped ≡ []
-  pub is_on : is_over kept.node.table ≡ false
-  pub own_turn : is_declarers (to_play kept.node.table) ≡ true
+  pub is_on : is_over kept.node.position ≡ false
+  pub own_turn : is_declarers (to_play kept.node.position) ≡ true
   pub short_deal : length (made_deal number) ≤ 10000
   pub short_layouts : length (made_layouts number) ≤ 10000

@@ -7,7 +7,7 @@ ghost use Rattle.layout_maker.specs.Choosing.{fitting_hands, ways};
 
 use crate::allowed::MayHold;
 use card_sets::CardSet;
-use layout_list::Defenders;
+use layout_list::Layout;
 use std::alloc::{AllocError, Global};
 
 /// Left's hands: each has the sure cards, and so many of the free ones.
@@ -24,7 +24,8 @@ pub struct Choices {
 pub fn fitting_choices(may: &MayHold, unseen: CardSet, size: u8) -> Option<Choices>
     ensures hands { MatchOption result
         (fitting_hands may.now size unseen ≡ [])
-        (λ choices. fitting_hands may.now size unseen ≡ map (together choices.sure) (hands_of_size choices.wanted choices.free)) }
+        (λ choices. fitting_hands may.now size unseen
+        ≡ map (together choices.sure) (hands_of_size choices.wanted choices.free)) }
     ensures a_set { IfSome result (λ choices. IsCardSet choices.sure) }
     ensures small { IfSome result (λ choices. choices.wanted ≤ size) }
     ensures few { IfSome result (λ choices. length choices.free ≤ length unseen) }
@@ -70,17 +71,18 @@ pub fn ways(things: u8, chosen: u8) -> u64
 
 // Adds the layouts in which Left has these cards and so many of the free ones.
 fn add_layouts(
-    layouts: &mut Vec<Defenders>,
+    layouts: &mut Vec<Layout>,
     unseen: CardSet,
     hand: CardSet,
     free: CardSet,
     wanted: u8,
 ) -> Result<(), AllocError>
     requires { IsCardSet hand }
-    ensures { OnOk result (layouts.new.items ≡ layouts.old.items ++ map (λ more. layout_with unseen (together hand more)) (hands_of_size wanted free)) }
+    ensures { OnOk result (layouts.new.items ≡ layouts.old.items ++ map
+        (λ more. layout_with unseen (together hand more)) (hands_of_size wanted free)) }
 {
     if wanted == 0 {
-        layouts.push(Defenders {
+        layouts.push(Layout {
             left: hand,
             right: unseen.minus(hand),
         })?;
@@ -108,10 +110,11 @@ impl Choices {
     }
 
     /// The layouts with these hands, those with the first card before those without it.
-    pub fn layouts(&self, alloc: Global, unseen: CardSet) -> Result<Vec<Defenders>, AllocError>
+    pub fn layouts(&self, alloc: Global, unseen: CardSet) -> Result<Vec<Layout>, AllocError>
         requires { IsCardSet self.now.sure }
         ensures { IfOk result (λ layouts. layouts.items
-            ≡ map (layout_with unseen) (map (together self.now.sure) (hands_of_size self.now.wanted self.now.free))) }
+            ≡ map (layout_with unseen)
+            (map (together self.now.sure) (hands_of_size self.now.wanted self.now.free))) }
     {
         let mut layouts = Vec::new(alloc);
         add_layouts(&mut layouts, unseen, self.sure, self.free, self.wanted)?;

@@ -25,7 +25,8 @@ impl Model for Generator {
 }
 
 impl Generator {
-    /// A generator that starts from what is left of the number where 65,537 is taken out as often as it can be.
+    /// A generator that starts from what is left of the number where 65,537 is taken out as often
+    /// as it can be.
     pub fn new(number: u64) -> Generator
         ensures { result ≡ number % 65537 }
     {
@@ -34,7 +35,8 @@ impl Generator {
         }
     }
 
-    /// A number below the bound: the generator moves on, and what is left of its new number by the bound is drawn.
+    /// A number below the bound: the generator moves on, and what is left of its new number by the
+    /// bound is drawn.
     fn draw(&mut self, bound: usize) -> usize
         requires { 0 < bound }
         ensures state { self.new ≡ next_state self.old }
@@ -44,11 +46,13 @@ impl Generator {
         self.state as usize % bound
     }
 
-    /// Shuffles the cards: the card at each place, from the last down to the second, is exchanged with one drawn from
-    /// the places up to its own.
+    /// Shuffles the cards: the card at each place, from the last down to the second, is exchanged
+    /// with one drawn from the places up to its own.
     pub fn shuffle(&mut self, cards: &mut [Card])
-        ensures cards { cards.new ≡ (shuffled (record { items = cards.old; state = self.old })).items }
-        ensures state { self.new ≡ (shuffled (record { items = cards.old; state = self.old })).state }
+        ensures cards { cards.new
+            ≡ (shuffled (record { items = cards.old; state = self.old })).items }
+        ensures state { self.new
+            ≡ (shuffled (record { items = cards.old; state = self.old })).state }
     {
         for place in (1..cards.len()).rev() {
             let drawn = self.draw(place + 1);

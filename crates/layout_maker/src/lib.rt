@@ -12,6 +12,6 @@ mod list;
 mod made;
 
 pub use fault::MakeFault;
-pub use layout_list::Defenders;
+pub use layout_list::Layout;
 pub use list::all_layouts;
 pub use made::{Made, made_problem, made_problems_are_accepted};

@@ -2,23 +2,25 @@
 ghost use Rattle.std.specs.Prelude.{◌≡◌, ◌≤◌, Ok, map, length, MatchResult};
 ghost use Rattle.card_sets.specs.SetWords.{IsCardSet};
 ghost use Rattle.pbn_deal.specs.BoardRead.{together};
-ghost use Rattle.layout_maker.specs.Divisions.{hands_of_size, layout_with, if_few, layouts_made, IsFaultOf};
+ghost use Rattle.layout_maker.specs.Divisions.{hands_of_size, layout_with, if_few, layouts_made, IsMakeFaultOf};
 
 use crate::allowed::may_hold;
 use crate::dividing::{Choices, fitting_choices};
 use crate::fault::MakeFault;
 use card_sets::CardSet;
-use layout_list::{Defenders, MOST_LISTED};
+use layout_list::{Layout, MOST_LISTED};
 use pbn_deal::Board;
 use std::alloc::Global;
 
 // The layouts with these hands of Left's, if they are few enough.
-fn listed(alloc: Global, unseen: CardSet, choices: &Choices) -> Result<Vec<Defenders>, MakeFault>
+fn listed(alloc: Global, unseen: CardSet, choices: &Choices) -> Result<Vec<Layout>, MakeFault>
     requires a_set { IsCardSet choices.now.sure }
     requires few { length choices.now.free ≤ 26 }
     requires small { choices.now.wanted ≤ 13 }
-    ensures { let layouts = map (layout_with unseen) (map (together choices.now.sure) (hands_of_size choices.now.wanted choices.now.free)) in
-        MatchResult result (λ listed. if_few layouts ≡ Ok listed.items) (IsFaultOf (if_few layouts)) }
+    ensures { let layouts = map (layout_with unseen)
+        (map (together choices.now.sure) (hands_of_size choices.now.wanted choices.now.free)) in
+        MatchResult result (λ listed. if_few layouts ≡ Ok listed.items)
+        (IsMakeFaultOf (if_few layouts)) }
 {
     let count = choices.count();
     if count == 0 {
@@ -33,14 +35,17 @@ fn listed(alloc: Global, unseen: CardSet, choices: &Choices) -> Result<Vec<Defen
     }
 }
 
-/// Every division of the unseen cards that the play allows, each defender with half of them before the first card.
+/// Every division of the unseen cards that the play allows, each defender with half of them before
+/// the first card.
 ///
-/// The order is that of Left's cards still held, compared card by card in card order.
-/// The fault is `NotShown` exactly where the board doesn't tell the unseen cards, else `NoneFit` exactly where the play
-/// allows no division, and else `MoreThan64` exactly where it allows more than 64, with their number. `Memory` may come
-/// in place of any answer.
-pub fn all_layouts(alloc: Global, board: &Board) -> Result<Vec<Defenders>, MakeFault>
-    ensures { MatchResult result (λ layouts. layouts_made board.now ≡ Ok layouts.items) (IsFaultOf (layouts_made board.now)) }
+/// The order is that of Left's cards still held, compared card by card in card order. The fault is
+/// `NotShown` exactly where the board doesn't tell the unseen cards, else `NoneFit` exactly where
+/// the play allows no division, and else `MoreThan64` exactly where it allows more than 64, with
+/// their number. `Memory` may come in place of any answer.
+pub fn all_layouts(alloc: Global, board: &Board) -> Result<Vec<Layout>, MakeFault>
+    ensures { MatchResult result
+        (λ layouts. layouts_made board.now ≡ Ok layouts.items)
+        (IsMakeFaultOf (layouts_made board.now)) }
 {
     let Some(unseen) = board.unseen() else {
         return Err(MakeFault::NotShown);

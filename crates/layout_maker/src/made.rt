@@ -1,8 +1,9 @@
-//! A problem made from a number: an ending of five tricks and forty layouts of it, in the forms in which they are read.
+//! A problem made from a number: an ending of five tricks and forty layouts of it, in the forms in
+//! which they are read.
 ghost use Rattle.std.specs.Prelude.{◌≡◌, ◌≤◌, ◌++◌, ℕ, length, IfOk, OnOk};
 ghost use Rattle.card_sets.specs.SetWords.{IsCardSet};
 ghost use Rattle.layout_maker.specs.Generator.{orders};
-ghost use Rattle.layout_maker.specs.MadeProblem.{set_of, short_pack, tag_line, deal_file, layout_line, layout_file, made_deal, made_layouts, IsAcceptedProblem};
+ghost use Rattle.layout_maker.specs.MadeProblem.{set_of, short_pack, tag_line, deal_file, order_line, layout_file, made_deal, made_layouts, IsAcceptedProblem};
 
 use crate::generator::Generator;
 use byte_text::Text;
@@ -13,7 +14,8 @@ use std::alloc::{AllocError, Global};
 /// How many layouts a problem has.
 const LAYOUTS: u8 = 40;
 
-/// A problem made from a number: its deal file, its layout file, and the moves of declarer's side that it is solved with.
+/// A problem made from a number: its deal file, its layout file, and the moves of declarer's side
+/// that it is solved with.
 #[derive(Debug, Drop)]
 pub struct Made {
     pub deal: Text,
@@ -72,7 +74,7 @@ fn deal_file(alloc: Global, north: CardSet, south: CardSet) -> Result<Text, Allo
 }
 
 // Adds the line of a layout: the first five of these cards are West's, and the others are East's.
-#[tactic(auto, unfolding(crate::specs::MadeProblem::layout_line))]
+#[tactic(auto, unfolding(crate::specs::MadeProblem::order_line))]
 fn push_layout(
     alloc: Global,
     text: &mut Text,
@@ -81,7 +83,7 @@ fn push_layout(
     order: &[Card],
 ) -> Result<(), AllocError>
     requires { 5 ≤ length order.now }
-    ensures { OnOk result (text.new ≡ text.old ++ layout_line north south order.now) }
+    ensures { OnOk result (text.new ≡ text.old ++ order_line north south order.now) }
 {
     let (west, east) = order.split_at(5);
     let hands = [
@@ -104,7 +106,9 @@ fn layout_file(
     others: &mut [Card],
 ) -> Result<Text, AllocError>
     requires { 5 ≤ length others.old }
-    ensures { IfOk result (λ text. text ≡ layout_file north south (orders 40 (record { items = others.old; state = generator.old }))) }
+    ensures { IfOk result
+        (λ text. text ≡ layout_file north south
+        (orders 40 (record { items = others.old; state = generator.old }))) }
 {
     let mut text = Text::new(alloc);
     for _ in 0..LAYOUTS {
@@ -114,14 +118,17 @@ fn layout_file(
     Ok(text)
 }
 
-/// The problem of a number, the same for the same number: an ending of five tricks in no trump, with the tens and higher
-/// cards of each suit, of which declarer, South, who leads, is to make two. The forty layouts may repeat.
+/// The problem of a number, the same for the same number: an ending of five tricks in no trump,
+/// with the tens and higher cards of each suit, of which declarer, South, who leads, is to make
+/// two. The forty layouts may repeat.
 ///
-/// The first order of the twenty cards is card order, and a generator starts from the number modulo 65,537. It shuffles
-/// them; South has the first five, and North, the dummy, the next five. For each layout it shuffles the other ten again,
-/// in the order that they have; West has the first five and East the others.
+/// The first order of the twenty cards is card order, and a generator starts from the number modulo
+/// 65,537. It shuffles them; South has the first five, and North, the dummy, the next five. For
+/// each layout it shuffles the other ten again, in the order that they have; West has the first
+/// five and East the others.
 pub fn made_problem(alloc: Global, number: u64) -> Result<Made, AllocError>
-    ensures { IfOk result (λ made. (made.deal ≡ made_deal number) × (made.layouts ≡ made_layouts number) × (made.moves ≡ 3)) }
+    ensures { IfOk result (λ made. (made.deal ≡ made_deal number)
+        × (made.layouts ≡ made_layouts number) × (made.moves ≡ 3)) }
 {
     let mut generator = Generator::new(number);
     let mut cards = short_pack();
@@ -137,8 +144,8 @@ pub fn made_problem(alloc: Global, number: u64) -> Result<Made, AllocError>
     })
 }
 
-/// The texts of every number's problem are accepted where they are read as files: one game, a board, all forty layouts,
-/// and a card of declarer's side to choose.
+/// The texts of every number's problem are accepted where they are read as files: one game, a
+/// board, all forty layouts, and a card of declarer's side to choose.
 pub fn made_problems_are_accepted()
     ensures { (number : ℕ) → IsAcceptedProblem number }
 {}

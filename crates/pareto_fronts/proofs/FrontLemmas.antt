@@ -5,7 +5,7 @@ use Rattle.std.proofs.lemmas.List.Elements.{Contains-get_or, All-contains, All-f
 use Rattle.std.proofs.lemmas.List.{get_or_default, get_or-take, length-take, take_more, append_assoc, take-append-drop, drop_all, get_or-drop, length-drop}
 use Rattle.win_vectors.specs.Vectors.{dominates}
 use Rattle.win_vectors.specs.Fronts.{Vector, Dominates, Precedes, Covers, HaveWidth, IsReduced, IsFirstAbove}
-use Rattle.pareto_fronts.specs.FrontValue.{FrontValue, IsFront}
+use Rattle.pareto_fronts.specs.FrontValue.{FrontValue, IsSoundFront}
 use Rattle.pareto_fronts.specs.Places.{IsPlaceFor}
 use Rattle.win_vectors.proofs.VectorLemmas.{Decides-dominates}
 use Rattle.win_vectors.proofs.Orders.{Dominates-length, Dominates-refl, Dominates-precedes, Precedes-irrefl, Precedes-asym, Precedes-trans, Precedes-cases}
@@ -167,7 +167,7 @@ put-all v us place h none = sym (undominated-all v us place h.within h.before no
 
 -- the first vectors of a list were put into a front
 pub record Unites (old : FrontValue) (vectors : List Vector) (done : ℕ) (new : FrontValue) : Type 0 where
-  pub front : IsFront new
+  pub front : IsSoundFront new
   pub width : new.width ≡ old.width
   pub reduced : IsReduced (old.vectors ++ take done vectors) new.vectors
   pub spare : length new.vectors + length vectors ≤ new.room + done
@@ -175,7 +175,7 @@ pub record Unites (old : FrontValue) (vectors : List Vector) (done : ℕ) (new :
 
 -- one vector more
 pub Unites-more : (old : FrontValue) (vectors : List Vector) (done : ℕ) (v : Vector) (new next : FrontValue) → done < length vectors → v ≡ get_or vectors done v → Unites old vectors done new
-    → IsFront next → next.width ≡ new.width → IsReduced (v ∷ new.vectors) next.vectors → length next.vectors ≤ length new.vectors + 1 → next.room ≡ new.room → Unites old vectors (done + 1) next
+    → IsSoundFront next → next.width ≡ new.width → IsReduced (v ∷ new.vectors) next.vectors → length next.vectors ≤ length new.vectors + 1 → next.room ≡ new.room → Unites old vectors (done + 1) next
 Unites-more old vectors done v new next within is h front width reduced longer room =
     let part = old.vectors ++ take done vectors in
     let whole = reduced-push part new.vectors next.vectors v h.reduced reduced in

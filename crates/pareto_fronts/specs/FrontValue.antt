@@ -14,7 +14,7 @@ abbrev pub HasSpareRoom : FrontValue → ℕ → Type 0
 HasSpareRoom f more = length f.vectors + more ≤ f.room
 
 -- the vectors are of one width, and are their own reduced list: in order, none dominates another
-pub record IsFront (f : FrontValue) : Type 0 where
+pub record IsSoundFront (f : FrontValue) : Type 0 where
   pub low : 1 ≤ f.width
   pub high : f.width ≤ most_layouts
   pub one_width : HaveWidth f.width f.vectors

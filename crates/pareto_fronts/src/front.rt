@@ -1,7 +1,7 @@
 //! `Front`: an ordered list of vectors of one width.
 
 ghost use Rattle.std.specs.Prelude.{◌≡◌, ◌↔◌, ◌≤◌, ◌<◌, ◌+◌, ◌++◌, ◌∷◌, [], IsTrue, IsOk, IsSome, IfOk, IfSome, OnOk, OnErr, length, slice_get, Any, AllPairs, IsNone, filter, not};
-ghost use Rattle.pareto_fronts.specs.FrontValue.{IsFront, HasSpareRoom, HaveSameVectors};
+ghost use Rattle.pareto_fronts.specs.FrontValue.{IsSoundFront, HasSpareRoom, HaveSameVectors};
 ghost use Rattle.pareto_fronts.specs.Places.{IsPlaceFor};
 ghost use Rattle.win_vectors.specs.Fronts.{Covers, CoversAll, Dominates, HaveWidth, IsFirstAbove, IsReduced, Precedes};
 ghost use Rattle.win_vectors.specs.Vectors.{dominates as is_above, most_layouts};
@@ -24,7 +24,7 @@ pub struct Front {
 }
 
 impl Model for Front {
-    ghost use Rattle.pareto_fronts.specs.FrontValue.{FrontValue, IsFront};
+    ghost use Rattle.pareto_fronts.specs.FrontValue.{FrontValue, IsSoundFront};
 
     ghost Value = { FrontValue };
 
@@ -34,7 +34,7 @@ impl Model for Front {
       room = a.vectors.capacity;
     } };
 
-    ghost invariant = { λ a. IsFront (record {
+    ghost invariant = { λ a. IsSoundFront (record {
       width = a.width;
       vectors = a.vectors.items;
       room = a.vectors.capacity;
@@ -49,7 +49,7 @@ impl Front {
         ensures width { result.width ≡ width }
         ensures empty { result.vectors ≡ [] }
         ensures room { result.room ≡ INLINE_VECTORS }
-        ensures front { IsFront result }
+        ensures front { IsSoundFront result }
     {
         Front {
             width,
@@ -67,7 +67,7 @@ impl Front {
     /// How many vectors there are.
     pub fn len(&self) -> usize
         ensures value { result ≡ length self.now.vectors }
-        ensures front { IsFront self.now }
+        ensures front { IsSoundFront self.now }
     {
         self.vectors.len()
     }
@@ -90,7 +90,7 @@ impl Front {
     /// The vectors, in printing order.
     pub fn as_slice(&self) -> &[WinVector]
         ensures value { result.now ≡ self.now.vectors }
-        ensures front { IsFront self.now }
+        ensures front { IsSoundFront self.now }
     {
         self.vectors.as_slice()
     }
@@ -136,11 +136,11 @@ impl Front {
         self.vectors.reserve(more)
     }
 
-    /// Leaves the best of its vectors and of this one. The front is unchanged where memory is wanted, which may be where
-    /// there is no spare room.
+    /// Leaves the best of its vectors and of this one. The front is unchanged where memory is
+    /// wanted, which may be where there is no spare room.
     pub fn insert(&mut self, vector: WinVector) -> Result<(), AllocError>
         requires { length vector ≡ self.old.width }
-        ensures front { IsFront self.new }
+        ensures front { IsSoundFront self.new }
         ensures width { self.new.width ≡ self.old.width }
         ensures ok { OnOk result (IsReduced (vector ∷ self.old.vectors) self.new.vectors) }
         ensures succeeds { HasSpareRoom self.old 1 → IsOk result }
@@ -155,13 +155,14 @@ impl Front {
         Ok(())
     }
 
-    /// Leaves the best of the vectors of both fronts. The front is unchanged where memory is wanted, which may be where its
-    /// spare room is less than the other's length.
+    /// Leaves the best of the vectors of both fronts. The front is unchanged where memory is
+    /// wanted, which may be where its spare room is less than the other's length.
     pub fn union(&mut self, other: &Front) -> Result<(), AllocError>
         requires { other.now.width ≡ self.old.width }
-        ensures front { IsFront self.new }
+        ensures front { IsSoundFront self.new }
         ensures width { self.new.width ≡ self.old.width }
-        ensures ok { OnOk result (IsReduced (self.old.vectors ++ other.now.vectors) self.new.vectors) }
+        ensures ok { OnOk result
+            (IsReduced (self.old.vectors ++ other.now.vectors) self.new.vectors) }
         ensures succeeds { HasSpareRoom self.old (length other.now.vectors) → IsOk result }
         ensures err { OnErr result (self.new ≡ self.old) }
         ensures room { self.old.room ≤ self.new.room }
@@ -178,7 +179,7 @@ impl Front {
     /// An equal front.
     pub fn copy(&self) -> Result<Front, AllocError>
         ensures same { IfOk result (HaveSameVectors self.now) }
-        ensures front { IfOk result IsFront }
+        ensures front { IfOk result IsSoundFront }
     {
         let vectors = SmallVec::from_slice(*self.vectors.allocator(), self.vectors.as_slice())?;
         Ok(Front {
@@ -201,7 +202,7 @@ impl Front {
         requires same_width { length vector ≡ self.old.width }
         requires spare { HasSpareRoom self.old 1 }
         requires place { IsPlaceFor self.old.vectors vector place }
-        ensures front { IsFront self.new }
+        ensures front { IsSoundFront self.new }
         ensures width { self.new.width ≡ self.old.width }
         ensures reduced { IsReduced (vector ∷ self.old.vectors) self.new.vectors }
         ensures longer { length self.new.vectors ≤ length self.old.vectors + 1 }
@@ -229,7 +230,8 @@ fn remove_dominated(
 )
     requires widths { HaveWidth (length vector) vectors.old.items }
     requires place { IsPlaceFor vectors.old.items vector place }
-    ensures kept { vectors.new.items ≡ filter (λ mine. not (is_above vector mine)) vectors.old.items }
+    ensures kept { vectors.new.items ≡ filter
+        (λ mine. not (is_above vector mine)) vectors.old.items }
     ensures bound { length vectors.new.items ≤ length vectors.old.items }
     ensures capacity { vectors.new.capacity ≡ vectors.old.capacity }
 {
@@ -253,7 +255,8 @@ fn dominates_alike(vector: WinVector, mine: WinVector) -> bool
     vector.width() == mine.width() && vector.dominates(mine)
 }
 
-// Where a vector stands in an ordered list, if no vector of the list dominates it. Those that could stand before it.
+// Where a vector stands in an ordered list, if no vector of the list dominates it. Those that could
+// stand before it.
 fn place_for(vectors: &[WinVector], vector: WinVector) -> Option<usize>
     requires widths { HaveWidth (length vector) vectors.now }
     requires ordered { AllPairs Precedes vectors.now }

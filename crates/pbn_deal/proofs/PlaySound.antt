@@ -11,7 +11,7 @@ use Rattle.card_sets.specs.Seats.{next_seat}
 use Rattle.card_sets.specs.SetWords.{has_card, IsCardSet}
 use Rattle.card_sets.proofs.Sets.{IsCardSet-filter}
 use Rattle.trick_rules.specs.declared.trump.Trump.{Trump}
-use Rattle.trick_rules.specs.Table.{places_on}
+use Rattle.trick_rules.specs.Positions.{places_on}
 use Rattle.trick_rules.specs.Play.{legal_cards, take_out}
 use Rattle.card_sets.proofs.SetCounts.{length-take_out, nil_from_length}
 use Rattle.trick_rules.proofs.States.{legal_cards-low}
@@ -28,7 +28,7 @@ use Rattle.pbn_deal.specs.Sections.{prepend, section_read}
 use Rattle.byte_text.specs.Steps.{◌>>=◌}
 use Rattle.pbn_deal.specs.Tags.{tag_named}
 use Rattle.pbn_deal.specs.BoardRead.{section_played, is_led_wrongly, entries_played, play_of, plays_in}
-use Rattle.pbn_deal.specs.Rows.{rows_of, first_entry, in_turn, gap_line, hand_fault, card_fault, if_card, unless_fault, row_played, unless_gap, rows_played}
+use Rattle.pbn_deal.specs.Rows.{rows_of, first_entry, in_turn, gap_line, hand_fault, card_fault, if_card, unless_board_fault, row_played, unless_gap, rows_played}
 
 -- ---- what is read well
 
@@ -37,9 +37,9 @@ prepend-ok : {A : Type 0} (front all : List A) (rest : Result (List A) BoardRefu
 prepend-ok front all (Ok more) is = (more, refl, cc)
 prepend-ok front all (Err refusal) is = cc
 
-unless_fault-ok : (fault : Option BoardFault) (line : ℕ) (played : Result (List Played) BoardRefusal) (plays : List Played) → unless_fault fault line played ≡ Ok plays → (fault ≡ None) × (played ≡ Ok plays)
-unless_fault-ok None line played plays is = (refl, is)
-unless_fault-ok (Some fault) line played plays is = cc
+unless_board_fault-ok : (fault : Option BoardFault) (line : ℕ) (played : Result (List Played) BoardRefusal) (plays : List Played) → unless_board_fault fault line played ≡ Ok plays → (fault ≡ None) × (played ≡ Ok plays)
+unless_board_fault-ok None line played plays is = (refl, is)
+unless_board_fault-ok (Some fault) line played plays is = cc
 
 unless_gap-ok : (gap : Option ℕ) (played : Result (List Played) BoardRefusal) (plays : List Played) → unless_gap gap played ≡ Ok plays → (gap ≡ None) × (played ≡ Ok plays)
 unless_gap-ok None played plays is = (refl, is)
@@ -78,15 +78,15 @@ first_played : (trump : Trump) (tricks : ℕ) (course : Course) (entry : Entry) 
     → entry.card ≡ Some card → row_played trump tricks course (entry ∷ rest) ≡ Ok plays → FirstPlayed trump tricks course card rest plays
 first_played trump tricks course entry card rest plays is read =
     let later = row_played trump tricks (next_course trump course card) rest in
-    let here = sym (ap (λ o. if_card o (λ card. unless_fault (card_fault tricks course (turn_in course.trick) card) entry.line (prepend (record { seat = turn_in course.trick; card = card } ∷ []) (row_played trump tricks (next_course trump course card) rest)))) is) ∙ read in
-    let fair = unless_fault-ok (card_fault tricks course (turn_in course.trick) card) entry.line (prepend (record { seat = turn_in course.trick; card = card } ∷ []) later) plays here in
+    let here = sym (ap (λ o. if_card o (λ card. unless_board_fault (card_fault tricks course (turn_in course.trick) card) entry.line (prepend (record { seat = turn_in course.trick; card = card } ∷ []) (row_played trump tricks (next_course trump course card) rest)))) is) ∙ read in
+    let fair = unless_board_fault-ok (card_fault tricks course (turn_in course.trick) card) entry.line (prepend (record { seat = turn_in course.trick; card = card } ∷ []) later) plays here in
     let front = prepend-ok (record { seat = turn_in course.trick; card = card } ∷ []) plays later fair.1 in
     record { more = front.0; fair = fair.0; read = front.1; split = front.2 }
 
 no_card_played : (trump : Trump) (tricks : ℕ) (course : Course) (entry : Entry) (rest : List Entry) (plays : List Played)
     → entry.card ≡ None → row_played trump tricks course (entry ∷ rest) ≡ Ok plays → plays ≡ []
 no_card_played trump tricks course entry rest plays is read =
-    let here = sym (ap (λ o. if_card o (λ card. unless_fault (card_fault tricks course (turn_in course.trick) card) entry.line (prepend (record { seat = turn_in course.trick; card = card } ∷ []) (row_played trump tricks (next_course trump course card) rest)))) is) ∙ read in
+    let here = sym (ap (λ o. if_card o (λ card. unless_board_fault (card_fault tricks course (turn_in course.trick) card) entry.line (prepend (record { seat = turn_in course.trick; card = card } ∷ []) (row_played trump tricks (next_course trump course card) rest)))) is) ∙ read in
     cc here
 
 row_fair : (trump : Trump) (tricks : ℕ) (row : List Entry) (course : Course) (plays : List Played) → row_played trump tricks course row ≡ Ok plays → IsCourse trump course plays

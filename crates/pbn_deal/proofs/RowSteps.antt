@@ -10,7 +10,7 @@ use Rattle.pbn_deal.specs.declared.fault.BoardRefusal.{BoardRefusal}
 use Rattle.pbn_deal.specs.declared.section.Entry.{Entry}
 use Rattle.pbn_deal.specs.Boards.{turn_in, next_course, course_after}
 use Rattle.pbn_deal.specs.Sections.{prepend}
-use Rattle.pbn_deal.specs.Rows.{rows_of, first_entry, in_turn, gap_line, card_fault, if_card, unless_fault, row_played, unless_gap, rows_played}
+use Rattle.pbn_deal.specs.Rows.{rows_of, first_entry, in_turn, gap_line, card_fault, if_card, unless_board_fault, row_played, unless_gap, rows_played}
 use Rattle.byte_text.specs.Steps.{◌>>=◌}
 use Rattle.pbn_deal.proofs.SectionSteps.{prepend-prepend}
 
@@ -38,8 +38,8 @@ pub row_more : (trump : Trump) (tricks : ℕ) (start course next : Course) (row 
 row_more trump tricks start course next row left rest entry card seat plays longer read split is turn fair goes pushed =
     let after = λ (s : Seat) (n : Course). prepend (record { seat = s; card = card } ∷ []) (row_played trump tricks n rest) in
     let step : row_played trump tricks course (entry ∷ rest) ≡ after seat next =
-    ap (λ o. if_card o (λ card. unless_fault (card_fault tricks course (turn_in course.trick) card) entry.line (prepend (record { seat = turn_in course.trick; card = card } ∷ []) (row_played trump tricks (next_course trump course card) rest)))) is
-    ∙ ap (λ f. unless_fault f entry.line (after (turn_in course.trick) (next_course trump course card))) (sym (ap (λ s. card_fault tricks course s card) turn) ∙ fair)
+    ap (λ o. if_card o (λ card. unless_board_fault (card_fault tricks course (turn_in course.trick) card) entry.line (prepend (record { seat = turn_in course.trick; card = card } ∷ []) (row_played trump tricks (next_course trump course card) rest)))) is
+    ∙ ap (λ f. unless_board_fault f entry.line (after (turn_in course.trick) (next_course trump course card))) (sym (ap (λ s. card_fault tricks course s card) turn) ∙ fair)
     ∙ sym (ap₂ after turn goes) in
     read ∙ ap (λ es. prepend plays (row_played trump tricks course es)) split ∙ ap (prepend plays) step
     ∙ sym (ap (λ ps. prepend ps (row_played trump tricks next rest)) pushed ∙ prepend-prepend plays (record { seat = seat; card = card }) (row_played trump tricks next rest))

@@ -6,7 +6,7 @@ use Rattle.card_sets.specs.declared.seat.Compass.{Compass}
 use Rattle.card_sets.specs.Seats.{next_compass}
 use Rattle.card_sets.specs.SetWords.{has_card, IsCardSet, Apart}
 use Rattle.trick_rules.specs.declared.trump.Trump.{Trump}
-use Rattle.trick_rules.specs.Table.{Played as Trick, seat_after}
+use Rattle.trick_rules.specs.Positions.{TrickValue, seat_after}
 use Rattle.trick_rules.specs.Play.{legal_cards, take_out, winner_of}
 use Rattle.pbn_deal.specs.declared.board.Played.{Played}
 use Rattle.pbn_deal.specs.declared.course.Course.{Course}
@@ -62,13 +62,13 @@ dealt_board declarer trump need leader declarer_hand dummy_hand unseen = record 
 -- ---- the course of play
 
 -- a trick with one card more; after the fourth card its winner leads to the next
-abbrev pub next_trick : Trump → Trick → ℕ → Trick
+abbrev pub next_trick : Trump → TrickValue → ℕ → TrickValue
 next_trick trump trick card =
-    let longer : Trick = record { leader = trick.leader; cards = trick.cards ++ card ∷ [] } in
+    let longer : TrickValue = record { leader = trick.leader; cards = trick.cards ++ card ∷ [] } in
     if length trick.cards == 3 then record { leader = winner_of trump longer; cards = [] } else longer
 
 -- clockwise from the trick's leader, past its cards
-abbrev pub turn_in : Trick → Seat
+abbrev pub turn_in : TrickValue → Seat
 turn_in trick = seat_after (length trick.cards) trick.leader
 
 -- the card leaves the hand of the seat that plays it: a defender's card leaves neither of these hands
@@ -112,14 +112,14 @@ course_after trump course [] = course
 course_after trump course (play ∷ plays) = course_after trump (next_course trump course play.card) plays
 
 -- the present trick after these cards
-abbrev pub trick_after : Trump → Trick → List Played → Trick
+abbrev pub trick_after : Trump → TrickValue → List Played → TrickValue
 trick_after trump trick [] = trick
 trick_after trump trick (play ∷ plays) = trick_after trump (next_trick trump trick play.card) plays
 
 -- ---- sound boards
 
 -- before the first card: the whole hands, and the first leader's trick with no card
-abbrev pub first_trick : BoardValue → Trick
+abbrev pub first_trick : BoardValue → TrickValue
 first_trick b = record { leader = b.leader; cards = [] }
 
 -- the hands of declarer's side and the trick before the first card

@@ -5,7 +5,7 @@ use Rattle.card_sets.specs.declared.seat.Seat.{Seat}
 use Rattle.card_sets.specs.declared.seat.Seat.TheVariants.{Declarer, Left, Dummy, Right}
 use Rattle.card_sets.specs.SetWords.{has_card}
 use Rattle.trick_rules.specs.declared.trump.Trump.{Trump}
-use Rattle.trick_rules.specs.Table.{places_on}
+use Rattle.trick_rules.specs.Positions.{places_on}
 use Rattle.trick_rules.specs.Play.{legal_cards}
 use Rattle.pbn_deal.specs.declared.board.Played.{Played}
 use Rattle.pbn_deal.specs.declared.course.Course.{Course}
@@ -74,16 +74,16 @@ if_card None read = Ok []
 if_card (Some card) read = read card
 
 -- a fault at this line where there is one, and else the plays
-abbrev pub unless_fault : Option BoardFault → ℕ → Result (List Played) BoardRefusal → Result (List Played) BoardRefusal
-unless_fault None line plays = plays
-unless_fault (Some fault) line plays = Err (Fault line fault)
+abbrev pub unless_board_fault : Option BoardFault → ℕ → Result (List Played) BoardRefusal → Result (List Played) BoardRefusal
+unless_board_fault None line plays = plays
+unless_board_fault (Some fault) line plays = Err (Fault line fault)
 
 -- the cards of a row from the leader on, up to the first entry with none, or the first fault
 abbrev pub row_played : Trump → ℕ → Course → List Entry → Result (List Played) BoardRefusal
 row_played trump tricks course [] = Ok []
 row_played trump tricks course (entry ∷ rest) =
     if_card entry.card
-    (λ card. unless_fault (card_fault tricks course (turn_in course.trick) card) entry.line
+    (λ card. unless_board_fault (card_fault tricks course (turn_in course.trick) card) entry.line
     (prepend (record { seat = turn_in course.trick; card = card } ∷ []) (row_played trump tricks (next_course trump course card) rest)))
 
 -- a gap at this line where there is one, and else the plays

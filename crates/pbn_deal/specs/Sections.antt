@@ -29,13 +29,13 @@ is_plus (Card card) = false
 is_plus Other = false
 
 -- a note, which is skipped
-abbrev pub is_skipped : Mark → Bool
-is_skipped End = false
-is_skipped Plus = false
-is_skipped Gap = false
-is_skipped Note = true
-is_skipped (Card card) = false
-is_skipped Other = false
+abbrev pub is_skipped_mark : Mark → Bool
+is_skipped_mark End = false
+is_skipped_mark Plus = false
+is_skipped_mark Gap = false
+is_skipped_mark Note = true
+is_skipped_mark (Card card) = false
+is_skipped_mark Other = false
 
 -- neither a card nor anything else that may stand in the section
 abbrev pub is_other : Mark → Bool
@@ -47,17 +47,17 @@ is_other (Card card) = false
 is_other Other = true
 
 -- the card that a token says
-abbrev pub card_in : Mark → Option ℕ
-card_in End = None
-card_in Plus = None
-card_in Gap = None
-card_in Note = None
-card_in (Card card) = Some card
-card_in Other = None
+abbrev pub card_marked : Mark → Option ℕ
+card_marked End = None
+card_marked Plus = None
+card_marked Gap = None
+card_marked Note = None
+card_marked (Card card) = Some card
+card_marked Other = None
 
 -- whether a token is a card
 abbrev pub is_card : TokenValue → Bool
-is_card token = is_some (card_in (mark_of token.text))
+is_card token = is_some (card_marked (mark_of token.text))
 
 -- the tokens before the first `*`
 abbrev pub before_end : List TokenValue → List TokenValue
@@ -71,11 +71,11 @@ before_last_plus (token ∷ rest) = if is_plus (mark_of token.text) && not (list
 
 -- the tokens of a Play section that count
 abbrev pub section_of : List TokenValue → List TokenValue
-section_of tokens = before_last_plus (filter (λ token. not (is_skipped (mark_of token.text))) (before_end tokens))
+section_of tokens = before_last_plus (filter (λ token. not (is_skipped_mark (mark_of token.text))) (before_end tokens))
 
 -- a token as an entry of a row: a card, or none yet
 abbrev pub entry_of : TokenValue → Entry
-entry_of token = record { card = card_in (mark_of token.text); line = token.line }
+entry_of token = record { card = card_marked (mark_of token.text); line = token.line }
 
 -- a token that is no card where there is one, and else the entries
 abbrev pub unless_other : Option TokenValue → List Entry → Result (List Entry) BoardRefusal

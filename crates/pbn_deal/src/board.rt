@@ -44,8 +44,8 @@ pub fn seat_of(declarer: Compass, place: Compass) -> Seat
 
 /// A sound board: hands, need, leader and unseen cards are those before the first played card.
 ///
-/// The need is the tricks that declarer's side must take, 0 to 13.
-/// The unseen cards are those that the two defenders hold together, `None` where the file doesn't tell them.
+/// The need is the tricks that declarer's side must take, 0 to 13. The unseen cards are those that
+/// the two defenders hold together, `None` where the file doesn't tell them.
 #[derive(Debug, Drop)]
 pub struct Board {
     declarer: Compass,
@@ -98,7 +98,8 @@ impl Board {
         dummy_hand: CardSet,
         unseen: Option<CardSet>,
     ) -> Board
-        requires { IsDealt (dealt_board declarer trump need leader declarer_hand dummy_hand unseen) }
+        requires { IsDealt
+            (dealt_board declarer trump need leader declarer_hand dummy_hand unseen) }
         ensures { result ≡ dealt_board declarer trump need leader declarer_hand dummy_hand unseen }
     {
         Board {
@@ -173,7 +174,8 @@ impl Board {
         self.dummy_hand
     }
 
-    /// The cards that the two defenders held together before the first played card, where the file tells them.
+    /// The cards that the two defenders held together before the first played card, where the file
+    /// tells them.
     pub fn unseen(&self) -> Option<CardSet>
         ensures value { result ≡ self.now.unseen }
         ensures sound { IsBoard self.now }

@@ -13,7 +13,8 @@ pub struct Course {
     pub trick: Trick,
 }
 
-/// Adds a card to a trick that has fewer than four. After the fourth card its winner leads to the next trick.
+/// Adds a card to a trick that has fewer than four. After the fourth card its winner leads to the
+/// next trick.
 pub fn add_card(trick: &mut Trick, trump: Trump, card: Card)
     requires { length trick.old.cards < 4 }
     ensures value { trick.new ≡ next_trick trump trick.old card }

@@ -5,9 +5,9 @@ ghost use Rattle.pbn_deal.specs.Dealing.{hands_of};
 ghost use Rattle.pbn_deal.specs.Deal.{seat_ahead, from_north, are_one_size, shown_sizes, deal_read, hand_at, IsSoundDeal};
 
 use crate::hands::FourHands;
+use byte_text::{first_word, skip_blanks};
 use card_letters::read_compass;
 use card_sets::{CardSet, Compass};
-use byte_text::{first_word, skip_blanks};
 use thiserror::Error;
 
 /// The hands that a value in the Deal form shows.
@@ -66,7 +66,8 @@ fn seat_ahead(text: &[u8]) -> Option<(Compass, &[u8])>
 
 // The words of a text, where it has four.
 fn four_words(text: &[u8]) -> Option<FourHands<'_>>
-    ensures { MatchOption result ((length (words text.now) == 4) ≡ false) (λ found. words text.now ≡ hands_of found) }
+    ensures { MatchOption result ((length (words text.now) == 4) ≡ false)
+        (λ found. words text.now ≡ hands_of found) }
 {
     let (first, text) = first_word(text)?;
     let (second, text) = first_word(text)?;
@@ -140,11 +141,13 @@ fn hands_of_value(value: &[u8]) -> Result<DealValue, DealFault>
     })
 }
 
-/// The hands of a value in the Deal form: a seat letter, a colon, and four hands clockwise from that seat with blanks between them.
+/// The hands of a value in the Deal form: a seat letter, a colon, and four hands clockwise from
+/// that seat with blanks between them.
 ///
-/// A hand is `-` where it isn't shown, or its suits in the order spades, hearts, diamonds, clubs, with full stops between them.
-/// Letters are read in both cases, ranks in any order, and blanks at both ends don't count.
-/// Where the value has several faults, the first in the order of `DealFault` is given. It takes no memory.
+/// A hand is `-` where it isn't shown, or its suits in the order spades, hearts, diamonds, clubs,
+/// with full stops between them. Letters are read in both cases, ranks in any order, and blanks at
+/// both ends don't count. Where the value has several faults, the first in the order of `DealFault`
+/// is given. It takes no memory.
 pub fn read_deal(value: &[u8]) -> Result<DealValue, DealFault>
     ensures value { result ≡ deal_read value.now }
     ensures sound { IfOk result IsSoundDeal }

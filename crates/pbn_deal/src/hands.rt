@@ -83,7 +83,8 @@ impl Dealer {
             × (repeats self.old.seen (suit_cards suit letters.now) ≡ false)
             × Adds self.old.seen self.new.seen (suit_cards suit letters.now)
             × Adds hand full (suit_cards suit letters.now))
-            (λ fault. (fault ≡ Repeated) × (repeats self.old.seen (suit_cards suit letters.now) ≡ true)) }
+            (λ fault. (fault ≡ Repeated)
+            × (repeats self.old.seen (suit_cards suit letters.now) ≡ true)) }
     {
         let mut full = hand;
         for letter in letters {
@@ -99,7 +100,8 @@ impl Dealer {
         Ok(full)
     }
 
-    // The hand that a word shows; `Repeated` where a card of it was seen before or stands twice in it.
+    // The hand that a word shows; `Repeated` where a card of it was seen before or stands twice in
+    // it.
     fn hand(&mut self, word: &[u8]) -> Result<Option<CardSet>, DealFault>
         ensures { MatchResult result
             (λ hand. (hand ≡ hand_read word.now)
@@ -154,8 +156,10 @@ impl FourHands<'_> {
     /// The hands as sets; `Repeated` where a card stands twice in them.
     pub fn deal(&self) -> Result<[Option<CardSet>; 4], DealFault>
         ensures { MatchResult result
-            (λ hands. (hands ≡ map hand_read (hands_of self.now)) × (has_repeat (flat_map hand_cards (hands_of self.now)) ≡ false))
-            (λ fault. (fault ≡ Repeated) × (has_repeat (flat_map hand_cards (hands_of self.now)) ≡ true)) }
+            (λ hands. (hands ≡ map hand_read (hands_of self.now))
+            × (has_repeat (flat_map hand_cards (hands_of self.now)) ≡ false))
+            (λ fault. (fault ≡ Repeated)
+            × (has_repeat (flat_map hand_cards (hands_of self.now)) ≡ true)) }
     {
         let mut dealer = Dealer::new();
         let first = dealer.hand(self.first)?;

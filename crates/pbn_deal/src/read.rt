@@ -132,7 +132,9 @@ fn play_section(
     board: &Board,
     entries: &[Entry],
 ) -> Result<Vec<Played>, BoardRefusal>
-    ensures { MatchResult result (λ plays. section_played board.now entries.now ≡ Ok plays.items) (IsRefusalOf (section_played board.now entries.now)) }
+    ensures { MatchResult result
+        (λ plays. section_played board.now entries.now ≡ Ok plays.items)
+        (IsRefusalOf (section_played board.now entries.now)) }
 {
     let mut course = Course {
         declarer: board.declarer_hand(),
@@ -157,7 +159,9 @@ fn play_entries(
     tag: &Tag,
     entries: &[Entry],
 ) -> Result<Vec<Played>, BoardRefusal>
-    ensures { MatchResult result (λ plays. entries_played board.now tag.now entries.now ≡ Ok plays.items) (IsRefusalOf (entries_played board.now tag.now entries.now)) }
+    ensures { MatchResult result
+        (λ plays. entries_played board.now tag.now entries.now ≡ Ok plays.items)
+        (IsRefusalOf (entries_played board.now tag.now entries.now)) }
 {
     if is_led_wrongly(board, tag, entries) {
         return Err(BoardRefusal::Fault {
@@ -171,7 +175,9 @@ fn play_entries(
 // The play that the Play section tells.
 #[tactic(auto, unfolding(crate::specs::BoardRead::plays_in))]
 fn read_plays(alloc: Global, game: &Game, board: &Board) -> Result<Vec<Played>, BoardRefusal>
-    ensures { MatchResult result (λ plays. plays_in game.now board.now ≡ Ok plays.items) (IsRefusalOf (plays_in game.now board.now)) }
+    ensures { MatchResult result
+        (λ plays. plays_in game.now board.now ≡ Ok plays.items)
+        (IsRefusalOf (plays_in game.now board.now)) }
 {
     let Some(tag) = find_tag(game, b"Play") else {
         return Ok(Vec::new(alloc));
@@ -180,13 +186,15 @@ fn read_plays(alloc: Global, game: &Game, board: &Board) -> Result<Vec<Played>, 
     play_entries(alloc, board, tag, &entries)
 }
 
-/// The board of a game that has at least one tag, or the first fault in this order, with its line: a value inherited by
-/// `#`; the Deal, Contract and Declarer tags; hands that aren't shown; the tags of an ending; and the Play section, its
-/// tokens first, then the seat that leads, and then its rows in order.
+/// The board of a game that has at least one tag, or the first fault in this order, with its line:
+/// a value inherited by `#`; the Deal, Contract and Declarer tags; hands that aren't shown; the
+/// tags of an ending; and the Play section, its tokens first, then the seat that leads, and then
+/// its rows in order.
 #[tactic(auto, unfolding(crate::specs::BoardRead::board_read))]
 pub fn read_board(alloc: Global, game: &Game) -> Result<Board, BoardRefusal>
     requires { 1 ≤ length game.now.tags }
-    ensures { MatchResult result (λ board. board_read game.now ≡ Ok board) (IsRefusalOf (board_read game.now)) }
+    ensures { MatchResult result
+        (λ board. board_read game.now ≡ Ok board) (IsRefusalOf (board_read game.now)) }
 {
     if let Some(line) = inherited_line(game) {
         return Err(BoardRefusal::Fault {

@@ -69,7 +69,8 @@ fn first_card(entries: &[Entry]) -> Option<&Entry>
     entries.iter().find(|entry| entry.card.is_some())
 }
 
-// The line of what stands after the row's first entry with no card: a later card of the row, or else the next entry.
+// The line of what stands after the row's first entry with no card: a later card of the row, or
+// else the next entry.
 fn gap_line(row: &[Entry], next: Option<&Entry>) -> Option<u32>
     ensures { result ≡ gap_line row.now (option_copied next.entry) }
 {
@@ -116,7 +117,9 @@ fn play_row(
     row: &[Entry],
 ) -> Result<Vec<Played>, BoardRefusal>
     requires { length course.old.trick.cards < 4 }
-    ensures plays { MatchResult result (λ plays. row_played trump tricks course.old row.now ≡ Ok plays.items) (IsRefusalOf (row_played trump tricks course.old row.now)) }
+    ensures plays { MatchResult result
+        (λ plays. row_played trump tricks course.old row.now ≡ Ok plays.items)
+        (IsRefusalOf (row_played trump tricks course.old row.now)) }
     ensures after { IfOk result (λ plays. course.new ≡ course_after trump course.old plays.items) }
     ensures short { length course.new.trick.cards < 4 }
 {
@@ -140,8 +143,9 @@ fn play_row(
     Ok(plays)
 }
 
-/// The play that the entries of a section tell by rows, or the first fault. The course is that before the first card,
-/// the seat is the one that leads first, and so many tricks are to be played.
+/// The play that the entries of a section tell by rows, or the first fault. The course is that
+/// before the first card, the seat is the one that leads first, and so many tricks are to be
+/// played.
 pub fn play_rows(
     alloc: Global,
     trump: Trump,

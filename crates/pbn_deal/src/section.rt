@@ -30,10 +30,13 @@ fn count_cards(tokens: &[Token]) -> usize
     count
 }
 
-/// The entries of a Play section, up to its end; `PlayCard` at the first token that is neither a card nor a dash.
+/// The entries of a Play section, up to its end; `PlayCard` at the first token that is neither a
+/// card nor a dash.
 #[tactic(auto, unfolding(crate::specs::Sections::section_read))]
 pub fn read_section(alloc: Global, tokens: &[Token]) -> Result<Vec<Entry>, BoardRefusal>
-    ensures { MatchResult result (λ entries. section_read tokens.now ≡ Ok entries.items) (IsRefusalOf (section_read tokens.now)) }
+    ensures { MatchResult result
+        (λ entries. section_read tokens.now ≡ Ok entries.items)
+        (IsRefusalOf (section_read tokens.now)) }
 {
     let mut cards_left = count_cards(tokens);
     let mut entries = Vec::new(alloc);

@@ -23,9 +23,9 @@ ghost use Rattle.pbn_deal.specs.Tags.{
 use crate::board::seat_of;
 use crate::deal::{DealValue, read_deal};
 use crate::fault::{BoardFault, BoardRefusal};
+use byte_text::skip_blanks;
 use card_letters::{read_compass, read_suit};
 use card_sets::{Compass, Seat};
-use byte_text::skip_blanks;
 use pbn_text::{Game, Tag};
 use trick_rules::Trump;
 
@@ -36,7 +36,8 @@ pub struct Contract {
     pub trump: Trump,
 }
 
-/// How much of the play is left: the tricks that declarer's side needs, and the seat that leads first.
+/// How much of the play is left: the tricks that declarer's side needs, and the seat that leads
+/// first.
 #[derive(Clone, Copy, Debug)]
 pub struct Ending {
     pub need: u8,
@@ -220,8 +221,8 @@ fn end_tags(line: u32) -> BoardRefusal
     }
 }
 
-/// The need and the first leader, by the tags EndNeed and EndLead, or by the contract where there is neither and the
-/// hands have 13 cards. The line is that of the Deal tag.
+/// The need and the first leader, by the tags EndNeed and EndLead, or by the contract where there
+/// is neither and the hands have 13 cards. The line is that of the Deal tag.
 pub fn read_ending(
     line: u32,
     declarer: Compass,
@@ -231,7 +232,8 @@ pub fn read_ending(
     lead: Option<&Tag>,
 ) -> Result<Ending, BoardRefusal>
     requires { contract.level ≤ 7 }
-    ensures value { result ≡ ending_read line declarer contract tricks (option_copied need.entry) (option_copied lead.entry) }
+    ensures value { result ≡ ending_read line declarer contract tricks (option_copied need.entry)
+        (option_copied lead.entry) }
     ensures fits { IfOk result (λ ending. ending.need ≤ 13) }
 {
     match (need, lead) {

@@ -46,7 +46,8 @@ fn push_shown(text: &mut Text, hand: Option<CardSet>) -> Result<(), AllocError>
     }
 }
 
-/// A hand in the Deal form: its spades, hearts, diamonds and clubs with full stops between them, ranks from the ace down.
+/// A hand in the Deal form: its spades, hearts, diamonds and clubs with full stops between them,
+/// ranks from the ace down.
 pub fn hand_text(alloc: Global, hand: CardSet) -> Result<Text, AllocError>
     ensures { IfOk result (λ text. text ≡ hand_text hand) }
 {
@@ -75,7 +76,8 @@ fn push_hands(
     Ok(())
 }
 
-/// The hands of North, East, South and West in the Deal form, from North, with one space between hands; a hand that isn't shown is a dash.
+/// The hands of North, East, South and West in the Deal form, from North, with one space between
+/// hands; a hand that isn't shown is a dash.
 pub fn deal_text(alloc: Global, hands: [Option<CardSet>; 4]) -> Result<Text, AllocError>
     ensures { IfOk result (λ text. text ≡ deal_text hands) }
 {

@@ -13,7 +13,7 @@ use Rattle.pbn_text.specs.declared.game.Game.{Game}
 use Rattle.pbn_text.specs.Pieces.{Piece, passed, game_end, tag, token, fault, pieces}
 use Rattle.pbn_text.specs.Games.{TokenValue, TagValue, GameValue}
 use Rattle.pbn_text.specs.Grammar.{tokens_ahead, tags_of, game_of, is_game_end, has_tag, first_fault, games_in, or_fault, unless_fault, no_text_fault, without_mark, text_read, games_read}
-use Rattle.pbn_text.specs.Reading.{with_token, open_tags, with_game, games_with, IsFault, IsFaultOf, Gives}
+use Rattle.pbn_text.specs.Reading.{with_token, open_tags, with_game, games_with, IsFault, IsTextFaultOf, GivesGames}
 
 -- a tag pair with the tokens that follow it
 abbrev with_tokens : TagValue → List TokenValue → TagValue
@@ -110,9 +110,9 @@ text_read-collected text =
     collected [] [] None all ∙ ap (read_as false all) (for_groups (λ groups. all_games [] [] None groups ≡ filter has_tag (map game_of groups)) (λ group groups. refl) all)
 
 -- a fault that the text begins with is the fault of what is left
-pub IsFaultOf-first : (reason : TextFault) (games : List GameValue) (tags : List TagValue) (last : Option TagValue) (piece : Piece) (more left : List Piece) → left ≡ piece ∷ more → IsFault reason piece → IsFaultOf reason (games_with games tags last left)
-IsFaultOf-first faults.Memory games tags last piece more left is at = tt
-IsFaultOf-first (faults.Syntax line kind) games tags last piece more left is at = ap (games_with games tags last) (is ∙ ap (λ (p : Piece). p ∷ more) at)
+pub IsTextFaultOf-first : (reason : TextFault) (games : List GameValue) (tags : List TagValue) (last : Option TagValue) (piece : Piece) (more left : List Piece) → left ≡ piece ∷ more → IsFault reason piece → IsTextFaultOf reason (games_with games tags last left)
+IsTextFaultOf-first faults.Memory games tags last piece more left is at = tt
+IsTextFaultOf-first (faults.Syntax line kind) games tags last piece more left is at = ap (games_with games tags last) (is ∙ ap (λ (p : Piece). p ∷ more) at)
 
 -- nothing is left of an empty text
 pub pieces-none : (at_front : Bool) (line : ℕ) (text : List ℕ) → eqb (length text) 0 ≡ true → pieces at_front line 0 text ≡ []
@@ -137,7 +137,7 @@ tagged_ok text games is =
     subst (All (λ game. 1 ≤ length game.tags)) (sym same) (All-from_recursion (λ game. 1 ≤ length game.tags) (filter has_tag (map game_of (slice_split is_game_end all))) (tagged_each (map game_of (slice_split is_game_end all))))
 
 -- what is read of a text has a tag pair in each game
-pub tagged_read : (text : List ℕ) (result : Result (Vec Game) TextFault) → Gives result (text_read text) → IfOk result (λ games. All (λ game. 1 ≤ length game.tags) games.items)
+pub tagged_read : (text : List ℕ) (result : Result (Vec Game) TextFault) → GivesGames result (text_read text) → IfOk result (λ games. All (λ game. 1 ≤ length game.tags) games.items)
 tagged_read text (Ok games) is = tagged_ok text games.items is
 tagged_read text (Err reason) is = tt
 

@@ -9,8 +9,8 @@ use Rattle.byte_text.specs.Lines.{is_line_end}
 use Rattle.pbn_text.specs.Strings.{string_len, unescaped}
 
 -- what follows up to the end of the line
-abbrev pub line_of : List ℕ → List ℕ
-line_of text = before_first is_line_end text
+abbrev pub rest_of_line : List ℕ → List ℕ
+rest_of_line text = before_first is_line_end text
 
 -- the end of the line, and what follows it
 abbrev pub past_line : List ℕ → List ℕ
@@ -98,7 +98,7 @@ is_skipped_line (byte ∷ rest) = byte == 37
 
 -- a line of blanks alone
 abbrev pub is_blank_line : List ℕ → Bool
-is_blank_line text = list_all is_blank (line_of text)
+is_blank_line text = list_all is_blank (rest_of_line text)
 
 -- what a text begins with, at the front of a line or inside one
 unfoldable pub piece_ahead : Bool → ℕ → List ℕ → Ahead

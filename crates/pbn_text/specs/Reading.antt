@@ -75,9 +75,9 @@ abbrev pub games_after : Collector → List Piece → Result (List GameValue) (�
 games_after c left = games_with c.games.items c.tags.items c.last left
 
 -- a fault is the text's, or memory ran out
-abbrev pub IsFaultOf : TextFault → Result (List GameValue) (ℕ × Syntax) → Type 0
-IsFaultOf faults.Memory read = Unit {0}
-IsFaultOf (faults.Syntax line kind) read = read ≡ Err (line, kind)
+abbrev pub IsTextFaultOf : TextFault → Result (List GameValue) (ℕ × Syntax) → Type 0
+IsTextFaultOf faults.Memory read = Unit {0}
+IsTextFaultOf (faults.Syntax line kind) read = read ≡ Err (line, kind)
 
 -- the last tag pair was put to the others; else memory ran out
 abbrev pub Closes : Collector → Collector → Result (Unit {0}) TextFault → Type 0
@@ -93,9 +93,9 @@ Ends old new (Err reason) = reason ≡ faults.Memory
 -- the piece was collected; else it is a fault
 abbrev pub Collects : Collector → Collector → Piece → List Piece → Result (Unit {0}) TextFault → Type 0
 Collects old new piece left (Ok done) = games_after new left ≡ games_after old (piece ∷ left)
-Collects old new piece left (Err reason) = IsFaultOf reason (games_after old (piece ∷ left))
+Collects old new piece left (Err reason) = IsTextFaultOf reason (games_after old (piece ∷ left))
 
 -- what was read is what the grammar gives, or its first fault, or memory ran out
-abbrev pub Gives : Result (Vec Game) TextFault → Result (List GameValue) (ℕ × Syntax) → Type 0
-Gives (Ok games) read = read ≡ Ok games.items
-Gives (Err reason) read = IsFaultOf reason read
+abbrev pub GivesGames : Result (Vec Game) TextFault → Result (List GameValue) (ℕ × Syntax) → Type 0
+GivesGames (Ok games) read = read ≡ Ok games.items
+GivesGames (Err reason) read = IsTextFaultOf reason read

@@ -1,7 +1,7 @@
 //! Pieces collected into games.
 ghost use Rattle.std.specs.Prelude.{◌≡◌, [], None, List};
 ghost use Rattle.pbn_text.specs.Pieces.{Piece, token as found};
-ghost use Rattle.pbn_text.specs.Reading.{piece_of, games_after, Closes, Ends, Collects, Gives};
+ghost use Rattle.pbn_text.specs.Reading.{piece_of, games_after, Closes, Ends, Collects, GivesGames};
 
 use crate::fault::{Syntax, TextFault};
 use crate::game::{Game, Tag, Token};
@@ -93,7 +93,7 @@ impl Collector {
 
     /// The games, where nothing is left to read.
     pub fn into_games(self, alloc: Global) -> Result<Vec<Game>, TextFault>
-        ensures { Gives result (games_after self []) }
+        ensures { GivesGames result (games_after self []) }
     {
         let mut collector = self;
         collector.end_game(alloc)?;

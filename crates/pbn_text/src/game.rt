@@ -37,7 +37,12 @@ impl Model for Tag {
 
     ghost Value = { TagValue };
 
-    ghost view = { λ tag. record { name = tag.name; value = tag.value; line = tag.line; tokens = tag.tokens.items } };
+    ghost view = { λ tag. record {
+      name = tag.name;
+      value = tag.value;
+      line = tag.line;
+      tokens = tag.tokens.items;
+    } };
 }
 
 /// A group of tag pairs, in the order of the file. Each game of a file has at least one.

@@ -3,7 +3,7 @@ ghost use Rattle.std.specs.Prelude.{All, IfOk, ◌≡◌, ◌<◌, ◌-◌, ◌^
 ghost use Rattle.std.specs.List.{position_or_len};
 ghost use Rattle.pbn_text.specs.declared.fault.Syntax.TheVariants.{NotText};
 ghost use Rattle.pbn_text.specs.Grammar.{is_no_text, no_text_fault, without_mark, text_read, games_read};
-ghost use Rattle.pbn_text.specs.Reading.{Gives};
+ghost use Rattle.pbn_text.specs.Reading.{GivesGames};
 
 use crate::collector::Collector;
 use crate::fault::{Syntax, TextFault};
@@ -49,13 +49,14 @@ fn without_mark(bytes: &[u8]) -> &[u8]
 
 /// The games of a file of PBN text, in the order of the file.
 ///
-/// A UTF-8 byte order mark at the front, lines that begin with `%` and comments are passed over, and a line of blanks alone ends a game.
-/// A tag name may stand twice in a game: both tag pairs are given.
-/// A file at fault is refused with its first fault in reading order and the line where that begins; `NotText` comes before all others.
+/// A UTF-8 byte order mark at the front, lines that begin with `%` and comments are passed over,
+/// and a line of blanks alone ends a game. A tag name may stand twice in a game: both tag pairs are
+/// given. A file at fault is refused with its first fault in reading order and the line where that
+/// begins; `NotText` comes before all others.
 #[tactic(auto, unfolding(crate::specs::Grammar::games_read))]
 pub fn games(alloc: Global, bytes: &[u8]) -> Result<Vec<Game>, TextFault>
     requires { length bytes.now < 2 ^ 32 - 1 }
-    ensures read { Gives result (games_read bytes.now) }
+    ensures read { GivesGames result (games_read bytes.now) }
     ensures tagged { IfOk result (λ games. All (λ game. 1 ≤ length game.tags) games.items) }
 {
     if let Some(line) = no_text_line(bytes) {
@@ -70,7 +71,7 @@ pub fn games(alloc: Global, bytes: &[u8]) -> Result<Vec<Game>, TextFault>
 // The games of a text whose bytes all may stand in a text.
 fn read_text(alloc: Global, text: &[u8]) -> Result<Vec<Game>, TextFault>
     requires { length text.now < 2 ^ 32 - 1 }
-    ensures read { Gives result (text_read text.now) }
+    ensures read { GivesGames result (text_read text.now) }
     ensures tagged { IfOk result (λ games. All (λ game. 1 ≤ length game.tags) games.items) }
 {
     let mut reader = Reader::new(text);

@@ -63,7 +63,8 @@ pub fn token_len(text: &[u8]) -> usize
         .unwrap_or(text.len())
 }
 
-/// How many bytes a string takes after its opening quote, the closing quote counted; `None` where its line ends before that.
+/// How many bytes a string takes after its opening quote, the closing quote counted; `None` where
+/// its line ends before that.
 pub fn string_len(text: &[u8]) -> Option<usize>
     ensures len { result ≡ string_len text.now }
     ensures inside { IfSome result (λ len. len ≤ length text.now) }

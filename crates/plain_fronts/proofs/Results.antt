@@ -1,7 +1,7 @@
 -- Double dummy's results, layout by layout.
 use Rattle.std.proofs.Common.{◌≡◌, ℕ, suc, ◌+◌, ◌-◌, ◌<◌, ◌≤◌, Bool, false, List, [], ◌∷◌, ◌++◌, map, take, set, replicate, length, get_or, refl, sym, ap, subst, ◌∙◌, arith, append_assoc, append-nil, length-append}
 use Rattle.std.proofs.lemmas.List.{length-map, length-take, length-replicate, take_all, map_more}
-use Rattle.trick_rules.specs.Table.{Table}
+use Rattle.trick_rules.specs.Positions.{PositionValue}
 use Rattle.trick_rules.specs.Play.{makes}
 
 -- the results of the first i layouts, and 0 for the others
@@ -34,12 +34,12 @@ results_upto-more p xs i x low is =
     (subst (λ n. set (first ++ false ∷ rest) n (p x) ≡ results_upto p xs (i + 1)) (length_first p xs i (omega arith))
     (set-between first rest false (p x) ∙ sym (append_assoc first (p x ∷ []) rest) ∙ ap (λ bits. bits ++ rest) (sym here)))
 
-pub results_upto-all : (t : Table) (xs : List (List ℕ)) (i : ℕ) → length xs ≤ i → results_upto (λ left. makes (record { table = t; left = left })) xs i ≡ map (λ s. makes s) (map (λ left. record { table = t; left = left }) xs)
+pub results_upto-all : (t : PositionValue) (xs : List (List ℕ)) (i : ℕ) → length xs ≤ i → results_upto (λ left. makes (record { position = t; left = left })) xs i ≡ map (λ s. makes s) (map (λ left. record { position = t; left = left }) xs)
 results_upto-all t xs i all =
     let none : length xs - i ≡ 0 = omega arith in
-    subst (λ n. map (λ left. makes (record { table = t; left = left })) (take i xs) ++ replicate n false ≡ map (λ s. makes s) (map (λ left. record { table = t; left = left }) xs)) (sym none)
-    (append-nil (map (λ left. makes (record { table = t; left = left })) (take i xs)) ∙ ap (map (λ left. makes (record { table = t; left = left }))) (take_all i xs all) ∙ go xs)
+    subst (λ n. map (λ left. makes (record { position = t; left = left })) (take i xs) ++ replicate n false ≡ map (λ s. makes s) (map (λ left. record { position = t; left = left }) xs)) (sym none)
+    (append-nil (map (λ left. makes (record { position = t; left = left })) (take i xs)) ∙ ap (map (λ left. makes (record { position = t; left = left }))) (take_all i xs all) ∙ go xs)
   where
-    go : (xs : List (List ℕ)) → map (λ left. makes (record { table = t; left = left })) xs ≡ map (λ s. makes s) (map (λ left. record { table = t; left = left }) xs)
+    go : (xs : List (List ℕ)) → map (λ left. makes (record { position = t; left = left })) xs ≡ map (λ s. makes s) (map (λ left. record { position = t; left = left }) xs)
     go [] = refl
-    go (x ∷ xs) = ap (λ bits. makes (record { table = t; left = x }) ∷ bits) (go xs)
+    go (x ∷ xs) = ap (λ bits. makes (record { position = t; left = x }) ∷ bits) (go xs)

@@ -1,6 +1,6 @@
 //! The front of a node from the fronts of its children.
 ghost use Rattle.std.specs.Prelude.{◌≡◌, true, false, map, IfOk};
-ghost use Rattle.trick_rules.specs.Table.{to_play};
+ghost use Rattle.trick_rules.specs.Positions.{to_play};
 ghost use Rattle.trick_rules.specs.Play.{is_declarers, makes};
 ghost use Rattle.trick_rules.specs.Nodes.{states, stops};
 ghost use Rattle.front_table.specs.Proven.{IsFrontAt};
@@ -12,7 +12,8 @@ use std::alloc::{AllocError, Global};
 use trick_rules::Node;
 use win_vectors::WinVector;
 
-/// The front of a node with so many moves of declarer's side, in printing order. It goes through the whole tree.
+/// The front of a node with so many moves of declarer's side, in printing order. It goes through
+/// the whole tree.
 #[cycle(front)]
 pub fn plain_front(alloc: Global, node: &Node, moves: u8) -> Result<Front, AllocError>
     ensures { IfOk result (IsFrontAt node.now moves) }
@@ -40,7 +41,7 @@ fn front_at_stop(alloc: Global, node: &Node, moves: u8) -> Result<Front, AllocEr
 #[cycle(front)]
 fn front_at_declarer(alloc: Global, node: &Node, moves: u8) -> Result<Front, AllocError>
     requires goes_on { stops node.now moves ≡ false }
-    requires ours { is_declarers (to_play node.now.table) ≡ true }
+    requires ours { is_declarers (to_play node.now.position) ≡ true }
     ensures { IfOk result (IsFrontAt node.now moves) }
 {
     let mut front = Front::new(alloc, node.width());
@@ -57,7 +58,7 @@ fn front_at_declarer(alloc: Global, node: &Node, moves: u8) -> Result<Front, All
 #[cycle(front)]
 fn front_at_defender(alloc: Global, node: &Node, moves: u8) -> Result<Front, AllocError>
     requires goes_on { stops node.now moves ≡ false }
-    requires theirs { is_declarers (to_play node.now.table) ≡ false }
+    requires theirs { is_declarers (to_play node.now.position) ≡ false }
     ensures { IfOk result (IsFrontAt node.now moves) }
 {
     let mut front = Front::new(alloc, node.width());

@@ -5,7 +5,7 @@ use Rattle.card_sets.specs.SetWords.{IsCardSet}
 use Rattle.card_sets.proofs.Sets.{tail-after}
 use Rattle.win_vectors.specs.Fronts.{Vector, Covers, IsFirstAbove}
 use Rattle.pareto_fronts.specs.FrontValue.{FrontValue}
-use Rattle.trick_rules.specs.Nodes.{Layouts, IsNode, choices, child}
+use Rattle.trick_rules.specs.Nodes.{NodeValue, IsNode, choices, child}
 use Rattle.strategy_games.specs.Plans.{stops, tree_size, CanWin}
 use Rattle.strategy_games.specs.Choosing.{Keeps, IsFirstOf, IsPick}
 use Rattle.strategy_games.proofs.Fronts.{front_unique}
@@ -16,16 +16,16 @@ use Rattle.strategy_tree.proofs.BridgeLaws.{chosen_plan}
 use Rattle.front_table.specs.Proven.{IsFrontAt}
 use Rattle.alphamu_core.proofs.OpenNodes.{some_moves, is_open, length-our_child}
 use Rattle.plan_finder.specs.Targets.{IsOfFront}
-use Rattle.plan_finder.specs.Choices.{IsSpentAt}
+use Rattle.plan_finder.specs.Choices.{IsChoiceSpentAt}
 use Rattle.plan_finder.proofs.Picks.{length-of_front, picked}
 
 -- after none of the cards that were passed some vector of the front dominates this one
-pub record NoneKeeps (n : Layouts) (moves : ℕ) (vector : Vector) (cards : List ℕ) : Type 0 where
+pub record NoneKeeps (n : NodeValue) (moves : ℕ) (vector : Vector) (cards : List ℕ) : Type 0 where
   pub passed : List ℕ
   pub split : choices n ≡ passed ++ cards
   pub none : (c : ℕ) → Contains passed c → Keeps bridge n (moves - 1) vector c → ⊥
 
-module _ (n : Layouts) (moves : ℕ) (vector : Vector) where
+module _ (n : NodeValue) (moves : ℕ) (vector : Vector) where
   pub none_passed : (cards : List ℕ) → cards ≡ choices n → NoneKeeps n moves vector cards
   none_passed cards e = record { passed = []; split = sym e; none = λ c among keeps. Contains-nil c among }
 
@@ -59,17 +59,17 @@ module _ (n : Layouts) (moves : ℕ) (vector : Vector) where
           (Contains-cons card rest first here))
           (Contains-append so.passed (card ∷ rest) first among)
 
-      module _ {m : Layouts} (is_child : m ≡ child n card) where
-        pub spent_here : (nodes : ℕ) → IsCardSet cards → nodes < tree_size bridge m (moves - 1) → IsSpentAt n moves vector nodes card
+      module _ {m : NodeValue} (is_child : m ≡ child n card) where
+        pub spent_here : (nodes : ℕ) → IsCardSet cards → nodes < tree_size bridge m (moves - 1) → IsChoiceSpentAt n moves vector nodes card
         spent_here nodes set larger = record {
           choice = next_choice;
-          larger = subst (λ (m : Layouts). nodes < tree_size bridge m (moves - 1)) is_child larger;
+          larger = subst (λ (m : NodeValue). nodes < tree_size bridge m (moves - 1)) is_child larger;
           not_after = not_before set;
         }
 
         pub same_width : (found : FrontValue) → bridge.is_ours n ≡ true → IsOfFront n moves vector → IsFrontAt m (moves - 1) found → length vector ≡ found.width
         same_width found ours of front =
-            length-of_front n moves vector of ∙ sym (length-our_child n card ours (has_card-from_Contains (choices n) card next_choice)) ∙ ap (λ (m : Layouts). length m.lefts) (sym is_child) ∙ sym front.width
+            length-of_front n moves vector of ∙ sym (length-our_child n card ours (has_card-from_Contains (choices n) card next_choice)) ∙ ap (λ (m : NodeValue). length m.lefts) (sym is_child) ∙ sym front.width
 
         module _ (found : FrontValue) (front : IsFrontAt m (moves - 1) found) where
           here : IsFrontAt (child n card) (moves - 1) found

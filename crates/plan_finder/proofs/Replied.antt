@@ -6,7 +6,7 @@ use Rattle.win_vectors.specs.Fronts.{Vector, Covers, IsFirstAbove}
 use Rattle.win_vectors.proofs.Orders.{length-restrict_of}
 use Rattle.pareto_fronts.specs.FrontValue.{FrontValue}
 use Rattle.trick_rules.specs.Play.{cards_left}
-use Rattle.trick_rules.specs.Nodes.{Layouts, IsNode, choices, child, child_mask}
+use Rattle.trick_rules.specs.Nodes.{NodeValue, IsNode, choices, child, child_mask}
 use Rattle.trick_rules.proofs.PlayLaws as play
 use Rattle.strategy_games.specs.Games.{mask}
 use Rattle.strategy_games.specs.Plans.{cards_of, stops, tree_size}
@@ -24,7 +24,7 @@ use Rattle.plan_finder.specs.Targets.{IsOfFront}
 use Rattle.plan_finder.proofs.Picks.{length-of_front, picked, picked_of, chosen_for}
 
 -- the replies so far are those that are printed for the vector's parts
-pub record RepliedSoFar (n : Layouts) (moves : ℕ) (vector : Vector) (cards : List ℕ) (replies : List Answered) : Type 0 where
+pub record RepliedSoFar (n : NodeValue) (moves : ℕ) (vector : Vector) (cards : List ℕ) (replies : List Answered) : Type 0 where
   pub split : choices n ≡ cards_of (replies_of replies) ++ cards
   pub chosen : AreChosenReplies bridge (replies_of replies) n moves vector
 
@@ -32,13 +32,13 @@ cards-push : (replies : List Answered) (reply : Answered) → cards_of (replies_
 cards-push [] reply = refl
 cards-push (r ∷ replies) reply = ap (λ cards. r.card ∷ cards) (cards-push replies reply)
 
-chosen-push : (n : Layouts) (moves : ℕ) (vector : Vector) (replies : List Answered) (reply : Answered) → AreChosenReplies bridge (replies_of replies) n moves vector
+chosen-push : (n : NodeValue) (moves : ℕ) (vector : Vector) (replies : List Answered) (reply : Answered) → AreChosenReplies bridge (replies_of replies) n moves vector
     → IsChosenPlan bridge (plan_of reply.plan) (child n reply.card) moves (restrict_of vector (mask bridge n reply.card)) → AreChosenReplies bridge (replies_of (replies ++ reply ∷ [])) n moves vector
 chosen-push n moves vector [] reply so last = (last, so)
 chosen-push n moves vector (r ∷ replies) reply so last = (so.0, chosen-push n moves vector replies reply so.1 last)
 
 -- the front of a child covers the vector's part
-pub part_covered : (n : Layouts) (moves : ℕ) (vector : Vector) (card : ℕ) (m : Layouts) (bits : Vector) (found : FrontValue) → IsNode n → stops bridge n moves ≡ false → bridge.is_ours n ≡ false → IsOfFront n moves vector
+pub part_covered : (n : NodeValue) (moves : ℕ) (vector : Vector) (card : ℕ) (m : NodeValue) (bits : Vector) (found : FrontValue) → IsNode n → stops bridge n moves ≡ false → bridge.is_ours n ≡ false → IsOfFront n moves vector
     → Contains (choices n) card → m ≡ child n card → bits ≡ child_mask n card → IsFrontAt m moves found → Covers found.vectors (restrict_of vector bits)
 part_covered n zero vector card m bits found sound goes_on theirs of among is_child is_mask front = absurd (true≢false goes_on)
 part_covered n (suc k) vector card m bits found sound goes_on theirs of among is_child is_mask front =
@@ -47,15 +47,15 @@ part_covered n (suc k) vector card m bits found sound goes_on theirs of among is
     subst (λ bits. Covers found.vectors (restrict_of vector bits)) same (chosen_plan.part n k vector of.0 found.vectors card sound goes_on theirs of.1 of.2 among here.front)
 
 -- a child's tree is smaller than the node's
-pub larger_below : (n : Layouts) (moves : ℕ) (card : ℕ) (m : Layouts) (nodes : ℕ) → IsNode n → stops bridge n moves ≡ false → bridge.is_ours n ≡ false → Contains (choices n) card → m ≡ child n card
+pub larger_below : (n : NodeValue) (moves : ℕ) (card : ℕ) (m : NodeValue) (nodes : ℕ) → IsNode n → stops bridge n moves ≡ false → bridge.is_ours n ≡ false → Contains (choices n) card → m ≡ child n card
     → nodes < tree_size bridge m moves → nodes < tree_size bridge n moves
 larger_below n zero card m nodes sound goes_on theirs among is_child larger = absurd (true≢false goes_on)
 larger_below n (suc k) card m nodes sound goes_on theirs among is_child larger =
-    let below = subst (λ (m : Layouts). nodes < tree_size bridge m (suc k)) is_child larger in
+    let below = subst (λ (m : NodeValue). nodes < tree_size bridge m (suc k)) is_child larger in
     let part = sizes.defenders_child n k card sound goes_on theirs among in
     omega arith
 
-module _ (n : Layouts) (moves : ℕ) (vector : Vector) where
+module _ (n : NodeValue) (moves : ℕ) (vector : Vector) where
   pub replied_none : (cards : List ℕ) (replies : List Answered) → cards ≡ choices n → replies ≡ [] → RepliedSoFar n moves vector cards replies
   replied_none cards replies e none = subst (λ replies. RepliedSoFar n moves vector cards replies) (sym none) (record { split = sym e; chosen = tt })
 
@@ -70,11 +70,11 @@ module _ (n : Layouts) (moves : ℕ) (vector : Vector) where
       pub next_reply : Contains (choices n) card
       next_reply = subst (λ cards. Contains cards card) (sym parts) (Contains-append_second (cards_of (replies_of replies)) (card ∷ rest) card (Contains-here card rest))
 
-      module _ {m : Layouts} (is_child : m ≡ child n card) where
+      module _ {m : NodeValue} (is_child : m ≡ child n card) where
         pub node_below : IsNode n → IsNode m
-        node_below sound = subst (λ (m : Layouts). IsNode m) (sym is_child) (play.a_choice_leads_to_a_node n card sound (has_card-from_Contains (choices n) card next_reply))
+        node_below sound = subst (λ (m : NodeValue). IsNode m) (sym is_child) (play.a_choice_leads_to_a_node n card sound (has_card-from_Contains (choices n) card next_reply))
 
-        pub fewer_below : IsNode n → 2 * cards_left m.table + 1 < 2 * cards_left n.table
+        pub fewer_below : IsNode n → 2 * cards_left m.position + 1 < 2 * cards_left n.position
         fewer_below sound = fewer_cards n m card sound next_reply is_child
 
         pub spent_below : (nodes : ℕ) → IsNode n → stops bridge n moves ≡ false → bridge.is_ours n ≡ false → nodes < tree_size bridge m moves → nodes < tree_size bridge n moves
@@ -90,7 +90,7 @@ module _ (n : Layouts) (moves : ℕ) (vector : Vector) where
           module _ (found : FrontValue) (front : IsFrontAt m moves found) where
             pub part_width : IsOfFront n moves vector → length (restrict_of vector bits) ≡ found.width
             part_width of =
-                length-restrict_of vector bits (mask_width of) ∙ ap (λ (v : Vector). ones_of v) is_mask ∙ sym (length-child_lefts n card) ∙ ap (λ (m : Layouts). length m.lefts) (sym is_child) ∙ sym front.width
+                length-restrict_of vector bits (mask_width of) ∙ ap (λ (v : Vector). ones_of v) is_mask ∙ sym (length-child_lefts n card) ∙ ap (λ (m : NodeValue). length m.lefts) (sym is_child) ∙ sym front.width
 
             pub part_above : IsNode n → stops bridge n moves ≡ false → bridge.is_ours n ≡ false → IsOfFront n moves vector → Covers found.vectors (restrict_of vector bits)
             part_above sound goes_on theirs of = part_covered n moves vector card m bits found sound goes_on theirs of next_reply is_child is_mask front
@@ -107,7 +107,7 @@ module _ (n : Layouts) (moves : ℕ) (vector : Vector) where
                   let same : restrict_of vector bits ≡ restrict_of vector (mask bridge n card) = ap (restrict_of vector) (is_mask ∙ sym (mask-bridge n card)) in
                   let plan : IsChosenPlan bridge (plan_of reply.plan) m moves (restrict_of vector bits) = chosen_for (plan_of reply.plan) m moves (restrict_of vector bits) above picked_here chosen in
                   let there : IsChosenPlan bridge (plan_of reply.plan) (child n card) moves (restrict_of vector (mask bridge n card)) =
-                  subst (λ (t : Vector). IsChosenPlan bridge (plan_of reply.plan) (child n card) moves t) same (subst (λ (m : Layouts). IsChosenPlan bridge (plan_of reply.plan) m moves (restrict_of vector bits)) is_child plan) in
+                  subst (λ (t : Vector). IsChosenPlan bridge (plan_of reply.plan) (child n card) moves t) same (subst (λ (m : NodeValue). IsChosenPlan bridge (plan_of reply.plan) m moves (restrict_of vector bits)) is_child plan) in
                   let last : IsChosenPlan bridge (plan_of reply.plan) (child n reply.card) moves (restrict_of vector (mask bridge n reply.card)) =
                   subst (λ c. IsChosenPlan bridge (plan_of reply.plan) (child n c) moves (restrict_of vector (mask bridge n c))) (sym of_card) there in
                   subst (λ more. RepliedSoFar n moves vector rest more) (sym pushed) (record {

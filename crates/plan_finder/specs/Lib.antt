@@ -1,3 +1,3 @@
 pub mod Targets
-pub mod TooLarge
+pub mod SpentPlans
 pub mod Choices

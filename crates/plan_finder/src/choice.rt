@@ -1,9 +1,9 @@
 //! The card that a plan takes at declarer's side, by the fronts after each card.
 ghost use Rattle.std.specs.Prelude.{◌≡◌, ◌≤◌, ℕ, true, false, IfOk, IsErrOf};
-ghost use Rattle.trick_rules.specs.Nodes.{IsNode};
+ghost use Rattle.trick_rules.specs.Nodes.{IsNode, most_moves};
 ghost use Rattle.strategy_games.specs.Plans.{stops};
 ghost use Rattle.strategy_tree.specs.Bridge.{bridge};
-ghost use Rattle.plan_finder.specs.Choices.{IsFirstChoice, IsSpentAt};
+ghost use Rattle.plan_finder.specs.Choices.{IsFirstChoice, IsChoiceSpentAt};
 ghost use Rattle.plan_finder.specs.Targets.{IsOfFront};
 
 use alphamu_core::{RootFault, SearchFault, exact_front};
@@ -32,14 +32,14 @@ pub fn first_choice<S: FrontStore>(
     vector: &WinVector,
     nodes: u64,
 ) -> Result<Choice, RootFault>
-    requires few_moves { moves ≤ 26 }
+    requires few_moves { moves ≤ most_moves }
     requires a_node { IsNode node.now }
     requires goes_on { stops bridge node.now moves ≡ false }
     requires ours { bridge.is_ours node.now ≡ true }
     requires vector { IsOfFront node.now moves vector.now }
     ensures first { IfOk result (IsFirstChoice node.now moves vector.now) }
     ensures spent { (card : ℕ) → IsErrOf result (RootFault.Spent card)
-        → IsSpentAt node.now moves vector.now nodes card }
+        → IsChoiceSpentAt node.now moves vector.now nodes card }
     ensures grown { S.grown store.old store.new }
 {
     let mut cards = node.choices();
@@ -63,7 +63,8 @@ pub fn first_choice<S: FrontStore>(
 /// The fault of a search after a root card.
 pub fn at_card(fault: SearchFault, card: Card) -> RootFault
     ensures spent { fault ≡ SearchFault.Spent → result ≡ RootFault.Spent card }
-    ensures only { (other : ℕ) → result ≡ RootFault.Spent other → (other ≡ card) × (fault ≡ SearchFault.Spent) }
+    ensures only { (other : ℕ) → result ≡ RootFault.Spent other
+        → (other ≡ card) × (fault ≡ SearchFault.Spent) }
 {
     match fault {
         SearchFault::Spent => RootFault::Spent(card),

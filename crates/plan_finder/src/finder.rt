@@ -1,12 +1,12 @@
 //! The chosen plan, from the root to the leaves.
 ghost use Rattle.std.specs.Prelude.{◌≡◌, ◌<◌, ◌≤◌, ℕ, true, false, IfOk, IsErrOf};
-ghost use Rattle.trick_rules.specs.Nodes.{IsNode, choices};
+ghost use Rattle.trick_rules.specs.Nodes.{IsNode, choices, most_moves};
 ghost use Rattle.strategy_games.specs.Plans.{cards_of, stops, tree_size};
 ghost use Rattle.strategy_games.specs.Choosing.{IsChosenPlan, AreChosenReplies};
 ghost use Rattle.strategy_tree.specs.Bridge.{bridge};
 ghost use Rattle.strategy_tree.specs.PlanMeaning.{plan_of, replies_of};
 ghost use Rattle.plan_finder.specs.Targets.{IsOfFront};
-ghost use Rattle.plan_finder.specs.TooLarge.{IsTooLarge};
+ghost use Rattle.plan_finder.specs.SpentPlans.{IsPlanSpentAt};
 
 use crate::choice::{at_card, first_choice, without_card};
 use alphamu_core::{RootFault, SearchFault, exact_front};
@@ -17,15 +17,16 @@ use strategy_tree::{Plan, Reply};
 use trick_rules::Node;
 use win_vectors::WinVector;
 
-/// The plan that is printed for a target: a vector of the front of a node where declarer's side is to play, with 1 to 26
-/// moves.
+/// The plan that is printed for a target: a vector of the front of a node where declarer's side is
+/// to play, with 1 to 26 moves.
 ///
-/// At declarer's side it takes the first card after which some vector of the front dominates the target. At a defender it
-/// goes on, after each card, with the first vector of the front there that dominates the target's part. Each child that it
-/// has to judge is searched once, with a budget of so many nodes for itself.
+/// At declarer's side it takes the first card after which some vector of the front dominates the
+/// target. At a defender it goes on, after each card, with the first vector of the front there that
+/// dominates the target's part. Each child that it has to judge is searched once, with a budget of
+/// so many nodes for itself.
 ///
-/// `Spent` names a card of the node after which the tree is larger than the budget. It doesn't come after the plan's first
-/// card.
+/// `Spent` names a card of the node after which the tree is larger than the budget. It doesn't come
+/// after the plan's first card.
 #[cycle(plan)]
 pub fn plan_for<S: FrontStore>(
     alloc: Global,
@@ -38,11 +39,12 @@ pub fn plan_for<S: FrontStore>(
 ) -> Result<Plan, RootFault>
     requires ours { bridge.is_ours node.now ≡ true }
     requires a_move { 1 ≤ moves }
-    requires few_moves { moves ≤ 26 }
+    requires few_moves { moves ≤ most_moves }
     requires target { IsOfFront node.now moves target.now }
-    ensures plan { IfOk result (λ plan. IsChosenPlan bridge (plan_of plan) node.now moves target.now) }
+    ensures plan { IfOk result
+        (λ plan. IsChosenPlan bridge (plan_of plan) node.now moves target.now) }
     ensures spent { (card : ℕ) → IsErrOf result (RootFault.Spent card)
-        → IsTooLarge node.now moves target.now nodes card }
+        → IsPlanSpentAt node.now moves target.now nodes card }
     ensures grown { S.grown store.old store.new }
 {
     if node.stops(moves) {
@@ -75,10 +77,11 @@ fn plan_below<S: FrontStore>(
     vector: &WinVector,
     nodes: u64,
 ) -> Result<Plan, SearchFault>
-    requires few_moves { moves ≤ 26 }
+    requires few_moves { moves ≤ most_moves }
     requires a_node { IsNode node.now }
     requires vector { IsOfFront node.now moves vector.now }
-    ensures plan { IfOk result (λ plan. IsChosenPlan bridge (plan_of plan) node.now moves vector.now) }
+    ensures plan { IfOk result
+        (λ plan. IsChosenPlan bridge (plan_of plan) node.now moves vector.now) }
     ensures spent { IsErrOf result SearchFault.Spent → nodes < tree_size bridge node.now moves }
     ensures grown { S.grown store.old store.new }
 {
@@ -105,12 +108,13 @@ fn replies<S: FrontStore>(
     vector: &WinVector,
     nodes: u64,
 ) -> Result<Vec<Reply>, SearchFault>
-    requires few_moves { moves ≤ 26 }
+    requires few_moves { moves ≤ most_moves }
     requires a_node { IsNode node.now }
     requires goes_on { stops bridge node.now moves ≡ false }
     requires theirs { bridge.is_ours node.now ≡ false }
     requires vector { IsOfFront node.now moves vector.now }
-    ensures cards { IfOk result (λ replies. cards_of (replies_of replies.items) ≡ choices node.now) }
+    ensures cards { IfOk result
+        (λ replies. cards_of (replies_of replies.items) ≡ choices node.now) }
     ensures plans { IfOk result
         (λ replies. AreChosenReplies bridge (replies_of replies.items) node.now moves vector.now) }
     ensures spent { IsErrOf result SearchFault.Spent → nodes < tree_size bridge node.now moves }

@@ -6,7 +6,7 @@ use Rattle.std.proofs.lemmas.Bool.{ltb-true, ltb-false}
 use Rattle.win_vectors.specs.Vectors.{ones_of}
 use Rattle.win_vectors.specs.Fronts.{Vector, IsFrontOf, IsReduced}
 use Rattle.pareto_fronts.specs.FrontValue.{FrontValue}
-use Rattle.trick_rules.specs.Nodes.{Layouts, IsNode, choices, child}
+use Rattle.trick_rules.specs.Nodes.{NodeValue, IsNode, choices, child}
 use Rattle.strategy_games.specs.Plans.{IsFront, tree_size}
 use Rattle.strategy_games.specs.Joins.{WinsByCard}
 use Rattle.strategy_games.specs.Choosing.{IsFirstOf, HasCount, IsBestCount, IsNamedCard}
@@ -30,7 +30,7 @@ some_from : (vectors : List Vector) → (vectors ≡ [] → ⊥) → 1 ≤ lengt
 some_from [] h = absurd (h refl)
 some_from (v ∷ vs) h = omega arith
 
-module _ (n : Layouts) (below : ℕ) where
+module _ (n : NodeValue) (below : ℕ) where
   -- the first of these cards that keeps the best count, and that count; none where there is no card
   abbrev pub Leads : Option (ℕ × ℕ) → List ℕ → Type 0
   Leads None tried = tried ≡ []
@@ -105,10 +105,10 @@ module _ (n : Layouts) (below : ℕ) where
       root_next = subst (λ ds. Contains ds card) (sym here) (Contains-append_second so.tried (card ∷ rest) card (Contains-here card rest))
 
       -- the first tree that is too large
-      pub root_spent : (m : Layouts) → m ≡ child n card → nodes < tree_size bridge m below → IsFirstOf (λ d. nodes < tree_size bridge (child n d) below) (choices n) card
+      pub root_spent : (m : NodeValue) → m ≡ child n card → nodes < tree_size bridge m below → IsFirstOf (λ d. nodes < tree_size bridge (child n d) below) (choices n) card
       root_spent m is_child large = (so.tried, rest, here, (λ d inside more. let small : tree_size bridge (child n d) below ≤ nodes = so.fits d inside in omega arith), subst (λ m. nodes < tree_size bridge m below) is_child large)
 
-      pub root_more : (m : Layouts) (won more : FrontValue) (first : Vector) (later : List Vector) → m ≡ child n card → IsFrontAt m below won → tree_size bridge m below ≤ nodes
+      pub root_more : (m : NodeValue) (won more : FrontValue) (first : Vector) (later : List Vector) → m ≡ child n card → IsFrontAt m below won → tree_size bridge m below ≤ nodes
           → won.vectors ≡ first ∷ later → IsReduced (front.vectors ++ won.vectors) more.vectors → more.width ≡ front.width → RootSoFar nodes rest more (leader best card (ones_of first))
       root_more m won more first later is_child found small filled union width =
           let found_here : IsFrontAt (child n card) below won = subst (λ m. IsFrontAt m below won) is_child found in
@@ -122,11 +122,11 @@ module _ (n : Layouts) (below : ℕ) where
           }
 
       -- what a vector of the front after the card asks of the code
-      pub root_width : (m : Layouts) (won : FrontValue) → bridge.is_ours n ≡ true → m ≡ child n card → IsFrontAt m below won → won.width ≡ front.width
+      pub root_width : (m : NodeValue) (won : FrontValue) → bridge.is_ours n ≡ true → m ≡ child n card → IsFrontAt m below won → won.width ≡ front.width
       root_width m won ours is_child found =
-          found.width ∙ ap (λ (m : Layouts). length m.lefts) is_child ∙ length-our_child n card ours (has_card-from_Contains (choices n) card root_next) ∙ sym so.width
+          found.width ∙ ap (λ (m : NodeValue). length m.lefts) is_child ∙ length-our_child n card ours (has_card-from_Contains (choices n) card root_next) ∙ sym so.width
 
-      pub root_filled : (m : Layouts) (won : FrontValue) → IsNode n → m ≡ child n card → IsFrontAt m below won → 1 ≤ length won.vectors
+      pub root_filled : (m : NodeValue) (won : FrontValue) → IsNode n → m ≡ child n card → IsFrontAt m below won → 1 ≤ length won.vectors
       root_filled m won sound is_child found =
           let sound_child : IsNode (child n card) = lawful.holds n card sound root_next in
           some_from won.vectors (λ none. one_front.filled (child n card) below won.vectors sound_child (subst (λ m. IsFrontAt m below won) is_child found).front none)

@@ -1,18 +1,18 @@
 -- What is to be found at a root.
 use Rattle.std.specs.Prelude.{◌<◌, ◌≤◌, ◌-◌, ℕ, Contains}
-use Rattle.trick_rules.specs.Nodes.{Layouts, choices, child}
+use Rattle.trick_rules.specs.Nodes.{NodeValue, choices, child}
 use Rattle.strategy_games.specs.Plans.{tree_size}
 use Rattle.strategy_games.specs.Choosing.{IsFirstOf}
 use Rattle.strategy_tree.specs.Bridge.{bridge}
 
 -- the tree after the card, which uses one of the moves, has more nodes than a search may enter
-abbrev pub IsTooLarge : Layouts → ℕ → ℕ → ℕ → Type 0
+abbrev pub IsTooLarge : NodeValue → ℕ → ℕ → ℕ → Type 0
 IsTooLarge n moves nodes card = nodes < tree_size bridge (child n card) (moves - 1)
 
 -- the first root card whose tree is too large
-abbrev pub IsSpentAt : Layouts → ℕ → ℕ → ℕ → Type 0
+abbrev pub IsSpentAt : NodeValue → ℕ → ℕ → ℕ → Type 0
 IsSpentAt n moves nodes card = IsFirstOf (IsTooLarge n moves nodes) (choices n) card
 
 -- no root card's tree is too large
-abbrev pub AllFit : Layouts → ℕ → ℕ → Type 0
+abbrev pub AllFit : NodeValue → ℕ → ℕ → Type 0
 AllFit n moves nodes = (card : ℕ) → Contains (choices n) card → tree_size bridge (child n card) (moves - 1) ≤ nodes

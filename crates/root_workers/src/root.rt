@@ -7,6 +7,7 @@ ghost use Rattle.strategy_tree.specs.Bridge.{bridge};
 ghost use Rattle.front_table.specs.Proven.{IsFrontAt};
 ghost use Rattle.root_workers.specs.Roots.{IsSpentAt, AllFit};
 ghost use Rattle.root_workers.specs.Leaders.{leader};
+ghost use Rattle.trick_rules.specs.Nodes.{most_moves};
 
 use alphamu_core::{RootFault, SearchFault, exact_front};
 use card_sets::Card;
@@ -27,7 +28,8 @@ pub struct RootFront {
 // How many layouts the first vector of a front wins.
 fn best_of(front: &Front) -> u16
     requires { 1 ≤ length front.now.vectors }
-    ensures { (first : Vector) × (later : List Vector) × (front.now.vectors ≡ first ∷ later) × (result ≡ ones_of first) }
+    ensures { (first : Vector) × (later : List Vector) × (front.now.vectors ≡ first ∷ later)
+        × (result ≡ ones_of first) }
 {
     front.get(0).count()
 }
@@ -55,20 +57,22 @@ fn found(front: Front, best: (Card, u16)) -> RootFront
     }
 }
 
-/// The front of a node where declarer's side is to play, with 1 to 26 moves; the first card after which the best count is kept;
-/// and that count. Each root card is searched to its end, within so many nodes.
+/// The front of a node where declarer's side is to play, with 1 to 26 moves; the first card after
+/// which the best count is kept; and that count. Each root card is searched to its end, within so
+/// many nodes.
 ///
 /// It is spent at the first root card whose tree has more nodes.
 pub fn root_front(alloc: Global, node: &Node, moves: u8, nodes: u64) -> Result<RootFront, RootFault>
     requires ours { bridge.is_ours node.now ≡ true }
     requires goes_on { bridge.is_over node.now ≡ false }
     requires some_moves { 1 ≤ moves }
-    requires few_moves { moves ≤ 26 }
+    requires few_moves { moves ≤ most_moves }
     ensures front { IfOk result (λ root. IsFrontAt node.now moves root.front) }
     ensures card { IfOk result (λ root. IsNamedCard bridge node.now moves root.card) }
     ensures count { IfOk result (λ root. IsBestCount bridge node.now moves root.count) }
     ensures fits { IfOk result (λ _. AllFit node.now moves nodes) }
-    ensures spent { (card : ℕ) → IsErrOf result (RootFault.Spent card) → IsSpentAt node.now moves nodes card }
+    ensures spent { (card : ℕ) → IsErrOf result (RootFault.Spent card)
+        → IsSpentAt node.now moves nodes card }
 {
     let mut solver = Solver::new(alloc);
     let mut front = Front::new(alloc, node.width());

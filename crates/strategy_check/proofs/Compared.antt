@@ -7,28 +7,28 @@ use Rattle.std.specs.Option.{option_map}
 use Rattle.std.proofs.lemmas.Option.{slice_get-map, slice_get_within, get_or_from_slice_get}
 use Rattle.std.proofs.lemmas.List.{take_more_same, take_all, length-map}
 use Rattle.win_vectors.specs.Fronts.{Vector}
-use Rattle.trick_rules.specs.Table.{State}
-use Rattle.trick_rules.specs.Nodes.{Layouts, IsNode, states}
+use Rattle.trick_rules.specs.Positions.{State}
+use Rattle.trick_rules.specs.Nodes.{NodeValue, IsNode, states}
 use Rattle.strategy_games.specs.Plans.{Plan, Fits, wins, wins_vector}
 use Rattle.strategy_games.specs.Misfits.{node_count, first_misfit}
 use Rattle.strategy_tree.specs.Bridge.{bridge}
 use Rattle.strategy_tree.proofs.BridgeLaws as laws
-use Rattle.strategy_check.specs.Counting.{counted}
-use Rattle.strategy_check.proofs.Counts.{counted-none}
+use Rattle.strategy_check.specs.Counting.{counted_nodes}
+use Rattle.strategy_check.proofs.Counts.{counted_nodes-none}
 use Rattle.strategy_check.specs.Following.{CanFollow}
 use Rattle.strategy_check.specs.Verdicts.{IsFirstDifference}
 
-abbrev pub state_at : Layouts → List ℕ → State
-state_at n left = record { table = n.table; left = left }
+abbrev pub state_at : NodeValue → List ℕ → State
+state_at n left = record { position = n.position; left = left }
 
 slice_get-mapped : {A B : Type 0} (f : A → B) (xs : List A) (k : ℕ) (x : A) → slice_get xs k ≡ Some x → slice_get (map f xs) k ≡ Some (f x)
 slice_get-mapped f xs k x h = slice_get-map f xs k ∙ ap (option_map f) h
 
-state-read : (n : Layouts) (place : ℕ) (left : List ℕ) → slice_get n.lefts place ≡ Some left → slice_get (states n) place ≡ Some (state_at n left)
+state-read : (n : NodeValue) (place : ℕ) (left : List ℕ) → slice_get n.lefts place ≡ Some left → slice_get (states n) place ≡ Some (state_at n left)
 state-read n place left h = slice_get-mapped (state_at n) n.lefts place left h
 
 -- a layout of the node in which the plan can be followed
-pub follow_from : (plan : Plan ℕ) (n : Layouts) (moves place : ℕ) (left : List ℕ) → IsNode n → Fits bridge plan n moves → slice_get n.lefts place ≡ Some left → CanFollow plan (state_at n left)
+pub follow_from : (plan : Plan ℕ) (n : NodeValue) (moves place : ℕ) (left : List ℕ) → IsNode n → Fits bridge plan n moves → slice_get n.lefts place ≡ Some left → CanFollow plan (state_at n left)
 follow_from plan n moves place left sound fits h =
     let read = state-read n place left h in
     record {
@@ -40,10 +40,10 @@ follow_from plan n moves place left sound fits h =
     }
 
 -- the plan's bit of a layout
-pub own_bit : (plan : Plan ℕ) (n : Layouts) (place : ℕ) (left : List ℕ) → slice_get n.lefts place ≡ Some left → slice_get (wins_vector bridge plan n) place ≡ Some (wins bridge plan (state_at n left))
+pub own_bit : (plan : Plan ℕ) (n : NodeValue) (place : ℕ) (left : List ℕ) → slice_get n.lefts place ≡ Some left → slice_get (wins_vector bridge plan n) place ≡ Some (wins bridge plan (state_at n left))
 own_bit plan n place left h = slice_get-mapped (λ s. wins bridge plan s) (states n) place (state_at n left) (state-read n place left h)
 
-pub length-wins_vector : (plan : Plan ℕ) (n : Layouts) → length (wins_vector bridge plan n) ≡ length n.lefts
+pub length-wins_vector : (plan : Plan ℕ) (n : NodeValue) → length (wins_vector bridge plan n) ≡ length n.lefts
 length-wins_vector plan n = length-map (states n) (λ s. wins bridge plan s) ∙ length-map n.lefts (state_at n)
 
 -- one layout more in which the two agree
@@ -80,5 +80,5 @@ alike false false h = refl
 
 -- ---- a plan whose every node fits
 
-pub fits_from : (plan : Plan ℕ) (n m : Layouts) (moves last : ℕ) → m ≡ n → Ok last ≡ counted 0 (node_count plan) (first_misfit bridge ◌==◌ plan m moves) → Fits bridge plan n moves
-fits_from plan n m moves last is passed = (laws.first_misfit.none plan n moves).1 (subst (λ (x : Layouts). first_misfit bridge ◌==◌ plan x moves ≡ None) is (counted-none (node_count plan) last (first_misfit bridge ◌==◌ plan m moves) passed))
+pub fits_from : (plan : Plan ℕ) (n m : NodeValue) (moves last : ℕ) → m ≡ n → Ok last ≡ counted_nodes 0 (node_count plan) (first_misfit bridge ◌==◌ plan m moves) → Fits bridge plan n moves
+fits_from plan n m moves last is passed = (laws.first_misfit.none plan n moves).1 (subst (λ (x : NodeValue). first_misfit bridge ◌==◌ plan x moves ≡ None) is (counted_nodes-none (node_count plan) last (first_misfit bridge ◌==◌ plan m moves) passed))

@@ -1,9 +1,9 @@
 -- A strategy followed card by card in one layout.
 use Rattle.std.proofs.Common.{◌≡◌, ℕ, zero, suc, true, List, Contains, filter, sym, subst}
 use Rattle.card_sets.specs.SetWords.{has_card}
-use Rattle.trick_rules.specs.Table.{State, IsState}
+use Rattle.trick_rules.specs.Positions.{State, IsState}
 use Rattle.trick_rules.specs.Play.{legal_in, after}
-use Rattle.trick_rules.specs.Nodes.{Layouts, IsNode, states, choices, child}
+use Rattle.trick_rules.specs.Nodes.{NodeValue, IsNode, states, choices, child}
 use Rattle.trick_rules.proofs.PlayLaws as play
 use Rattle.strategy_games.proofs.Lists.{All-at, Contains-here, Contains-there, Contains-filter, Contains-map}
 use Rattle.strategy_games.specs.Plans.{Plan, Replies, Play, Hear, Reply, Fits, cards_of}
@@ -11,7 +11,7 @@ use Rattle.strategy_tree.specs.Bridge.{bridge}
 use Rattle.strategy_tree.proofs.Rules.{lawful}
 use Rattle.strategy_check.specs.Following.{CanFollow, CanFollowEach}
 
-state_of : (n : Layouts) (s : State) → IsNode n → Contains (states n) s → IsState s
+state_of : (n : NodeValue) (s : State) → IsNode n → Contains (states n) s → IsState s
 state_of n s sound among = All-at (λ s. IsState s) (states n) (play.a_layout_gives_a_state n sound) s among
 
 pub followed_state : (plan : Plan ℕ) (s : State) → CanFollow plan s → IsState s
@@ -21,7 +21,7 @@ pub followed_states : (rs : Replies ℕ) (s : State) → CanFollowEach rs s → 
 followed_states rs s f = state_of f.node s f.sound f.among
 
 -- after a card that is legal in this layout
-follow_on : (n : Layouts) (moves : ℕ) (card : ℕ) (rest : Plan ℕ) (s : State) → IsNode n → Contains (states n) s → Contains (choices n) card → has_card (legal_in s) card ≡ true
+follow_on : (n : NodeValue) (moves : ℕ) (card : ℕ) (rest : Plan ℕ) (s : State) → IsNode n → Contains (states n) s → Contains (choices n) card → has_card (legal_in s) card ≡ true
     → Fits bridge rest (child n card) moves → CanFollow rest (after s card)
 follow_on n moves card rest s sound among choice legal fits = record {
   node = child n card;

@@ -5,7 +5,7 @@ use Rattle.std.proofs.lemmas.Option.{get_or_from_slice_get}
 use Rattle.std.proofs.lemmas.List.{get_or-take}
 use Rattle.std.proofs.lemmas.Bool.{false≢true}
 use Rattle.win_vectors.specs.Fronts.{Vector}
-use Rattle.trick_rules.specs.Nodes.{Layouts}
+use Rattle.trick_rules.specs.Nodes.{NodeValue}
 use Rattle.strategy_games.specs.Plans.{Plan, Fits, wins_vector}
 use Rattle.strategy_games.specs.Misfits.{first_misfit}
 use Rattle.strategy_tree.specs.Bridge.{bridge}
@@ -46,7 +46,7 @@ same_difference u v here there a b x y =
 differs : (u v : Vector) (place : ℕ) (bit : Bool) → IsFirstDifference u v place bit → u ≡ v → ⊥
 differs u v place bit x same = not_itself bit (some_same bit (not bit) (sym x.own_bit ∙ ap (λ l. slice_get l (place - 1)) same ∙ x.given_bit))
 
-module _ (n : Layouts) (moves : ℕ) (plan : Plan ℕ) (vector : Vector) where
+module _ (n : NodeValue) (moves : ℕ) (plan : Plan ℕ) (vector : Vector) where
   fits_or_not : (number : ℕ) → Fits bridge plan n moves → first_misfit bridge ◌==◌ plan n moves ≡ Some number → ⊥
   fits_or_not number fits at_fault = let none : first_misfit bridge ◌==◌ plan n moves ≡ None = (laws.first_misfit.none plan n moves).0 fits in cc
 

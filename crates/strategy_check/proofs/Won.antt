@@ -1,7 +1,7 @@
 -- What the replies win, one after another.
 use Rattle.std.proofs.Common.{◌≡◌, ◌&&◌, ◌∙◌, ℕ, Bool, true, false, cond, ap, ap₂}
 use Rattle.card_sets.specs.SetWords.{has_card}
-use Rattle.trick_rules.specs.Table.{State}
+use Rattle.trick_rules.specs.Positions.{State}
 use Rattle.trick_rules.specs.Play.{legal_in, after}
 use Rattle.strategy_games.specs.Plans.{Plan, Replies, Reply, wins}
 use Rattle.strategy_tree.specs.Bridge.{bridge}

@@ -5,17 +5,19 @@ ghost use Rattle.strategy_games.specs.Plans.{cards_of};
 ghost use Rattle.strategy_games.specs.Misfits.{node_count, node_counts, same_cards, belongs as belongs_at, first_misfit, first_misfit_each};
 ghost use Rattle.strategy_tree.specs.Bridge.{bridge};
 ghost use Rattle.strategy_tree.specs.PlanMeaning.{plan_of, replies_of};
-ghost use Rattle.strategy_check.specs.Counting.{counted};
+ghost use Rattle.strategy_check.specs.Counting.{counted_nodes};
 
 use crate::inline_node::InlineNode;
 use card_sets::CardSet;
 use strategy_tree::{Plan, Reply};
 
-/// The number of a plan's last node where so many nodes came before the plan, or of its first node that doesn't fit.
+/// The number of a plan's last node where so many nodes came before the plan, or of its first node
+/// that doesn't fit.
 #[cycle(fitting)]
 pub fn count_fitting(plan: &Plan, node: &InlineNode, moves: u8, before: u32) -> Result<u32, u32>
     requires { before + node_count (plan_of plan.now) < 2 ^ 32 }
-    ensures { result ≡ counted before (node_count (plan_of plan.now)) (first_misfit bridge ◌==◌ (plan_of plan.now) node.now moves) }
+    ensures { result ≡ counted_nodes before (node_count (plan_of plan.now))
+        (first_misfit bridge ◌==◌ (plan_of plan.now) node.now moves) }
 {
     let number = before + 1;
     if !belongs(plan, node, moves) {
@@ -38,7 +40,8 @@ fn count_fitting_replies(
 ) -> Result<u32, u32>
     requires cards { cards_of (replies_of replies.now) ≡ choices node.now }
     requires room { before + node_counts (replies_of replies.now) < 2 ^ 32 }
-    ensures { result ≡ counted before (node_counts (replies_of replies.now)) (first_misfit_each bridge ◌==◌ (replies_of replies.now) node.now moves) }
+    ensures { result ≡ counted_nodes before (node_counts (replies_of replies.now))
+        (first_misfit_each bridge ◌==◌ (replies_of replies.now) node.now moves) }
 {
     let mut last = before;
     for reply in replies {

@@ -1,7 +1,7 @@
 //! A node that takes no memory.
 ghost use Rattle.std.specs.Prelude.{◌≡◌, true};
 ghost use Rattle.card_sets.specs.SetWords.{has_card};
-ghost use Rattle.trick_rules.specs.Table.{to_play};
+ghost use Rattle.trick_rules.specs.Positions.{to_play};
 ghost use Rattle.trick_rules.specs.Play.{is_declarers};
 ghost use Rattle.trick_rules.specs.Nodes.{IsNode, stops as stops_at, choices as choices_of, child as child_of};
 
@@ -11,7 +11,8 @@ use std::marker::Model;
 use trick_rules::{Node, Position, play};
 use win_vectors::MOST_LAYOUTS;
 
-/// A sound position and 1 to 256 layouts, as a `Node` has them, with Left's hands in the value itself.
+/// A sound position and 1 to 256 layouts, as a `Node` has them, with Left's hands in the value
+/// itself.
 #[derive(Drop)]
 pub struct InlineNode {
     position: Position,
@@ -19,13 +20,16 @@ pub struct InlineNode {
 }
 
 impl Model for InlineNode {
-    ghost use Rattle.trick_rules.specs.Nodes.{Layouts, IsNode};
+    ghost use Rattle.trick_rules.specs.Nodes.{NodeValue, IsNode};
 
-    ghost Value = { Layouts };
+    ghost Value = { NodeValue };
 
-    ghost view = { λ node. record { table = node.position; lefts = node.lefts.items } };
+    ghost view = { λ node. record { position = node.position; lefts = node.lefts.items } };
 
-    ghost invariant = { λ node. IsNode (record { table = node.position; lefts = node.lefts.items }) };
+    ghost invariant = { λ node. IsNode (record {
+      position = node.position;
+      lefts = node.lefts.items;
+    }) };
 }
 
 impl InlineNode {
@@ -45,12 +49,13 @@ impl InlineNode {
 
     /// Whether declarer or dummy is to play.
     pub fn is_ours(&self) -> bool
-        ensures { result ≡ is_declarers (to_play self.now.table) }
+        ensures { result ≡ is_declarers (to_play self.now.position) }
     {
         self.position.is_ours()
     }
 
-    /// Whether a plan with this many moves of declarer's side left stops here: no move is left, or the result is decided.
+    /// Whether a plan with this many moves of declarer's side left stops here: no move is left, or
+    /// the result is decided.
     pub fn stops(&self, moves: u8) -> bool
         ensures { result ≡ stops_at self.now moves }
     {

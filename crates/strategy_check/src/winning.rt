@@ -1,6 +1,6 @@
 //! What a strategy wins in one layout.
 ghost use Rattle.std.specs.Prelude.{◌≡◌};
-ghost use Rattle.trick_rules.specs.Table.{IsState};
+ghost use Rattle.trick_rules.specs.Positions.{IsState};
 ghost use Rattle.trick_rules.specs.Play.{makes as makes_in};
 ghost use Rattle.strategy_games.specs.Plans.{wins as wins_in};
 ghost use Rattle.strategy_tree.specs.Bridge.{bridge};
@@ -14,8 +14,8 @@ use trick_rules::{Position, play};
 
 // Whether the contract is made by double dummy. No card is played where that is decided.
 fn makes(position: &Position, left: CardSet) -> bool
-    requires { IsState (record { table = position.now; left = left }) }
-    ensures { result ≡ makes_in (record { table = position.now; left = left }) }
+    requires { IsState (record { position = position.now; left = left }) }
+    ensures { result ≡ makes_in (record { position = position.now; left = left }) }
 {
     match position.decided() {
         Some(made) => made,
@@ -26,8 +26,9 @@ fn makes(position: &Position, left: CardSet) -> bool
 /// Whether a strategy makes the contract where Left holds these cards, whatever the defenders do.
 #[cycle(winning)]
 pub fn wins(plan: &Plan, position: &Position, left: CardSet) -> bool
-    requires { CanFollow (plan_of plan.now) (record { table = position.now; left = left }) }
-    ensures { result ≡ wins_in bridge (plan_of plan.now) (record { table = position.now; left = left }) }
+    requires { CanFollow (plan_of plan.now) (record { position = position.now; left = left }) }
+    ensures { result ≡ wins_in bridge (plan_of plan.now)
+        (record { position = position.now; left = left }) }
 {
     match plan {
         Plan::Stop => makes(position, left),
@@ -39,8 +40,10 @@ pub fn wins(plan: &Plan, position: &Position, left: CardSet) -> bool
 // Whether each reply to a card that the defender may play makes the contract.
 #[cycle(winning)]
 fn win_against_each(replies: &[Reply], position: &Position, left: CardSet) -> bool
-    requires { CanFollowEach (replies_of replies.now) (record { table = position.now; left = left }) }
-    ensures { result ≡ win_each (replies_of replies.now) (record { table = position.now; left = left }) }
+    requires { CanFollowEach (replies_of replies.now)
+        (record { position = position.now; left = left }) }
+    ensures { result ≡ win_each (replies_of replies.now)
+        (record { position = position.now; left = left }) }
 {
     let legal = position.legal_in(left);
     for reply in replies {

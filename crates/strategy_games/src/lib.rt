@@ -9,11 +9,13 @@ ghost use Rattle.win_vectors.specs.Weights.{IsMonotone};
 ghost use Rattle.strategy_games.specs.Games.{Game, IsLawful, IsDoubleDummy, IsSettled};
 ghost use Rattle.strategy_games.specs.Laws.{EndsSomewhere, HasOneFront, HasRecursion, HasSteps, HasMoreMoves, HasChosenPlan, HasSizes, HasBestBy, HasNamedBy, HasBestCount, HasNamedCard, HasBestWeight, HasCuts, HasFirstMisfit};
 
-/// A game of hidden layouts: a node is what everybody sees, with the layouts that are still possible.
+/// A game of hidden layouts: a node is what everybody sees, with the layouts that are still
+/// possible.
 ///
-/// An implementation names its nodes, states and cards and gives the game over them, the condition under
-/// which a node is sound, a test of equal cards, and the proofs that its rules hold at sound nodes.
-/// Then every law below holds for it, by a call of the law's function at the implementing type.
+/// An implementation names its nodes, states and cards and gives the game over them, the condition
+/// under which a node is sound, a test of equal cards, and the proofs that its rules hold at sound
+/// nodes. Then every law below holds for it, by a call of the law's function at the implementing
+/// type.
 pub trait HiddenGame {
     ghost Node: { Type 0 };
 
@@ -36,7 +38,8 @@ pub trait HiddenGame {
     ghost tells_cards: { (c d : Card) → Decides (same c d) (c ≡ d) };
 }
 
-/// A strategy ends somewhere in each layout, so that a layout isn't won because nothing was looked at.
+/// A strategy ends somewhere in each layout, so that a layout isn't won because nothing was looked
+/// at.
 pub fn strategy_ends<G: HiddenGame>()
     ensures { EndsSomewhere G.game G.Sound }
 {}
@@ -46,8 +49,9 @@ pub fn one_front<G: HiddenGame>()
     ensures { HasOneFront G.game G.Sound }
 {}
 
-/// The front at declarer's side is the best of the children's fronts with a move less, one after the other;
-/// at a defender it is the best of all meets of one spread vector of each child's front with the same moves.
+/// The front at declarer's side is the best of the children's fronts with a move less, one after
+/// the other; at a defender it is the best of all meets of one spread vector of each child's front
+/// with the same moves.
 pub fn front_recursion<G: HiddenGame>()
     ensures { HasRecursion G.game G.Sound }
 {}
@@ -69,8 +73,8 @@ pub fn chosen_plan_wins<G: HiddenGame>()
     ensures { HasChosenPlan G.game G.Sound }
 {}
 
-/// The size of the tree is 1 where the plan stops and else 1 more than its children's sizes together;
-/// it never falls as the moves rise, and a child's size is below its node's.
+/// The size of the tree is 1 where the plan stops and else 1 more than its children's sizes
+/// together; it never falls as the moves rise, and a child's size is below its node's.
 pub fn tree_size_laws<G: HiddenGame>()
     ensures { HasSizes G.game G.Sound }
 {}
@@ -93,7 +97,8 @@ pub fn best_weight_is_most<G: HiddenGame>()
     ensures { HasBestWeight G.game G.Sound }
 {}
 
-/// No strategy wins more layouts than the best count, and the first vector of the front has that count.
+/// No strategy wins more layouts than the best count, and the first vector of the front has that
+/// count.
 pub fn best_count_is_most<G: HiddenGame>()
     ensures { HasBestCount G.game G.Sound }
 {}
@@ -105,7 +110,8 @@ pub fn named_card_wins<G: HiddenGame>()
 {}
 
 /// Where a search may stop early: a list that covers a node's front, the front with a move less,
-/// each child of declarer's side, or the replies to some of a defender's cards covers what every strategy wins.
+/// each child of declarer's side, or the replies to some of a defender's cards covers what every
+/// strategy wins.
 pub fn cuts_hold<G: HiddenGame>()
     ensures { HasCuts G.game G.Sound }
 {}

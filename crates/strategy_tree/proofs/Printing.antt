@@ -4,9 +4,9 @@ use Rattle.std.proofs.lemmas.Bool.{false≢true}
 use Rattle.card_sets.specs.SetWords.{has_card, cards_where, IsCardSet, Apart}
 use Rattle.card_sets.proofs.Sets.{IsCardSet-cards_where, has_card-cards_where, has_card-below}
 use Rattle.card_sets.proofs.SetCounts.{length-le_52, length-either, has_card-length}
-use Rattle.trick_rules.specs.Table.{Table, IsSound}
+use Rattle.trick_rules.specs.Positions.{PositionValue, IsSound}
 use Rattle.trick_rules.specs.Play.{decided, cards_left}
-use Rattle.trick_rules.specs.Nodes.{Layouts, IsNode, choices, child}
+use Rattle.trick_rules.specs.Nodes.{NodeValue, IsNode, choices, child}
 use Rattle.trick_rules.proofs.PlayLaws as play
 use Rattle.strategy_games.specs.Plans.{Plan, Replies, Stop, Play, Hear, NoReply, Reply, cards_of, stops, Fits, FitEach}
 use Rattle.strategy_games.proofs.Lists.{Contains-here, Contains-there}
@@ -15,6 +15,7 @@ use Rattle.strategy_tree.specs.PlanText.{levels_of, levels_below, HasReplies, Ha
 use Rattle.strategy_tree.proofs.CardLists.{has_card-from_Contains}
 use Rattle.strategy_tree.proofs.Rules.{going_on}
 use Rattle.strategy_tree.proofs.BridgeNodes.{cards_left-child}
+use Rattle.strategy_tree.specs.PlanRead.{most_levels}
 
 -- ---- how many cards are left
 
@@ -37,7 +38,7 @@ three_sets xs ys zs x y z xy xz yz =
           | inr in_ys ↦ yz card in_ys
         ]
 
-cards_left-le_52 : (t : Table) → IsSound t → cards_left t ≤ 52
+cards_left-le_52 : (t : PositionValue) → IsSound t → cards_left t ≤ 52
 cards_left-le_52 t sound = three_sets t.declarer t.dummy t.unseen sound.declarer_set sound.dummy_set sound.unseen_set sound.declarer_dummy sound.declarer_unseen sound.dummy_unseen
 
 -- ---- what is printed of a strategy
@@ -53,15 +54,15 @@ pub record ArePrinted (rs : Replies ℕ) (left : ℕ) : Type 0 where
   pub replies : HaveReplies rs
   pub cards : HaveCards rs
 
-choice_below : (n : Layouts) (card : ℕ) → Contains (choices n) card → card < 52
+choice_below : (n : NodeValue) (card : ℕ) → Contains (choices n) card → card < 52
 choice_below n card among = has_card-below (choices n) card (IsCardSet-cards_where _) (has_card-from_Contains (choices n) card among)
 
-not_stopped : (n : Layouts) (m : ℕ) → stops bridge n m ≡ false → is_some (decided n.table) ≡ false
+not_stopped : (n : NodeValue) (m : ℕ) → stops bridge n m ≡ false → is_some (decided n.position) ≡ false
 not_stopped n zero off = absurd (false≢true (sym off))
 not_stopped n (suc m) off = off
 
 mutual
-  printed : (p : Plan ℕ) (n : Layouts) (m : ℕ) → IsNode n → Fits bridge p n m → IsPrinted p (cards_left n.table)
+  printed : (p : Plan ℕ) (n : NodeValue) (m : ℕ) → IsNode n → Fits bridge p n m → IsPrinted p (cards_left n.position)
   printed Stop n m sound fits = record { levels = omega arith; replies = tt; cards = tt }
   printed (Play card q) n zero sound fits = absurd fits
   printed (Play card q) n (suc m) sound fits =
@@ -73,13 +74,13 @@ mutual
         cards = (choice_below n card fits.2, below.cards);
       }
   printed (Hear rs) n m sound fits =
-      let some = play.there_is_a_choice n sound (going_on n.table (not_stopped n m fits.0)) in
+      let some = play.there_is_a_choice n sound (going_on n.position (not_stopped n m fits.0)) in
       let filled : 1 ≤ length (cards_of rs) = subst (λ cards. 1 ≤ length cards) (sym fits.2) (has_card-length (choices n) some.0 some.1) in
       let few : length (cards_of rs) ≤ 52 = subst (λ cards. length cards ≤ 52) (sym fits.2) (length-le_52 (choices n) (IsCardSet-cards_where _)) in
       let each = each_printed rs n m sound (λ card among. subst (λ cards. Contains cards card) fits.2 among) fits.3 in
       record { levels = omega (arith, each.levels); replies = (filled, few, each.replies); cards = each.cards }
 
-  each_printed : (rs : Replies ℕ) (n : Layouts) (m : ℕ) → IsNode n → ((card : ℕ) → Contains (cards_of rs) card → Contains (choices n) card) → FitEach bridge rs n m → ArePrinted rs (cards_left n.table)
+  each_printed : (rs : Replies ℕ) (n : NodeValue) (m : ℕ) → IsNode n → ((card : ℕ) → Contains (cards_of rs) card → Contains (choices n) card) → FitEach bridge rs n m → ArePrinted rs (cards_left n.position)
   each_printed NoReply n m sound among fits = record { levels = omega arith; replies = tt; cards = tt }
   each_printed (Reply card q rs) n m sound among fits =
       let here = among card (Contains-here card (cards_of rs)) in
@@ -93,5 +94,5 @@ mutual
       }
 
 -- a strategy has at most 64 levels, each defender's node has 1 to 52 replies, and each card is one of the 52
-pub strategy_printed : (p : Plan ℕ) (n : Layouts) (m : ℕ) → IsNode n → Fits bridge p n m → (levels_of p ≤ 64) × HasReplies p × HasCards p
-strategy_printed p n m sound fits = let all = printed p n m sound fits in (omega (arith, all.levels, cards_left-le_52 n.table sound.sound), all.replies, all.cards)
+pub printed_plan : (p : Plan ℕ) (n : NodeValue) (m : ℕ) → IsNode n → Fits bridge p n m → (levels_of p ≤ most_levels) × HasReplies p × HasCards p
+printed_plan p n m sound fits = let all = printed p n m sound fits in (omega (arith, all.levels, cards_left-le_52 n.position sound.sound), all.replies, all.cards)

@@ -7,14 +7,14 @@ use Rattle.std.proofs.lemmas.Bool.{false≢true, and_parts}
 use Rattle.std.proofs.lemmas.Bool.Decides.{Decides-eqb}
 use Rattle.std.proofs.lemmas.List.Folds.{list_all_at}
 use Rattle.std.proofs.lemmas.List.FromFn.{get_or-range_with_len, length-range_with_len}
-use Rattle.card_letters.specs.Letters.{card_text}
+use Rattle.card_letters.specs.Letters.{letters_of}
 use Rattle.strategy_games.specs.Plans as games
 use Rattle.strategy_games.specs.Plans.{Plan, Replies, cards_of}
 use Rattle.strategy_tree.specs.declared.plan_reader.PlanFault.{PlanFault}
 use Rattle.strategy_tree.specs.declared.plan_reader.PlanLine.TheVariants.{Stop, Play, Hear}
 use Rattle.byte_text.specs.Lines.{line_of, said_at}
 use Rattle.strategy_tree.specs.PlanText.{stop_line, play_line, hear_line, on_line, plan_text, replies_text, levels_of, levels_below, HasReplies, HaveReplies, HasCards, HaveCards}
-use Rattle.strategy_tree.specs.PlanRead.{card_named, play_said, hear_said, plan_line, reply_line, replies_read, node_read, plan_read}
+use Rattle.strategy_tree.specs.PlanRead.{card_named, play_said, hear_said, plan_line, reply_line, replies_read, node_read, plan_read, most_levels}
 use Rattle.byte_text.proofs.ReadNumbers.{number_within-decimal}
 use Rattle.byte_text.proofs.PlainLines.{is_plain, decimal_plain, said_at-here}
 use Rattle.strategy_tree.proofs.ReadingNodes.{node_read-stop, node_read-play, node_read-hear}
@@ -43,13 +43,13 @@ below_limit p limit n all low = go (p n) refl
 
 -- each card is read from its two letters, which end no line
 abbrev reads_card : ℕ → Bool
-reads_card card = is_number (card_named (card_text card)) card && is_plain (card_text card)
+reads_card card = is_number (card_named (letters_of card)) card && is_plain (letters_of card)
 
 reads_each_card : list_all reads_card (range_with_len 0 52) ≡ true
 reads_each_card = refl
 
-card_named-card_text : (card : ℕ) → card < 52 → (card_named (card_text card) ≡ Some card) × (is_plain (card_text card) ≡ true)
-card_named-card_text card low =
+card_named-letters_of : (card : ℕ) → card < 52 → (card_named (letters_of card) ≡ Some card) × (is_plain (letters_of card) ≡ true)
+card_named-letters_of card low =
     let parts = and_parts _ _ (below_limit reads_card 52 card reads_each_card low) in (number_is _ card parts.0, parts.1)
 
 -- ---- the four lines
@@ -58,13 +58,13 @@ stop-said : plan_line (codes "stop") ≡ Some Stop
 unfolding plan_line
 stop-said = refl
 
-play-said : (card : ℕ) → card < 52 → plan_line (codes "play " ++ card_text card) ≡ Some (Play card)
+play-said : (card : ℕ) → card < 52 → plan_line (codes "play " ++ letters_of card) ≡ Some (Play card)
 unfolding plan_line play_said
-play-said card low = ap (λ named. option_or (option_map Play named) (hear_said (codes "play " ++ card_text card))) (card_named-card_text card low).0
+play-said card low = ap (λ named. option_or (option_map Play named) (hear_said (codes "play " ++ letters_of card))) (card_named-letters_of card low).0
 
-on-said : (card : ℕ) → card < 52 → reply_line (codes "on " ++ card_text card) ≡ Some card
+on-said : (card : ℕ) → card < 52 → reply_line (codes "on " ++ letters_of card) ≡ Some card
 unfolding reply_line
-on-said card low = (card_named-card_text card low).0
+on-said card low = (card_named-letters_of card low).0
 
 hear-said : (count : ℕ) → 1 ≤ count → count ≤ 52 → plan_line (codes "hear " ++ decimal count) ≡ Some (Hear count)
 unfolding plan_line hear_said play_said
@@ -94,7 +94,7 @@ mutual
   reads_plan games.Stop levels bytes before rest fits replies cards are =
       node_read-stop levels bytes (length before) (length (before ++ stop_line)) (omega arith) (line_here plan_line bytes before (codes "stop") rest _ Stop refl stop-said refl are)
   reads_plan (games.Play card plan) levels bytes before rest fits replies cards are =
-      let said = line_here plan_line bytes before (codes "play " ++ card_text card) (plan_text plan ++ rest) _ (Play card) (card_named-card_text card cards.0).1 (play-said card cards.0) (append_assoc (play_line card) (plan_text plan) rest) are in
+      let said = line_here plan_line bytes before (codes "play " ++ letters_of card) (plan_text plan ++ rest) _ (Play card) (card_named-letters_of card cards.0).1 (play-said card cards.0) (append_assoc (play_line card) (plan_text plan) rest) are in
       let below = reads_plan plan (levels - 1) bytes (before ++ play_line card) rest (omega arith) replies cards.1 (part before (play_line card) (plan_text plan) rest bytes are) in
       node_read-play levels bytes (length before) card (length (before ++ play_line card)) plan _ (omega arith) said below ∙ ap (λ text. Ok (games.Play card plan, length text)) (append_assoc before (play_line card) (plan_text plan))
   reads_plan (games.Hear rs) levels bytes before rest fits replies cards are =
@@ -110,7 +110,7 @@ mutual
       let first = on_line card in
       let all = first ++ plan_text plan ++ replies_text later in
       let here : bytes ≡ before ++ (first ++ (plan_text plan ++ (replies_text later ++ rest))) = are ∙ ap (λ more. before ++ more) (append_assoc (first ++ plan_text plan) (replies_text later) rest ∙ append_assoc first (plan_text plan) (replies_text later ++ rest)) in
-      let said = line_here reply_line bytes before (codes "on " ++ card_text card) (plan_text plan ++ (replies_text later ++ rest)) _ card (card_named-card_text card cards.0).1 (on-said card cards.0) refl here in
+      let said = line_here reply_line bytes before (codes "on " ++ letters_of card) (plan_text plan ++ (replies_text later ++ rest)) _ card (card_named-letters_of card cards.0).1 (on-said card cards.0) refl here in
       let below = reads_plan plan levels bytes (before ++ first) (replies_text later ++ rest) (omega arith) replies.0 cards.1 (here ∙ sym (append_assoc before first (plan_text plan ++ (replies_text later ++ rest)))) in
       let after = reads_replies later levels bytes (before ++ first ++ plan_text plan) rest (omega arith) replies.1 cards.2
       (here ∙ sym (append_assoc before first (plan_text plan ++ (replies_text later ++ rest))) ∙ sym (append_assoc (before ++ first) (plan_text plan) (replies_text later ++ rest))) in
@@ -118,6 +118,6 @@ mutual
       ∙ ap (λ text. Ok (games.Reply card plan later, length text)) (ap (λ text. text ++ replies_text later) (append_assoc before first (plan_text plan)) ∙ append_assoc before (first ++ plan_text plan) (replies_text later))
 
 -- what is written behind some bytes is read back from there, whatever follows
-pub reads_back : (plan : Plan ℕ) (old rest : List ℕ) → levels_of plan ≤ 64 → HasReplies plan → HasCards plan → plan_read ((old ++ plan_text plan) ++ rest) (length old) ≡ Ok (plan, length (old ++ plan_text plan))
+pub reads_back : (plan : Plan ℕ) (old rest : List ℕ) → levels_of plan ≤ most_levels → HasReplies plan → HasCards plan → plan_read ((old ++ plan_text plan) ++ rest) (length old) ≡ Ok (plan, length (old ++ plan_text plan))
 unfolding plan_read
 reads_back plan old rest fits replies cards = reads_plan plan 64 ((old ++ plan_text plan) ++ rest) old rest fits replies cards (append_assoc old (plan_text plan) rest)

@@ -3,7 +3,7 @@ use Rattle.std.proofs.Common.{◌≡◌, ℕ, Bool, true, false, ◌&&◌, cond,
 use Rattle.std.specs.List.{list_all}
 use Rattle.std.proofs.lemmas.List.Folds.{list_all-append}
 use Rattle.card_sets.specs.SetWords.{has_card}
-use Rattle.trick_rules.specs.Table.{State}
+use Rattle.trick_rules.specs.Positions.{State}
 use Rattle.trick_rules.specs.Play.{legal_in, after, makes}
 use Rattle.strategy_games.specs.Plans.{Plan, Replies, Stop, Play, Hear, NoReply, Reply, ends, ends_each, wins}
 use Rattle.strategy_tree.specs.Bridge.{bridge}

@@ -12,6 +12,10 @@ use Rattle.strategy_tree.specs.declared.plan_reader.PlanFault.TheVariants.{Line,
 use Rattle.strategy_tree.specs.declared.plan_reader.PlanLine.{PlanLine}
 use Rattle.strategy_tree.specs.declared.plan_reader.PlanLine.TheVariants.{Stop, Play, Hear}
 
+-- the most levels of nodes of a plan that is read
+abbrev pub most_levels : ℕ
+most_levels = 64
+
 -- ---- one line
 
 -- a card by its two letters, in either case
@@ -70,4 +74,4 @@ node_read (suc levels) bytes at = do
 
 -- a plan has at most 64 levels
 unfoldable pub plan_read : List ℕ → ℕ → Result (Plan ℕ × ℕ) PlanFault
-plan_read bytes start = node_read 64 bytes start
+plan_read bytes start = node_read most_levels bytes start

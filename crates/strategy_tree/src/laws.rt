@@ -1,20 +1,24 @@
-//! The laws of strategies at bridge. A call does nothing: its contract is the law, for every node and every number of moves.
+//! The laws of strategies at bridge. A call does nothing: its contract is the law, for every node
+//! and every number of moves.
 ghost use Rattle.std.specs.Prelude.{◌≡◌, ◌≢◌, ◌⊎◌, ◌↔◌, ℕ, suc, ◌+◌, ◌<◌, ◌≤◌, ◌==◌, true, false, is_some, Some, None, List, [], ◌∷◌, ◌++◌, map, replicate, length, sum_by, Contains};
 ghost use Rattle.win_vectors.specs.Vectors.{ones_of};
 ghost use Rattle.win_vectors.specs.Fronts.{Vector, Covers, CoversAll, IsFrontOf, IsFirstAbove, IsReduced, meets};
-ghost use Rattle.trick_rules.specs.Table.{State, to_play};
+ghost use Rattle.trick_rules.specs.Positions.{State, to_play};
 ghost use Rattle.trick_rules.specs.Play.{is_declarers, is_over, decided, makes};
-ghost use Rattle.trick_rules.specs.Nodes.{Layouts, IsNode, states, stops, choices, child, child_mask};
+ghost use Rattle.trick_rules.specs.Nodes.{NodeValue, IsNode, states, stops, choices, child, child_mask};
 ghost use Rattle.strategy_games.specs.Plans.{Plan, Play, Fits, ends, wins_vector, IsFront, IsBelow, tree_size};
 ghost use Rattle.strategy_games.specs.Joins.{unions, spreads, joins, AreFronts, WinsByCard, WinsByReply};
 ghost use Rattle.strategy_games.specs.Choosing.{IsChosenPlan, IsBestCount, IsNamedCard};
 ghost use Rattle.strategy_games.specs.Misfits.{node_count, first_misfit};
 ghost use Rattle.strategy_tree.specs.Bridge.{bridge};
 ghost use Rattle.strategy_tree.specs.PlanText.{levels_of, HasReplies, HasCards};
+ghost use Rattle.strategy_tree.specs.PlanRead.{most_levels};
 
-/// A strategy ends somewhere in each layout, so that no layout is won because nothing was looked at.
+/// A strategy ends somewhere in each layout, so that no layout is won because nothing was looked
+/// at.
 pub fn strategy_ends()
-    ensures { (plan : Plan ℕ) (n : Layouts) (moves : ℕ) (s : State) → IsNode n → Fits bridge plan n moves
+    ensures { (plan : Plan ℕ) (n : NodeValue) (moves : ℕ) (s : State) → IsNode n
+        → Fits bridge plan n moves
         → Contains (states n) s → ends bridge plan s ≢ [] }
 {}
 
@@ -22,173 +26,209 @@ pub fn strategy_ends()
 
 /// Each node has a front with each number of moves, and it isn't empty.
 pub fn front_exists()
-    ensures exists { (n : Layouts) (moves : ℕ) → IsNode n → (front : List Vector) × IsFront bridge n moves front }
-    ensures filled { (n : Layouts) (moves : ℕ) (front : List Vector) → IsNode n → IsFront bridge n moves front
+    ensures exists { (n : NodeValue) (moves : ℕ) → IsNode n
+        → (front : List Vector) × IsFront bridge n moves front }
+    ensures filled { (n : NodeValue) (moves : ℕ) (front : List Vector) → IsNode n
+        → IsFront bridge n moves front
         → front ≢ [] }
 {}
 
 /// No node has two fronts with one number of moves.
 pub fn front_unique()
-    ensures { (n : Layouts) (moves : ℕ) (front other : List Vector) → IsFront bridge n moves front
+    ensures { (n : NodeValue) (moves : ℕ) (front other : List Vector) → IsFront bridge n moves front
         → IsFront bridge n moves other → front ≡ other }
 {}
 
 /// Where strategies stop, the front is the one vector of double dummy's results.
 pub fn front_at_stop()
-    ensures { (n : Layouts) (moves : ℕ) → stops n moves ≡ true
+    ensures { (n : NodeValue) (moves : ℕ) → stops n moves ≡ true
         → IsFront bridge n moves (map (λ s. makes s) (states n) ∷ []) }
 {}
 
-/// At declarer's side the front is the reduced list of the children's fronts with a move less, one after the other.
+/// At declarer's side the front is the reduced list of the children's fronts with a move less, one
+/// after the other.
 pub fn front_at_declarer()
-    ensures { (n : Layouts) (moves : ℕ) (fronts : List (List Vector)) (front : List Vector) → IsNode n
-        → is_over n.table ≡ false → is_declarers (to_play n.table) ≡ true
+    ensures { (n : NodeValue) (moves : ℕ) (fronts : List (List Vector)) (front : List Vector)
+        → IsNode n
+        → is_over n.position ≡ false → is_declarers (to_play n.position) ≡ true
         → AreFronts bridge n moves (choices n) fronts
         → IsFront bridge n (suc moves) front ↔ IsReduced (unions fronts) front }
 {}
 
-/// At a defender the front is the reduced list of all meets of one spread vector of each child's front with the same moves.
+/// At a defender the front is the reduced list of all meets of one spread vector of each child's
+/// front with the same moves.
 pub fn front_at_defender()
-    ensures { (n : Layouts) (moves : ℕ) (fronts : List (List Vector)) (front : List Vector) → IsNode n
-        → is_over n.table ≡ false → is_declarers (to_play n.table) ≡ false
+    ensures { (n : NodeValue) (moves : ℕ) (fronts : List (List Vector)) (front : List Vector)
+        → IsNode n
+        → is_over n.position ≡ false → is_declarers (to_play n.position) ≡ false
         → AreFronts bridge n (suc moves) (choices n) fronts
         → IsFront bridge n (suc moves) front
-        ↔ IsReduced (joins (length n.lefts) (map (λ card. child_mask n card) (choices n)) fronts) front }
+        ↔ IsReduced
+        (joins (length n.lefts) (map (λ card. child_mask n card) (choices n)) fronts) front }
 {}
 
-/// Each vector of the front with a move more is dominated by one with fewer, and the best count doesn't rise.
+/// Each vector of the front with a move more is dominated by one with fewer, and the best count
+/// doesn't rise.
 pub fn front_more_moves()
-    ensures vectors { (n : Layouts) (moves : ℕ) (more less : List Vector) → IsNode n
+    ensures vectors { (n : NodeValue) (moves : ℕ) (more less : List Vector) → IsNode n
         → IsFront bridge n (suc moves) more → IsFront bridge n moves less → CoversAll less more }
-    ensures counts { (n : Layouts) (moves more less : ℕ) → IsNode n
+    ensures counts { (n : NodeValue) (moves more less : ℕ) → IsNode n
         → IsBestCount bridge n (suc moves) more → IsBestCount bridge n moves less → more ≤ less }
 {}
 
 // ---- the plan that is printed, and the card that is named
 
-/// For a target that the front dominates exactly one plan is the chosen one. It is a strategy, and it wins the first
-/// vector of the front that dominates the target.
+/// For a target that the front dominates exactly one plan is the chosen one. It is a strategy, and
+/// it wins the first vector of the front that dominates the target.
 pub fn chosen_plan_wins()
-    ensures exists { (n : Layouts) (moves : ℕ) (target : Vector) (front : List Vector) → IsNode n
+    ensures exists { (n : NodeValue) (moves : ℕ) (target : Vector) (front : List Vector) → IsNode n
         → IsFront bridge n moves front → Covers front target
         → (plan : Plan ℕ) × IsChosenPlan bridge plan n moves target }
-    ensures unique { (plan other : Plan ℕ) (n : Layouts) (moves : ℕ) (target : Vector)
-        → IsChosenPlan bridge plan n moves target → IsChosenPlan bridge other n moves target → plan ≡ other }
-    ensures wins { (plan : Plan ℕ) (n : Layouts) (moves : ℕ) (target : Vector) (front : List Vector) → IsNode n
-        → IsFront bridge n moves front → Covers front target → IsChosenPlan bridge plan n moves target
+    ensures unique { (plan other : Plan ℕ) (n : NodeValue) (moves : ℕ) (target : Vector)
+        → IsChosenPlan bridge plan n moves target → IsChosenPlan bridge other n moves target
+        → plan ≡ other }
+    ensures wins { (plan : Plan ℕ) (n : NodeValue) (moves : ℕ) (target : Vector)
+        (front : List Vector) → IsNode n
+        → IsFront bridge n moves front → Covers front target
+        → IsChosenPlan bridge plan n moves target
         → Fits bridge plan n moves × IsFirstAbove front target (wins_vector bridge plan n) }
 {}
 
-/// Exactly one count is the best. No strategy wins more layouts, and the first vector of the front has as many.
+/// Exactly one count is the best. No strategy wins more layouts, and the first vector of the front
+/// has as many.
 pub fn best_count()
-    ensures exists { (n : Layouts) (moves : ℕ) → IsNode n → (best : ℕ) × IsBestCount bridge n moves best }
-    ensures unique { (n : Layouts) (moves best other : ℕ) → IsBestCount bridge n moves best
+    ensures exists { (n : NodeValue) (moves : ℕ) → IsNode n
+        → (best : ℕ) × IsBestCount bridge n moves best }
+    ensures unique { (n : NodeValue) (moves best other : ℕ) → IsBestCount bridge n moves best
         → IsBestCount bridge n moves other → best ≡ other }
-    ensures most { (n : Layouts) (moves best : ℕ) (plan : Plan ℕ) → IsBestCount bridge n moves best
+    ensures most { (n : NodeValue) (moves best : ℕ) (plan : Plan ℕ)
+        → IsBestCount bridge n moves best
         → Fits bridge plan n moves → ones_of (wins_vector bridge plan n) ≤ best }
-    ensures first { (n : Layouts) (moves : ℕ) (vector : Vector) (rest : List Vector)
+    ensures first { (n : NodeValue) (moves : ℕ) (vector : Vector) (rest : List Vector)
         → IsFront bridge n moves (vector ∷ rest) → IsBestCount bridge n moves (ones_of vector) }
 {}
 
-/// Where declarer's side is to play and play isn't over exactly one card is named, and some strategy that begins with it
-/// wins the best count. Where the result is decided it is the first of the choices.
+/// Where declarer's side is to play and play isn't over exactly one card is named, and some
+/// strategy that begins with it wins the best count. Where the result is decided it is the first of
+/// the choices.
 pub fn named_card()
-    ensures exists { (n : Layouts) (moves : ℕ) → IsNode n → is_over n.table ≡ false
-        → is_declarers (to_play n.table) ≡ true → (card : ℕ) × IsNamedCard bridge n (suc moves) card }
-    ensures unique { (n : Layouts) (moves card other : ℕ) → IsNamedCard bridge n (suc moves) card
+    ensures exists { (n : NodeValue) (moves : ℕ) → IsNode n → is_over n.position ≡ false
+        → is_declarers (to_play n.position) ≡ true
+        → (card : ℕ) × IsNamedCard bridge n (suc moves) card }
+    ensures unique { (n : NodeValue) (moves card other : ℕ) → IsNamedCard bridge n (suc moves) card
         → IsNamedCard bridge n (suc moves) other → card ≡ other }
-    ensures wins { (n : Layouts) (moves card : ℕ) → IsNode n → decided n.table ≡ None
-        → is_declarers (to_play n.table) ≡ true → IsNamedCard bridge n (suc moves) card
+    ensures wins { (n : NodeValue) (moves card : ℕ) → IsNode n → decided n.position ≡ None
+        → is_declarers (to_play n.position) ≡ true → IsNamedCard bridge n (suc moves) card
         → (rest : Plan ℕ) × (best : ℕ) × Fits bridge (Play card rest) n (suc moves)
-        × IsBestCount bridge n (suc moves) best × (ones_of (wins_vector bridge (Play card rest) n) ≡ best) }
-    ensures decided { (n : Layouts) (moves card : ℕ) (rest : List ℕ) → IsNode n → is_some (decided n.table) ≡ true
-        → is_declarers (to_play n.table) ≡ true → choices n ≡ card ∷ rest
+        × IsBestCount bridge n (suc moves) best
+        × (ones_of (wins_vector bridge (Play card rest) n) ≡ best) }
+    ensures decided { (n : NodeValue) (moves card : ℕ) (rest : List ℕ) → IsNode n
+        → is_some (decided n.position) ≡ true
+        → is_declarers (to_play n.position) ≡ true → choices n ≡ card ∷ rest
         → IsNamedCard bridge n (suc moves) card }
 {}
 
 // ---- the size of the tree
 
-/// The size of a node's tree is 1 where strategies stop, and else 1 more than the sizes of its children together.
+/// The size of a node's tree is 1 where strategies stop, and else 1 more than the sizes of its
+/// children together.
 pub fn tree_size_step()
-    ensures at_stop { (n : Layouts) (moves : ℕ) → stops n moves ≡ true → tree_size bridge n moves ≡ 1 }
-    ensures at_declarer { (n : Layouts) (moves : ℕ) → IsNode n → decided n.table ≡ None
-        → is_declarers (to_play n.table) ≡ true
-        → tree_size bridge n (suc moves) ≡ 1 + sum_by (λ card. tree_size bridge (child n card) moves) (choices n) }
-    ensures at_defender { (n : Layouts) (moves : ℕ) → IsNode n → decided n.table ≡ None
-        → is_declarers (to_play n.table) ≡ false
-        → tree_size bridge n (suc moves) ≡ 1 + sum_by (λ card. tree_size bridge (child n card) (suc moves)) (choices n) }
+    ensures at_stop { (n : NodeValue) (moves : ℕ) → stops n moves ≡ true
+        → tree_size bridge n moves ≡ 1 }
+    ensures at_declarer { (n : NodeValue) (moves : ℕ) → IsNode n → decided n.position ≡ None
+        → is_declarers (to_play n.position) ≡ true
+        → tree_size bridge n (suc moves) ≡ 1 + sum_by
+        (λ card. tree_size bridge (child n card) moves) (choices n) }
+    ensures at_defender { (n : NodeValue) (moves : ℕ) → IsNode n → decided n.position ≡ None
+        → is_declarers (to_play n.position) ≡ false
+        → tree_size bridge n (suc moves) ≡ 1 + sum_by
+        (λ card. tree_size bridge (child n card) (suc moves)) (choices n) }
 {}
 
 /// The size never falls as the moves rise.
 pub fn tree_size_monotone()
-    ensures { (n : Layouts) (moves : ℕ) → tree_size bridge n moves ≤ tree_size bridge n (suc moves) }
+    ensures { (n : NodeValue) (moves : ℕ)
+        → tree_size bridge n moves ≤ tree_size bridge n (suc moves) }
 {}
 
 /// A child's size is below its node's.
 pub fn tree_size_child()
-    ensures at_declarer { (n : Layouts) (moves card : ℕ) → IsNode n → decided n.table ≡ None
-        → is_declarers (to_play n.table) ≡ true → Contains (choices n) card
+    ensures at_declarer { (n : NodeValue) (moves card : ℕ) → IsNode n → decided n.position ≡ None
+        → is_declarers (to_play n.position) ≡ true → Contains (choices n) card
         → tree_size bridge (child n card) moves < tree_size bridge n (suc moves) }
-    ensures at_defender { (n : Layouts) (moves card : ℕ) → IsNode n → decided n.table ≡ None
-        → is_declarers (to_play n.table) ≡ false → Contains (choices n) card
+    ensures at_defender { (n : NodeValue) (moves card : ℕ) → IsNode n → decided n.position ≡ None
+        → is_declarers (to_play n.position) ≡ false → Contains (choices n) card
         → tree_size bridge (child n card) (suc moves) < tree_size bridge n (suc moves) }
 {}
 
 // ---- where a search may stop early
 
-/// A list covers what every strategy wins where it covers the front, where it covers such a list, and where it covers the
-/// front with a move less. An empty list never does.
+/// A list covers what every strategy wins where it covers the front, where it covers such a list,
+/// and where it covers the front with a move less. An empty list never does.
 pub fn cuts()
-    ensures covered { (n : Layouts) (moves : ℕ) (front alpha : List Vector) → IsFront bridge n moves front
+    ensures covered { (n : NodeValue) (moves : ℕ) (front alpha : List Vector)
+        → IsFront bridge n moves front
         → CoversAll alpha front → IsBelow bridge n moves alpha }
-    ensures wider { (n : Layouts) (moves : ℕ) (alpha beta : List Vector) → IsBelow bridge n moves alpha
+    ensures wider { (n : NodeValue) (moves : ℕ) (alpha beta : List Vector)
+        → IsBelow bridge n moves alpha
         → CoversAll beta alpha → IsBelow bridge n moves beta }
-    ensures deeper { (n : Layouts) (moves : ℕ) (less alpha : List Vector) → IsNode n
+    ensures deeper { (n : NodeValue) (moves : ℕ) (less alpha : List Vector) → IsNode n
         → IsFront bridge n moves less → CoversAll alpha less → IsBelow bridge n (suc moves) alpha }
-    ensures never { (n : Layouts) (moves : ℕ) → IsNode n → IsBelow bridge n moves [] → ⊥ }
+    ensures never { (n : NodeValue) (moves : ℕ) → IsNode n → IsBelow bridge n moves [] → ⊥ }
 {}
 
-/// At declarer's side a list covers what every strategy wins where it does so at each child. At a defender it is enough
-/// that it covers the front over the first of the cards, whose vectors have 1 at each layout that is not joined yet.
+/// At declarer's side a list covers what every strategy wins where it does so at each child. At a
+/// defender it is enough that it covers the front over the first of the cards, whose vectors have 1
+/// at each layout that is not joined yet.
 pub fn early_cut()
-    ensures at_declarer { (n : Layouts) (moves : ℕ) (alpha : List Vector) → IsNode n → decided n.table ≡ None
-        → is_declarers (to_play n.table) ≡ true
+    ensures at_declarer { (n : NodeValue) (moves : ℕ) (alpha : List Vector) → IsNode n
+        → decided n.position ≡ None
+        → is_declarers (to_play n.position) ≡ true
         → ((card : ℕ) → Contains (choices n) card → IsBelow bridge (child n card) moves alpha)
         → IsBelow bridge n (suc moves) alpha }
-    ensures at_defender { (n : Layouts) (moves : ℕ) (cards later : List ℕ) (front alpha : List Vector) → IsNode n
-        → decided n.table ≡ None → is_declarers (to_play n.table) ≡ false → choices n ≡ cards ++ later
+    ensures at_defender { (n : NodeValue) (moves : ℕ) (cards later : List ℕ)
+        (front alpha : List Vector) → IsNode n
+        → decided n.position ≡ None → is_declarers (to_play n.position) ≡ false
+        → choices n ≡ cards ++ later
         → IsFrontOf (WinsByReply bridge n (suc moves) cards) front → CoversAll alpha front
         → IsBelow bridge n (suc moves) alpha }
 {}
 
-/// Some cards of declarer's side are enough for the front where what they win covers the front with a move less, and
-/// for the best count where one of their vectors has the best count with a move less.
+/// Some cards of declarer's side are enough for the front where what they win covers the front with
+/// a move less, and for the best count where one of their vectors has the best count with a move
+/// less.
 pub fn root_stop()
-    ensures same_front { (n : Layouts) (moves : ℕ) (cards : List ℕ) (front less : List Vector) → IsNode n
-        → is_over n.table ≡ false → is_declarers (to_play n.table) ≡ true
+    ensures same_front { (n : NodeValue) (moves : ℕ) (cards : List ℕ) (front less : List Vector)
+        → IsNode n
+        → is_over n.position ≡ false → is_declarers (to_play n.position) ≡ true
         → ((card : ℕ) → Contains cards card → Contains (choices n) card)
-        → IsFrontOf (WinsByCard bridge n moves cards) front → IsFront bridge n moves less → CoversAll front less
+        → IsFrontOf (WinsByCard bridge n moves cards) front → IsFront bridge n moves less
+        → CoversAll front less
         → IsFront bridge n (suc moves) front }
-    ensures same_count { (n : Layouts) (moves best : ℕ) (cards : List ℕ) (vector : Vector) → IsNode n
-        → is_over n.table ≡ false → is_declarers (to_play n.table) ≡ true
+    ensures same_count { (n : NodeValue) (moves best : ℕ) (cards : List ℕ) (vector : Vector)
+        → IsNode n
+        → is_over n.position ≡ false → is_declarers (to_play n.position) ≡ true
         → ((card : ℕ) → Contains cards card → Contains (choices n) card)
-        → WinsByCard bridge n moves cards vector → ones_of vector ≡ best → IsBestCount bridge n moves best
+        → WinsByCard bridge n moves cards vector → ones_of vector ≡ best
+        → IsBestCount bridge n moves best
         → IsBestCount bridge n (suc moves) best }
 {}
 
 // ---- plans at fault
 
-/// No node of a plan is at fault exactly where the plan is a strategy, and a node at fault is one of its nodes.
+/// No node of a plan is at fault exactly where the plan is a strategy, and a node at fault is one
+/// of its nodes.
 pub fn first_misfit()
-    ensures none { (plan : Plan ℕ) (n : Layouts) (moves : ℕ)
+    ensures none { (plan : Plan ℕ) (n : NodeValue) (moves : ℕ)
         → Fits bridge plan n moves ↔ (first_misfit bridge ◌==◌ plan n moves ≡ None) }
-    ensures within { (plan : Plan ℕ) (n : Layouts) (moves node : ℕ)
-        → first_misfit bridge ◌==◌ plan n moves ≡ Some node → (1 ≤ node) × (node ≤ node_count plan) }
+    ensures within { (plan : Plan ℕ) (n : NodeValue) (moves node : ℕ)
+        → first_misfit bridge ◌==◌ plan n moves ≡ Some node
+        → (1 ≤ node) × (node ≤ node_count plan) }
 {}
 
-/// A strategy has at most 64 levels, each of its defender's nodes has 1 to 52 replies, and its cards are of the pack: so what
-/// is written of it is read back.
+/// A strategy has at most 64 levels, each of its defender's nodes has 1 to 52 replies, and its
+/// cards are of the pack: so what is written of it is read back.
 pub fn strategy_reads_back()
-    ensures { (plan : Plan ℕ) (n : Layouts) (moves : ℕ) → IsNode n → Fits bridge plan n moves
-        → (levels_of plan ≤ 64) × HasReplies plan × HasCards plan }
+    ensures { (plan : Plan ℕ) (n : NodeValue) (moves : ℕ) → IsNode n → Fits bridge plan n moves
+        → (levels_of plan ≤ most_levels) × HasReplies plan × HasCards plan }
 {}

@@ -3,7 +3,7 @@ ghost use Rattle.std.specs.Prelude.{◌≡◌, ◌≤◌, ◌<◌, ◌⊎◌, �
 ghost use Rattle.strategy_tree.specs.PlanMeaning.{plan_of, replies_of};
 ghost use Rattle.strategy_tree.specs.PlanText.{plan_text, levels_of, HasReplies};
 ghost use Rattle.byte_text.specs.Lines.{said_at};
-ghost use Rattle.strategy_tree.specs.PlanRead.{card_named, play_said, hear_said, plan_line, reply_line, node_read, replies_read, plan_read};
+ghost use Rattle.strategy_tree.specs.PlanRead.{card_named, play_said, hear_said, plan_line, reply_line, node_read, replies_read, plan_read, most_levels};
 
 use crate::plan::{Plan, Reply};
 use byte_text::{Text, line_at, read_number, text_after};
@@ -61,8 +61,8 @@ pub fn read_plan(alloc: Global, bytes: &[u8], start: usize) -> Result<(Plan, usi
     read_node(alloc, bytes, start, MAX_LEVELS)
 }
 
-/// Law: what is written of a plan of at most 64 levels, each defender's node of which has 1 to 52 replies, is read back,
-/// whatever follows, and ends where the text ended.
+/// Law: what is written of a plan of at most 64 levels, each defender's node of which has 1 to 52
+/// replies, is read back, whatever follows, and ends where the text ended.
 ///
 /// Appends the lines of the plan to a text, and reads them from the text's old end.
 pub fn plan_text_reads_back(
@@ -72,13 +72,15 @@ pub fn plan_text_reads_back(
 ) -> Result<(Plan, usize), PlanFault>
     ensures appended { (out.new ≡ out.old ++ plan_text (plan_of plan.now))
         ⊎ ((out.new ≡ out.old) × (result ≡ Err PlanFault.Memory)) }
-    ensures same_plan { levels_of (plan_of plan.now) ≤ 64 → HasReplies (plan_of plan.now)
+    ensures same_plan { levels_of (plan_of plan.now) ≤ most_levels → HasReplies (plan_of plan.now)
         → IfOk result (λ read. (plan_of read.0 ≡ plan_of plan.now) × (read.1 ≡ length out.new)) }
-    ensures memory { levels_of (plan_of plan.now) ≤ 64 → HasReplies (plan_of plan.now)
+    ensures memory { levels_of (plan_of plan.now) ≤ most_levels → HasReplies (plan_of plan.now)
         → IfErr result (λ fault. fault ≡ PlanFault.Memory) }
-    ensures whatever_follows { levels_of (plan_of plan.now) ≤ 64 → HasReplies (plan_of plan.now)
+    ensures whatever_follows { levels_of (plan_of plan.now) ≤ most_levels
+        → HasReplies (plan_of plan.now)
         → (rest : List ℕ) → IfOk result
-        (λ _. plan_read (out.new ++ rest) (length out.old) ≡ Ok (plan_of plan.now, length out.new)) }
+        (λ _. plan_read (out.new ++ rest) (length out.old)
+        ≡ Ok (plan_of plan.now, length out.new)) }
 {
     let start = out.bytes().len();
     plan.lines(alloc, out)?;
@@ -89,7 +91,8 @@ pub fn plan_text_reads_back(
 #[cycle(read)]
 fn read_node(alloc: Global, bytes: &[u8], at: usize, levels: u8) -> Result<(Plan, usize), PlanFault>
     requires { at ≤ length bytes.now }
-    ensures read { IfOk result (λ read. node_read levels bytes.now at ≡ Ok (plan_of read.0, read.1)) }
+    ensures read { IfOk result
+        (λ read. node_read levels bytes.now at ≡ Ok (plan_of read.0, read.1)) }
     ensures within { IfOk result (λ read. read.1 ≤ length bytes.now) }
     ensures fault { IfErr result
         (λ fault. (fault ≡ PlanFault.Memory) ⊎ (node_read levels bytes.now at ≡ Err fault)) }
@@ -125,10 +128,12 @@ fn read_replies(
 ) -> Result<(Vec<Reply>, usize), PlanFault>
     requires { start ≤ length bytes.now }
     ensures read { IfOk result
-        (λ read. replies_read (λ at. node_read levels bytes.now at) count bytes.now start ≡ Ok (replies_of read.0.items, read.1)) }
+        (λ read. replies_read (λ at. node_read levels bytes.now at) count bytes.now start
+        ≡ Ok (replies_of read.0.items, read.1)) }
     ensures within { IfOk result (λ read. read.1 ≤ length bytes.now) }
     ensures fault { IfErr result
-        (λ fault. (fault ≡ PlanFault.Memory) ⊎ (replies_read (λ at. node_read levels bytes.now at) count bytes.now start ≡ Err fault)) }
+        (λ fault. (fault ≡ PlanFault.Memory)
+        ⊎ (replies_read (λ at. node_read levels bytes.now at) count bytes.now start ≡ Err fault)) }
 {
     let mut replies = Vec::new(alloc);
     let mut at = start;

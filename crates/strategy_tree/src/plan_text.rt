@@ -1,20 +1,20 @@
 //! A plan in text: its lines, as reports print them.
 ghost use Rattle.std.specs.Prelude.{◌≡◌, ◌<◌, ◌++◌, OnOk, OnErr};
-ghost use Rattle.card_letters.specs.Letters.{card_text};
+ghost use Rattle.card_letters.specs.Letters.{letters_of};
 ghost use Rattle.strategy_tree.specs.PlanMeaning.{plan_of, replies_of};
 ghost use Rattle.byte_text.specs.Lines.{line_of};
 ghost use Rattle.strategy_tree.specs.PlanText.{hear_line, plan_text, replies_text, HasCards, HaveCards};
 
 use crate::plan::{Plan, Reply};
 use byte_text::Text;
-use card_letters::card_text;
+use card_letters::letters_of;
 use card_sets::Card;
 use std::alloc::{AllocError, Global};
 
 impl Plan {
-    /// Appends the lines of the plan, each node before those below it: `stop`, `play` with a card, or `hear` with the
-    /// number of replies, and then for each reply `on` with the defender's card and the lines of its plan.
-    /// Where memory is refused, the text is unchanged.
+    /// Appends the lines of the plan, each node before those below it: `stop`, `play` with a card,
+    /// or `hear` with the number of replies, and then for each reply `on` with the defender's card
+    /// and the lines of its plan. Where memory is refused, the text is unchanged.
     pub fn lines(&self, alloc: Global, out: &mut Text) -> Result<(), AllocError>
         ensures appended { OnOk result (out.new ≡ out.old ++ plan_text (plan_of self.now)) }
         ensures cards { OnOk result (HasCards (plan_of self.now)) }
@@ -60,12 +60,12 @@ fn write_replies(replies: &[Reply], alloc: Global, out: &mut Text) -> Result<(),
 
 // Appends a line with a word and a card.
 fn write_card(word: &[u8], card: Card, out: &mut Text) -> Result<(), AllocError>
-    ensures appended { OnOk result (out.new ≡ out.old ++ line_of (word.now ++ card_text card)) }
+    ensures appended { OnOk result (out.new ≡ out.old ++ line_of (word.now ++ letters_of card)) }
     ensures one_of_52 { card < 52 }
 {
     let _number = card.number();
     out.push(word)?;
-    out.push(&card_text(card))?;
+    out.push(&letters_of(card))?;
     out.push(b"\n")
 }
 

@@ -1,14 +1,14 @@
 //! Games as boards: the boards of small files, and the first fault of damaged ones.
 use crate::endings::{ENDING, HIDDEN, SHOWN, SLAM, TWO_SUITS, board_or_refusal, ending};
 use byte_text::Text;
-use card_letters::{card_text, compass_letter, suit_letter};
+use card_letters::{compass_letter, letters_of, suit_letter};
 use pbn_deal::{Board, BoardRefusal, hand_text};
 use std::alloc::Global;
 use std::test::Fail;
 use trick_rules::Trump;
 
-// A board in one line: declarer, trumps, the need, the first leader, declarer's hand, dummy's hand, the unseen cards,
-// the plays and the seat to play.
+// A board in one line: declarer, trumps, the need, the first leader, declarer's hand, dummy's hand,
+// the unseen cards, the plays and the seat to play.
 fn board_line(alloc: Global, board: &Board) -> Result<Text, Fail> {
     let mut text = Text::new(alloc);
     let need = board.need();
@@ -33,7 +33,7 @@ fn board_line(alloc: Global, board: &Board) -> Result<Text, Fail> {
     text.push(b" |")?;
     for play in board.plays() {
         text.push(&[b' ', compass_letter(board.compass(play.seat))])?;
-        text.push(card_text(play.card).as_slice())?;
+        text.push(letters_of(play.card).as_slice())?;
     }
     match board.turn() {
         Some(seat) => text.push(&[b' ', b'|', b' ', compass_letter(board.compass(seat))])?,

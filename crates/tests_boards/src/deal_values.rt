@@ -1,4 +1,5 @@
-//! Values of the Deal form: read clockwise and written from North, and the first fault of damaged ones.
+//! Values of the Deal form: read clockwise and written from North, and the first fault of damaged
+//! ones.
 use pbn_deal::{deal_text, hand_text, read_deal};
 use std::alloc::Global;
 use std::test::Fail;

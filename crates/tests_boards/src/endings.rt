@@ -6,7 +6,8 @@ use pbn_text::games;
 use std::alloc::Global;
 use std::test::Fail;
 
-// Two tricks in spades and no-trump, of which one is needed, with North, dummy, to lead; and two layouts of them.
+// Two tricks in spades and no-trump, of which one is needed, with North, dummy, to lead; and two
+// layouts of them.
 pub(crate) const ENDING: &str =
     "[Deal \"N:32... - KJ... -\"]\n[Declarer \"S\"]\n[Contract \"1NT\"]\n[EndNeed \"1\"]\n[EndLead \"N\"]\n";
 
@@ -24,15 +25,16 @@ pub(crate) const TWO_SUITS_SHOWN: &str = "N:2.A.. 5...5 3.3.. 6.5..";
 
 pub(crate) const TWO_SUITS_LAYOUTS: &str = "N:2.A.. 5...5 3.3.. 6.5..\nN:2.A.. .5..5 3.3.. 65...\n";
 
-// Seven tricks of a slam, as a club records it, and fourteen layouts of it, of which the play rules out two.
+// Seven tricks of a slam, as a club records it, and fourteen layouts of it, of which the play rules
+// out two.
 pub(crate) const SLAM: &str =
     "% PBN 2.1\n[Event \"Club evening\"]\n[Date \"2019.11.18\"]\n[Board \"1\"]\n[Dealer \"N\"]\n[Vulnerable \"None\"]\n[Deal \"N:32.AKQJ.JT98.432 K98764.5.A76.T76 AQ.T987.KQ5.AKQ5 JT5.6432.432.J98\"]\n[Declarer \"S\"]\n[Contract \"6NT\"]\n[Result \"?\"]\n{ Seven tricks have been played. }\n[Auction \"N\"]\n1D Pass 2C Pass\n2D =1= Pass 6NT Pass\nPass Pass\n[Note \"1:natural\"]\n[Play \"W\"]\nCJ C2 C6 CA\nD2 D8 DA DK\nC8 C3 C7 CK ; East led\nC9 C4 CT CQ\nD3 D9 S4 C5\nD4 DT D6 DQ\nH2 DJ D7 D5\n*\n";
 
 pub(crate) const SLAM_LAYOUTS: &str =
     "N:32.AKQJ.JT98.432 T98764.5.A76.T76 AQ.T987.KQ5.AKQ5 KJ5.6432.432.J98\nN:32.AKQJ.JT98.432 K98764.5.A76.T76 AQ.T987.KQ5.AKQ5 JT5.6432.432.J98\nN:32.AKQJ.JT98.432 JT87654..A76.T76 AQ.T987.KQ5.AKQ5 K9.65432.432.J98\nN:32.AKQJ.JT98.432 KJT7654..A76.T76 AQ.T987.KQ5.AKQ5 98.65432.432.J98\nN:32.AKQJ.JT98.432 J9854.64.A76.T76 AQ.T987.KQ5.AKQ5 KT76.532.432.J98\nN:32.AKQJ.JT98.432 KJ854.64.A76.T76 AQ.T987.KQ5.AKQ5 T976.532.432.J98\nN:32.AKQJ.JT98.432 KT9654.6.A76.T76 AQ.T987.KQ5.AKQ5 J87.5432.432.J98\nN:32.AKQJ.JT98.432 7654.543.A76.T76 AQ.T987.KQ5.AKQ5 KJT98.62.432.J98\nN:32.AKQJ.JT98.432 KJT4.653.A76.T76 AQ.T987.KQ5.AKQ5 98765.42.432.J98\nN:32.AKQJ.JT98.432 654.6543.A76.T76 AQ.T987.KQ5.AKQ5 KJT987.2.432.J98\nN:32.AKQJ.JT98.432 KJ4.6543.A76.T76 AQ.T987.KQ5.AKQ5 T98765.2.432.J98\nN:32.AKQJ.JT98.432 K9874.54.A76.T76 AQ.T987.KQ5.AKQ5 JT65.632.432.J98\nN:32.AKQJ.JT98.432 K987654.5.A6.T76 AQ.T987.KQ5.AKQ5 JT.6432.7432.J98\nN:32.AKQJ.JT98.432 T98764.5.A76.J76 AQ.T987.KQ5.AKQ5 KJ5.6432.432.T98\n";
 
-// A deal file with one trick needed by South and North to lead: the deal, the contract, and the rows of the play section,
-// which is left out where there are none.
+// A deal file with one trick needed by South and North to lead: the deal, the contract, and the
+// rows of the play section, which is left out where there are none.
 pub(crate) fn ending(
     alloc: Global,
     deal: &str,

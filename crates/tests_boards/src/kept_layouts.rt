@@ -4,14 +4,14 @@ use crate::endings::{
     board_of, ending,
 };
 use byte_text::Text;
-use card_letters::{card_text, compass_letter};
+use card_letters::{compass_letter, letters_of};
 use layout_list::{Kept, LayoutFault, layouts};
 use pbn_deal::{Board, hand_text};
 use std::alloc::Global;
 use std::test::Fail;
 
-// What is kept in one line: the numbers, the dropped layouts, the need, the present trick's leader and cards, the hands
-// of declarer and dummy, and Left's hands.
+// What is kept in one line: the numbers, the dropped layouts, the need, the present trick's leader
+// and cards, the hands of declarer and dummy, and Left's hands.
 fn kept_line(alloc: Global, board: &Board, kept: &Kept) -> Result<Text, Fail> {
     let mut text = Text::new(alloc);
     for number in &kept.numbers {
@@ -30,7 +30,7 @@ fn kept_line(alloc: Global, board: &Board, kept: &Kept) -> Result<Text, Fail> {
     text.push(&[compass_letter(board.compass(position.trick.leader))])?;
     for card in position.trick.cards.as_slice() {
         text.push(b" ")?;
-        text.push(card_text(*card).as_slice())?;
+        text.push(letters_of(*card).as_slice())?;
     }
     for hand in [position.declarer, position.dummy] {
         text.push(b" | ")?;

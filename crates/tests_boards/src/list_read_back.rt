@@ -1,4 +1,5 @@
-//! A list of all layouts is a layout file: it is read back as the same layouts, and none is dropped.
+//! A list of all layouts is a layout file: it is read back as the same layouts, and none is
+//! dropped.
 use crate::endings::{SHOWN, TWO_SUITS_SHOWN, board_of, ending};
 use am_report::list_text;
 use layout_list::{layouts, read_lines};

@@ -10,7 +10,7 @@ use am_report::{
 };
 use card_sets::{Card, Rank, Suit};
 use fusion_base::CardVector;
-use layout_list::{Defenders, read_lines};
+use layout_list::{Layout, read_lines};
 use pbn_deal::Board;
 use std::alloc::Global;
 use std::test::Fail;
@@ -40,7 +40,7 @@ const SLAM_HEAD: &str =
     "alphamu report 1\ndeclarer S\ntrump NT\nneed 6\nhand S AQ.T987..\nhand N 32.AKQJ..\ntrick N -\nturn N\nmoves 3\nkept 1 2 3 4 5 6 7 8 9 10 11 12\ndropped 13 revoke 26\ndropped 14 notheld 1\n";
 
 // The layouts of a layout file.
-fn layouts_of(alloc: Global, board: &Board, list: &[u8]) -> Result<Vec<Defenders>, Fail> {
+fn layouts_of(alloc: Global, board: &Board, list: &[u8]) -> Result<Vec<Layout>, Fail> {
     if list.len() > 10_000 {
         return Err("the layouts are too long".into());
     }

@@ -1,8 +1,8 @@
 //! Reports of a worked ending read back, and texts that are refused.
 
-use byte_text::Text;
 use am_report::{Entry, ReadReport, ReportFault, ReportKind, read_report};
-use card_letters::card_text;
+use byte_text::Text;
+use card_letters::letters_of;
 use std::alloc::{AllocError, Global};
 use std::test::Fail;
 use win_vectors::WinVector;
@@ -11,7 +11,8 @@ use win_vectors::WinVector;
 const HEAD: &str =
     "alphamu report 1\ndeclarer S\ntrump NT\nneed 1\nhand S KJ...\nhand N 32...\ntrick N -\nturn N\nmoves 2\nkept 1 2\n";
 
-// Its front: the seven goes to the jack or to the king, which of them is the one difference of two plans.
+// Its front: the seven goes to the jack or to the king, which of them is the one difference of two
+// plans.
 const FRONT: &str =
     "front 2\nvector 10 count 1\nplay S2\nhear 3\non S7\nplay SK\nstop\non SQ\nplay SK\nstop\non SA\nplay SJ\nstop\nvector 01 count 1\nplay S2\nhear 3\non S7\nplay SJ\nstop\non SQ\nplay SK\nstop\non SA\nplay SJ\nstop\ncard S2 count 1\nend\n";
 
@@ -108,7 +109,8 @@ fn read_pieces(alloc: Global, first: &[u8], second: &[u8]) -> Result<ReadReport,
     read_report(alloc, text.bytes())
 }
 
-// Whether the vector has a one in the first or in the second of two layouts alone, and the plan these lines.
+// Whether the vector has a one in the first or in the second of two layouts alone, and the plan
+// these lines.
 fn is_entry(alloc: Global, entry: &Entry, first: bool, lines: &str) -> Result<bool, AllocError> {
     let mut text = Text::new(alloc);
     entry.plan.lines(alloc, &mut text)?;
@@ -122,7 +124,7 @@ fn a_report_is_read_with_its_plans(rt: HostRuntime) -> Result<(), Fail> {
     let report = read_pieces(alloc, HEAD.as_bytes(), FRONT.as_bytes())?;
     assert_eq!(rt; report.head.bytes(), HEAD.as_bytes());
     assert_eq!(rt; report.moves, 2);
-    assert_eq!(rt; card_text(report.card).as_slice(), b"S2".as_slice());
+    assert_eq!(rt; letters_of(report.card).as_slice(), b"S2".as_slice());
     assert_eq!(rt; report.count, 1);
     let [first, second] = report.entries.as_slice() else {
         return Err("there are two vectors".into());
@@ -138,7 +140,7 @@ fn a_report_after_two_cards_is_read(rt: HostRuntime) -> Result<(), Fail> {
     let report = read_pieces(alloc, TRICK_HEAD.as_bytes(), TRICK_FRONT.as_bytes())?;
     assert_eq!(rt; report.head.bytes(), TRICK_HEAD.as_bytes());
     assert_eq!(rt; report.moves, 1);
-    assert_eq!(rt; card_text(report.card).as_slice(), b"SJ".as_slice());
+    assert_eq!(rt; letters_of(report.card).as_slice(), b"SJ".as_slice());
     assert_eq!(rt; report.entries.len(), 2);
     Ok(())
 }

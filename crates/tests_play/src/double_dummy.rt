@@ -1,4 +1,5 @@
-//! Endings whose answers were worked out apart from the program, and random endings on which the two solvers agree.
+//! Endings whose answers were worked out apart from the program, and random endings on which the
+//! two solvers agree.
 use crate::given::{GUESS, node_of};
 use card_sets::{CardSet, Seat, Suit};
 use dd_solver::{Solver, makes_plain};
@@ -6,8 +7,8 @@ use std::alloc::AllocError;
 use std::process::Abort;
 use trick_rules::{Node, Position, Trump};
 
-/// Endings whose need is the tricks that declarer's side takes: by another program, which agrees with Bo Haglund's double
-/// dummy solver.
+/// Endings whose need is the tricks that declarer's side takes: by another program, which agrees
+/// with Bo Haglund's double dummy solver.
 const ENDINGS: [&'static str; 12] = [
     "SKH6CQ/H5HAC6/STD3CJSJD8DT/3/1/S/STD3CJ",
     "S6HKHA/S5H6D3/HQDKCAS8C6C7/2/2/N/HQDKCA",
@@ -62,8 +63,8 @@ fn just_the_tricks_of_each_ending(rt: HostRuntime) -> Result<(), AllocError> {
     Ok(())
 }
 
-/// With the ace and the queen on either side one trick is made: the king goes on low cards, and the jack where Right plays
-/// the queen or Left has to play the ace.
+/// With the ace and the queen on either side one trick is made: the king goes on low cards, and the
+/// jack where Right plays the queen or Left has to play the ace.
 #[test]
 fn one_trick_in_both_layouts(rt: HostRuntime) -> Result<(), AllocError> {
     let mut solver = Solver::new(rt.alloc());
@@ -126,7 +127,8 @@ impl Draws {
     }
 }
 
-/// Whether the solver answers what plain minimax does on an ending of 2 to 4 tricks, and what that is.
+/// Whether the solver answers what plain minimax does on an ending of 2 to 4 tricks, and what that
+/// is.
 fn agreed(rt: &impl Abort, solver: &mut Solver, draws: &mut Draws) -> bool {
     let tricks = draws.below(3).saturating_add(2);
     let mut rest = CardSet::pack();

@@ -1,8 +1,8 @@
 //! Endings of two and three tricks, with their fronts.
 //!
-//! A line has, between strokes: declarer's hand, dummy's and the cards of the two defenders; the seat to lead, clockwise
-//! from declarer, who is 0; the need; trumps, or `N`; Left's hand in each layout before the trick; the cards played to the
-//! trick since; the moves; and the front.
+//! A line has, between strokes: declarer's hand, dummy's and the cards of the two defenders; the
+//! seat to lead, clockwise from declarer, who is 0; the need; trumps, or `N`; Left's hand in each
+//! layout before the trick; the cards played to the trick since; the moves; and the front.
 
 /// Endings worked by hand.
 pub const WORKED: [&'static str; 7] = [
@@ -22,7 +22,8 @@ pub const WORKED: [&'static str; 7] = [
     "S2/SA/S3H2/2/1/H/H2 S3//1/00",
 ];
 
-/// Endings whose fronts were found by an enumeration of all strategies, each judged against every defence.
+/// Endings whose fronts were found by an enumeration of all strategies, each judged against every
+/// defence.
 pub const ENUMERATED: [&'static str; 64] = [
     "STCT/SKCK/SJSAHKCJ/0/1/S/SACJ SJCJ SJSA SJCJ HKCJ SJCJ//1/010101 100000",
     "SQH6/HJDJ/SAH4HKD6/0/1/N/SAH4 SAH4 H4D6 H4HK H4D6 SAH4 SAHK H4D6//1/11000100 00010000",

@@ -7,7 +7,8 @@ use std::process::Abort;
 use trick_rules::{Node, Position, Trump};
 use win_vectors::WinVector;
 
-/// Declarer holds SK SJ, and dummy is to lead S3 or S2 with no trumps. One trick is needed. Left has SQ S5 or SA S5.
+/// Declarer holds SK SJ, and dummy is to lead S3 or S2 with no trumps. One trick is needed. Left
+/// has SQ S5 or SA S5.
 pub const GUESS: &'static str = "SJSK/S2S3/S5S7SQSA/2/1/N/S5SQ S5SA";
 
 /// The card of two letters, its suit's and its rank's.
@@ -55,7 +56,8 @@ pub fn number(rt: &impl Abort, text: &str) -> u8 {
     text.parse::<u8>().ok().expect(rt, "a number below 256")
 }
 
-/// The position of an ending: declarer's hand, dummy's, the cards of the two defenders, the seat to lead, the need and trumps.
+/// The position of an ending: declarer's hand, dummy's, the cards of the two defenders, the seat to
+/// lead, the need and trumps.
 pub fn position_of(rt: &impl Abort, parts: &[&str]) -> Position {
     match parts {
         [declarer, dummy, defenders, leader, need, trumps, ..] => Position::between_tricks(
@@ -71,7 +73,8 @@ pub fn position_of(rt: &impl Abort, parts: &[&str]) -> Position {
     }
 }
 
-/// The node of an ending: its position's six parts, and then Left's hand in each layout, all divided by strokes.
+/// The node of an ending: its position's six parts, and then Left's hand in each layout, all
+/// divided by strokes.
 pub fn node_of(rt: &impl Abort, alloc: Global, text: &str) -> Result<Node, AllocError> {
     let parts = text.split('/').collect::<Vec<&str>>(alloc)?;
     assert!(rt; parts.len() >= 7);

@@ -6,7 +6,8 @@ use std::alloc::Global;
 use std::process::Abort;
 use std::test::Fail;
 
-/// The ten nodes after either card of dummy are just enough. The two is named, as the first in card order.
+/// The ten nodes after either card of dummy are just enough. The two is named, as the first in card
+/// order.
 fn assert_root(
     rt: &impl Abort,
     alloc: Global,

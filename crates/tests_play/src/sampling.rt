@@ -1,4 +1,5 @@
-//! Plain sampling at two small endings. The first was worked out by hand, and the other by another program.
+//! Plain sampling at two small endings. The first was worked out by hand, and the other by another
+//! program.
 use crate::given::{GUESS, card, node_of, vector};
 use fusion_base::per_card;
 use std::alloc::Global;

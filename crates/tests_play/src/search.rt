@@ -1,4 +1,5 @@
-//! A small ending, searched over three kinds of store. Its front and the number of its nodes were worked out by hand.
+//! A small ending, searched over three kinds of store. Its front and the number of its nodes were
+//! worked out by hand.
 ghost use Rattle.std.specs.Prelude.{IfOk};
 ghost use Rattle.front_table.specs.Proven.{IsFrontAt};
 

@@ -53,7 +53,8 @@ impl FrontStore for OneEntry {
 
     ghost grown_none = { λ _ _. refl };
 
-    ghost grown_more = { λ early middle late h k some. k (subst (λ entry. IsSome entry) (sym (h some)) some) ∙ h some };
+    ghost grown_more = { λ early middle late h k some. k
+        (subst (λ entry. IsSome entry) (sym (h some)) some) ∙ h some };
 
     fn look(&mut self, node: &Node, moves: u8, out: &mut Front) -> Look {
         let Some(entry) = &self.entry else {
@@ -85,7 +86,8 @@ fn same_trick(one: &Trick, other: &Trick) -> bool
 
 /// Whether the three hands that all know are the same.
 fn same_hands(one: &Position, other: &Position) -> bool
-    ensures { IsTrue result → (one.now.declarer ≡ other.now.declarer) × (one.now.dummy ≡ other.now.dummy)
+    ensures { IsTrue result → (one.now.declarer ≡ other.now.declarer)
+        × (one.now.dummy ≡ other.now.dummy)
         × (one.now.unseen ≡ other.now.unseen) }
 {
     one.declarer == other.declarer && one.dummy == other.dummy && one.unseen == other.unseen

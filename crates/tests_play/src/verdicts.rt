@@ -1,4 +1,5 @@
-//! Plans of an ending, judged. Which of them win what was worked out by the laws of bridge, apart from the program.
+//! Plans of an ending, judged. Which of them win what was worked out by the laws of bridge, apart
+//! from the program.
 use crate::given::{GUESS, node_of};
 use std::alloc::Global;
 use std::process::Abort;

@@ -7,7 +7,8 @@ use std::test::Fail;
 mod files;
 mod hostile;
 
-// The games as text: a line for each tag pair with its line, name and value, and a line for each token under it.
+// The games as text: a line for each tag pair with its line, name and value, and a line for each
+// token under it.
 fn listed(alloc: Global, all: &[Game]) -> Result<Text, Fail> {
     let mut out = Text::new(alloc);
     for game in all {

@@ -5,11 +5,11 @@ use Rattle.std.proofs.lemmas.List.Elements.{All-nil}
 use Rattle.card_sets.specs.declared.seat.Seat.{Seat}
 use Rattle.card_sets.specs.declared.seat.Seat.TheVariants.{Declarer, Left, Dummy, Right}
 use Rattle.trick_rules.specs.declared.trump.Trump.{Trump}
-use Rattle.trick_rules.specs.Table.{IsSound, HandsFit, table_between_tricks}
+use Rattle.trick_rules.specs.Positions.{IsSound, HandsFit, position_between_tricks}
 use Rattle.trick_rules.proofs.Turns.{count_in-none}
 
 pub between_tricks_sound : (declarer dummy unseen : List ℕ) (leader : Seat) (need : ℕ) (trump : Trump) → HandsFit declarer dummy unseen → need ≤ 13
-    → IsSound (table_between_tricks declarer dummy unseen leader need trump)
+    → IsSound (position_between_tricks declarer dummy unseen leader need trump)
 between_tricks_sound declarer dummy unseen leader need trump fit low = record {
   declarer_set = fit.declarer_set;
   dummy_set = fit.dummy_set;
@@ -28,7 +28,7 @@ between_tricks_sound declarer dummy unseen leader need trump fit low = record {
   unseen_count = omega (arith, fit.unseen_count, count_in-none leader Declarer, count_in-none leader Left, count_in-none leader Right);
 }
 
-pub hands_from_sound : (declarer dummy unseen : List ℕ) (leader : Seat) (need : ℕ) (trump : Trump) → IsSound (table_between_tricks declarer dummy unseen leader need trump) → HandsFit declarer dummy unseen
+pub hands_from_sound : (declarer dummy unseen : List ℕ) (leader : Seat) (need : ℕ) (trump : Trump) → IsSound (position_between_tricks declarer dummy unseen leader need trump) → HandsFit declarer dummy unseen
 hands_from_sound declarer dummy unseen leader need trump sound = record {
   declarer_set = sound.declarer_set;
   dummy_set = sound.dummy_set;

@@ -8,13 +8,13 @@ use Rattle.std.proofs.lemmas.List.Elements.{filter_more}
 use Rattle.std.proofs.lemmas.List.Folds.{list_any_more}
 use Rattle.card_sets.specs.SetWords.{has_card, cards_where}
 use Rattle.card_sets.proofs.Sets.{has_card-cards_where, cards_where-agree}
-use Rattle.trick_rules.specs.Table.{Table}
+use Rattle.trick_rules.specs.Positions.{PositionValue}
 use Rattle.trick_rules.specs.Play.{take_out, legal_in}
 use Rattle.trick_rules.specs.Nodes.{is_legal}
 use Rattle.trick_rules.proofs.NodeLemmas.{state_of}
 
 -- the choices of one layout more
-pub choices_more : (t : Table) (lefts : List (List ℕ)) (i : ℕ) (left : List ℕ) → i < length lefts → left ≡ get_or lefts i left
+pub choices_more : (t : PositionValue) (lefts : List (List ℕ)) (i : ℕ) (left : List ℕ) → i < length lefts → left ≡ get_or lefts i left
     → cards_where (λ c. has_card (cards_where (λ card. list_any (is_legal t card) (take i lefts))) c || has_card (legal_in (state_of t left)) c)
     ≡ cards_where (λ card. list_any (is_legal t card) (take (i + 1) lefts))
 choices_more t lefts i left h here =

@@ -7,7 +7,7 @@ use Rattle.std.proofs.lemmas.List.Quantifiers.{all_pairs_push}
 use Rattle.card_sets.specs.declared.seat.Seat.{Seat}
 use Rattle.card_sets.specs.declared.seat.Seat.TheVariants.{Declarer, Left, Dummy, Right}
 use Rattle.card_sets.specs.SetWords.{has_card, Apart}
-use Rattle.trick_rules.specs.Table.{Played, Table, to_play, IsSound}
+use Rattle.trick_rules.specs.Positions.{TrickValue, PositionValue, to_play, IsSound}
 use Rattle.trick_rules.specs.Play.{take_out, put_card, end_trick, after_card, held_by, CanPlay, is_declarers}
 use Rattle.card_sets.proofs.Sets.{IsCardSet-filter, has_card-below}
 use Rattle.trick_rules.proofs.CardLists.{has_card-append, has_card-take_out, take_out-low, take_out-gone}
@@ -24,12 +24,12 @@ Apart-sym xs ys apart c h =
     ]
 
 -- the lengths of the hands fall by the card of the seat that holds it
-pub record HandsFall (t : Table) (card : ℕ) (seat : Seat) : Type 0 where
+pub record HandsFall (t : PositionValue) (card : ℕ) (seat : Seat) : Type 0 where
   pub declarer : length (take_out card t.declarer) + same_seat seat Declarer ≡ length t.declarer
   pub dummy : length (take_out card t.dummy) + same_seat seat Dummy ≡ length t.dummy
   pub unseen : length (take_out card t.unseen) + same_seat seat Left + same_seat seat Right ≡ length t.unseen
 
-pub hands_fall : (t : Table) → IsSound t → (card : ℕ) (seat : Seat) → has_card (held_by t seat) card ≡ true → HandsFall t card seat
+pub hands_fall : (t : PositionValue) → IsSound t → (card : ℕ) (seat : Seat) → has_card (held_by t seat) card ≡ true → HandsFall t card seat
 hands_fall t sound card Declarer h = record {
   declarer = length-take_out t.declarer card sound.declarer_set h;
   dummy = omega (arith, ap (length {A = ℕ}) (take_out-absent t.dummy card (sound.declarer_dummy card h)));
@@ -66,14 +66,14 @@ Apart-push card xs ys apart c h =
 
 -- ---- a sound position after a card
 
-pub held_low : (t : Table) → IsSound t → (card : ℕ) (seat : Seat) → has_card (held_by t seat) card ≡ true → card < 52
+pub held_low : (t : PositionValue) → IsSound t → (card : ℕ) (seat : Seat) → has_card (held_by t seat) card ≡ true → card < 52
 held_low t sound card Declarer h = has_card-below t.declarer card sound.declarer_set h
 held_low t sound card Dummy h = has_card-below t.dummy card sound.dummy_set h
 held_low t sound card Left h = has_card-below t.unseen card sound.unseen_set h
 held_low t sound card Right h = has_card-below t.unseen card sound.unseen_set h
 
 -- no card of the trick is held
-pub trick_held : (t : Table) → IsSound t → (seat : Seat) → Apart (held_by t seat) t.trick.cards
+pub trick_held : (t : PositionValue) → IsSound t → (seat : Seat) → Apart (held_by t seat) t.trick.cards
 trick_held t sound Declarer = Apart-sym t.trick.cards t.declarer sound.trick_declarer
 trick_held t sound Dummy = Apart-sym t.trick.cards t.dummy sound.trick_dummy
 trick_held t sound Left = Apart-sym t.trick.cards t.unseen sound.trick_unseen
@@ -88,10 +88,10 @@ absent_differs (x ∷ xs) card h (suc k) d low e =
       | inr other ↦ absent_differs xs card (rw other at h) k d (omega arith) e
     ]
 
-pub after_short : (t : Table) (card : ℕ) → length t.trick.cards < 3 → after_card t card ≡ put_card t card
+pub after_short : (t : PositionValue) (card : ℕ) → length t.trick.cards < 3 → after_card t card ≡ put_card t card
 after_short t card h = rw (ne_eqb (length t.trick.cards) 3 (λ e. omega arith)) refl
 
-pub after_third : (t : Table) (card : ℕ) → length t.trick.cards ≡ 3 → after_card t card ≡ end_trick (put_card t card)
+pub after_third : (t : PositionValue) (card : ℕ) → length t.trick.cards ≡ 3 → after_card t card ≡ end_trick (put_card t card)
 after_third t card h = rw (eq-eqb (length t.trick.cards) 3 h) refl
 
 -- the counts of the three hands and the trick's cards
@@ -99,10 +99,10 @@ record CountsFit (leader : Seat) (n declarer dummy unseen : ℕ) : Type 0 where
   pub dummy_count : dummy + count_in leader n Dummy ≡ declarer + count_in leader n Declarer
   pub unseen_count : unseen + count_in leader n Left + count_in leader n Right ≡ 2 * (declarer + count_in leader n Declarer)
 
-sound_counts : (t : Table) → IsSound t → CountsFit t.trick.leader (length t.trick.cards) (length t.declarer) (length t.dummy) (length t.unseen)
+sound_counts : (t : PositionValue) → IsSound t → CountsFit t.trick.leader (length t.trick.cards) (length t.declarer) (length t.dummy) (length t.unseen)
 sound_counts t sound = record { dummy_count = sound.dummy_count; unseen_count = sound.unseen_count }
 
-counts_short : (t : Table) (card : ℕ) → IsSound t → CanPlay t card → length t.trick.cards < 3
+counts_short : (t : PositionValue) (card : ℕ) → IsSound t → CanPlay t card → length t.trick.cards < 3
     → CountsFit t.trick.leader (suc (length t.trick.cards)) (length (take_out card t.declarer)) (length (take_out card t.dummy)) (length (take_out card t.unseen))
 counts_short t card sound can short =
     let n = length t.trick.cards in
@@ -116,7 +116,7 @@ counts_short t card sound can short =
       unseen_count = omega (arith, before.unseen_count, falls.declarer, falls.unseen, count_in-suc n leader Left low, count_in-suc n leader Right low, count_in-suc n leader Declarer low);
     }
 
-counts_third : (t : Table) (card : ℕ) (next : Seat) → IsSound t → CanPlay t card → length t.trick.cards ≡ 3
+counts_third : (t : PositionValue) (card : ℕ) (next : Seat) → IsSound t → CanPlay t card → length t.trick.cards ≡ 3
     → CountsFit next 0 (length (take_out card t.declarer)) (length (take_out card t.dummy)) (length (take_out card t.unseen))
 counts_third t card next sound can third =
     let n = length t.trick.cards in
@@ -156,7 +156,7 @@ counts_third t card next sound can third =
     }
 
 -- what holds of the hands after a card, whether or not the trick ends
-put_sets : (t : Table) (card : ℕ) → IsSound t → (trick : Played) (need : ℕ)
+put_sets : (t : PositionValue) (card : ℕ) → IsSound t → (trick : TrickValue) (need : ℕ)
     → Apart trick.cards (take_out card t.declarer) → Apart trick.cards (take_out card t.dummy) → Apart trick.cards (take_out card t.unseen)
     → length trick.cards < 4 → All (λ c. c < 52) trick.cards → AllPairs (λ c d. c ≢ d) trick.cards → need ≤ 13
     → CountsFit trick.leader (length trick.cards) (length (take_out card t.declarer)) (length (take_out card t.dummy)) (length (take_out card t.unseen))
@@ -179,7 +179,7 @@ put_sets t card sound trick need declarer dummy unseen short cards differs fits 
   unseen_count = counts.unseen_count;
 }
 
-put_sound : (t : Table) (card : ℕ) → IsSound t → CanPlay t card → length t.trick.cards < 3 → IsSound (put_card t card)
+put_sound : (t : PositionValue) (card : ℕ) → IsSound t → CanPlay t card → length t.trick.cards < 3 → IsSound (put_card t card)
 put_sound t card sound can short =
     let trick = (put_card t card).trick in
     let long = length_push t.trick.cards card in
@@ -200,7 +200,7 @@ less_fits : (b : Bool) (n m : ℕ) → n ≤ m → cond b (n - 1) n ≤ m
 less_fits true n m h = omega arith
 less_fits false n m h = h
 
-end_sound : (t : Table) (card : ℕ) → IsSound t → CanPlay t card → length t.trick.cards ≡ 3 → IsSound (end_trick (put_card t card))
+end_sound : (t : PositionValue) (card : ℕ) → IsSound t → CanPlay t card → length t.trick.cards ≡ 3 → IsSound (end_trick (put_card t card))
 end_sound t card sound can third =
     let trick = (end_trick (put_card t card)).trick in
     put_sets t card sound trick (end_trick (put_card t card)).need
@@ -212,7 +212,7 @@ end_sound t card sound can third =
     (counts_third t card trick.leader sound can third)
 
 -- the position after a card that the seat to play may hold is sound
-pub after_card_sound : (t : Table) (card : ℕ) → IsSound t → CanPlay t card → IsSound (after_card t card)
+pub after_card_sound : (t : PositionValue) (card : ℕ) → IsSound t → CanPlay t card → IsSound (after_card t card)
 after_card_sound t card sound can =
     elim (cases_eq (length t.trick.cards) 3) as (λ _. IsSound (after_card t card)) [
       | inl third ↦ rw (after_third t card third) (end_sound t card sound can third)
@@ -221,11 +221,11 @@ after_card_sound t card sound can =
     ]
 
 -- the position after a card, put together from its parts
-pub after_card-parts : (t : Table) (card : ℕ) (declarer dummy unseen : List ℕ) (trick : Played) (need : ℕ)
+pub after_card-parts : (t : PositionValue) (card : ℕ) (declarer dummy unseen : List ℕ) (trick : TrickValue) (need : ℕ)
     → declarer ≡ take_out card t.declarer → dummy ≡ take_out card t.dummy → unseen ≡ take_out card t.unseen → trick ≡ (after_card t card).trick → need ≡ (after_card t card).need
     → record { declarer = declarer; dummy = dummy; unseen = unseen; trick = trick; need = need; trump = t.trump } ≡ after_card t card
 after_card-parts t card declarer dummy unseen trick need a b c d e = rw (a, b, c, d, e) (whole (eqb (length t.trick.cards) 3) (end_trick (put_card t card)) (put_card t card) refl refl)
   where
-    whole : (b : Bool) (u v : Table) → u ≡ end_trick (put_card t card) → v ≡ put_card t card → record { declarer = take_out card t.declarer; dummy = take_out card t.dummy; unseen = take_out card t.unseen; trick = (cond b u v).trick; need = (cond b u v).need; trump = t.trump } ≡ cond b u v
+    whole : (b : Bool) (u v : PositionValue) → u ≡ end_trick (put_card t card) → v ≡ put_card t card → record { declarer = take_out card t.declarer; dummy = take_out card t.dummy; unseen = take_out card t.unseen; trick = (cond b u v).trick; need = (cond b u v).need; trump = t.trump } ≡ cond b u v
     whole true u v e f = rw e refl
     whole false u v e f = rw f refl

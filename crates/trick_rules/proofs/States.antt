@@ -7,7 +7,7 @@ use Rattle.card_sets.specs.declared.seat.Seat.{Seat}
 use Rattle.card_sets.specs.declared.seat.Seat.TheVariants.{Declarer, Left, Dummy, Right}
 use Rattle.card_sets.specs.Cards.{suit_of, same_suit}
 use Rattle.card_sets.specs.SetWords.{has_card, IsSubset}
-use Rattle.trick_rules.specs.Table.{Table, State, to_play, played_count, tricks_left, IsSound, IsState}
+use Rattle.trick_rules.specs.Positions.{PositionValue, State, to_play, played_count, tricks_left, IsSound, IsState}
 use Rattle.trick_rules.specs.Play.{take_out, put_card, end_trick, after_card, after, held_by, hand_of, right_of, CanPlay, legal_in, legal_cards, of_suit, or_whole, cards_left, is_over}
 use Rattle.card_sets.proofs.Sets.{has_card-filter, IsCardSet-filter}
 use Rattle.trick_rules.proofs.CardLists.{has_card-take_out}
@@ -28,28 +28,28 @@ pub legal_cards-low : (trick hand : List ℕ) → IsSubset (legal_cards trick ha
 legal_cards-low [] hand c h = h
 legal_cards-low (led ∷ rest) hand c h = or_whole-low (of_suit (suit_of led) hand) hand c (of_suit-low (suit_of led) hand) h
 
-pub right_of-low : (s : State) → IsSubset (right_of s) s.table.unseen
-right_of-low s c h = (and_parts _ _ (sym (has_card-filter (λ d. not (has_card s.left d)) s.table.unseen c) ∙ h)).0
+pub right_of-low : (s : State) → IsSubset (right_of s) s.position.unseen
+right_of-low s c h = (and_parts _ _ (sym (has_card-filter (λ d. not (has_card s.left d)) s.position.unseen c) ∙ h)).0
 
 -- Left doesn't hold Right's cards
 pub right_of-not_left : (s : State) (c : ℕ) → has_card (right_of s) c ≡ true → has_card s.left c ≡ false
-right_of-not_left s c h = not-true (has_card s.left c) (and_parts (has_card s.table.unseen c) (not (has_card s.left c)) (sym (has_card-filter (λ d. not (has_card s.left d)) s.table.unseen c) ∙ h)).1
+right_of-not_left s c h = not-true (has_card s.left c) (and_parts (has_card s.position.unseen c) (not (has_card s.left c)) (sym (has_card-filter (λ d. not (has_card s.left d)) s.position.unseen c) ∙ h)).1
 
 -- each hand is among the cards that the seat may hold
-pub hand_held : (s : State) → IsState s → (seat : Seat) → IsSubset (hand_of s seat) (held_by s.table seat)
+pub hand_held : (s : State) → IsState s → (seat : Seat) → IsSubset (hand_of s seat) (held_by s.position seat)
 hand_held s ok Declarer c h = h
 hand_held s ok Left c h = ok.fits.part c h
 hand_held s ok Dummy c h = h
 hand_held s ok Right c h = right_of-low s c h
 
-pub legal_can_play : (s : State) → IsState s → (card : ℕ) → has_card (legal_in s) card ≡ true → CanPlay s.table card
+pub legal_can_play : (s : State) → IsState s → (card : ℕ) → has_card (legal_in s) card ≡ true → CanPlay s.position card
 legal_can_play s ok card h =
-    hand_held s ok (to_play s.table) card (legal_cards-low s.table.trick.cards (hand_of s (to_play s.table)) card h)
+    hand_held s ok (to_play s.position) card (legal_cards-low s.position.trick.cards (hand_of s (to_play s.position)) card h)
 
 -- ---- Left's hand after a card
 
 -- a card that isn't unseen is not Left's
-not_part : (s : State) → IsState s → (card : ℕ) → has_card s.table.unseen card ≡ false → has_card s.left card ≡ false
+not_part : (s : State) → IsState s → (card : ℕ) → has_card s.position.unseen card ≡ false → has_card s.left card ≡ false
 not_part s ok card gone =
     elim (cases_Bool (has_card s.left card)) as (λ _. has_card s.left card ≡ false) [
       | inl e ↦ absurd (false≢true (sym gone ∙ ok.fits.part card e))
@@ -65,43 +65,43 @@ left_falls s ok card Left h = length-take_out s.left card ok.fits.set h
 left_falls s ok card Right h = omega (arith, ap (length {A = ℕ}) (take_out-absent s.left card (right_of-not_left s card h)))
 
 -- what a card leaves of the table, whether or not the trick ends
-pub after_card-unseen : (t : Table) (card : ℕ) → (after_card t card).unseen ≡ take_out card t.unseen
+pub after_card-unseen : (t : PositionValue) (card : ℕ) → (after_card t card).unseen ≡ take_out card t.unseen
 after_card-unseen t card = cond_both (eqb (length t.trick.cards) 3) (end_trick (put_card t card)) (put_card t card) (λ u. u.unseen ≡ take_out card t.unseen) (λ _. refl) (λ _. refl)
 
-pub after_card-declarer : (t : Table) (card : ℕ) → (after_card t card).declarer ≡ take_out card t.declarer
+pub after_card-declarer : (t : PositionValue) (card : ℕ) → (after_card t card).declarer ≡ take_out card t.declarer
 after_card-declarer t card = cond_both (eqb (length t.trick.cards) 3) (end_trick (put_card t card)) (put_card t card) (λ u. u.declarer ≡ take_out card t.declarer) (λ _. refl) (λ _. refl)
 
-pub after_card-dummy : (t : Table) (card : ℕ) → (after_card t card).dummy ≡ take_out card t.dummy
+pub after_card-dummy : (t : PositionValue) (card : ℕ) → (after_card t card).dummy ≡ take_out card t.dummy
 after_card-dummy t card = cond_both (eqb (length t.trick.cards) 3) (end_trick (put_card t card)) (put_card t card) (λ u. u.dummy ≡ take_out card t.dummy) (λ _. refl) (λ _. refl)
 
 -- ---- the tricks left after a card
 
-pub cards_more : (t : Table) (card : ℕ) → length (t.trick.cards ++ card ∷ []) ≡ suc (length t.trick.cards)
+pub cards_more : (t : PositionValue) (card : ℕ) → length (t.trick.cards ++ card ∷ []) ≡ suc (length t.trick.cards)
 cards_more t card = length_push t.trick.cards card ∙ add-one (length t.trick.cards)
 
 -- a seat's count in the trick, with the card that is played
-count_more : (t : Table) (card : ℕ) → length t.trick.cards < 4 → (seat : Seat)
+count_more : (t : PositionValue) (card : ℕ) → length t.trick.cards < 4 → (seat : Seat)
     → count_in t.trick.leader (length (t.trick.cards ++ card ∷ [])) seat ≡ count_in t.trick.leader (length t.trick.cards) seat + same_seat (to_play t) seat
 count_more t card low seat =
     ap (λ m. count_in t.trick.leader m seat) (cards_more t card) ∙ count_in-suc (length t.trick.cards) t.trick.leader seat low
 
 -- the fourth card is that of the seat that has not played
-count_full : (t : Table) → length t.trick.cards ≡ 3 → (seat : Seat) → count_in t.trick.leader (length t.trick.cards) seat + same_seat (to_play t) seat ≡ 1
+count_full : (t : PositionValue) → length t.trick.cards ≡ 3 → (seat : Seat) → count_in t.trick.leader (length t.trick.cards) seat + same_seat (to_play t) seat ≡ 1
 count_full t third seat =
     sym (count_in-suc (length t.trick.cards) t.trick.leader seat (omega arith)) ∙ ap (λ m. count_in t.trick.leader (suc m) seat) third ∙ count_in-all t.trick.leader seat
 
-tricks_short : (t : Table) (card : ℕ) → IsSound t → CanPlay t card → length t.trick.cards < 3 → tricks_left (put_card t card) ≡ tricks_left t
+tricks_short : (t : PositionValue) (card : ℕ) → IsSound t → CanPlay t card → length t.trick.cards < 3 → tricks_left (put_card t card) ≡ tricks_left t
 tricks_short t card sound can short =
     let falls = hands_fall t sound card (to_play t) can in
     omega (arith, falls.declarer, count_more t card (omega arith) Declarer)
 
-tricks_third : (t : Table) (card : ℕ) → IsSound t → CanPlay t card → length t.trick.cards ≡ 3 → tricks_left (end_trick (put_card t card)) + 1 ≡ tricks_left t
+tricks_third : (t : PositionValue) (card : ℕ) → IsSound t → CanPlay t card → length t.trick.cards ≡ 3 → tricks_left (end_trick (put_card t card)) + 1 ≡ tricks_left t
 tricks_third t card sound can third =
     let falls = hands_fall t sound card (to_play t) can in
     omega (arith, falls.declarer, count_full t third Declarer, count_in-none (end_trick (put_card t card)).trick.leader Declarer)
 
 -- the tricks left fall by one at the fourth card, and stay else
-pub tricks_left-after : (t : Table) (card : ℕ) → IsSound t → CanPlay t card
+pub tricks_left-after : (t : PositionValue) (card : ℕ) → IsSound t → CanPlay t card
     → tricks_left (after_card t card) + cond (eqb (length t.trick.cards) 3) 1 0 ≡ tricks_left t
 tricks_left-after t card sound can =
     elim (cases_eq (length t.trick.cards) 3) as (λ _. tricks_left (after_card t card) + cond (eqb (length t.trick.cards) 3) 1 0 ≡ tricks_left t) [
@@ -112,17 +112,17 @@ tricks_left-after t card sound can =
 
 -- ---- Left's count after a card
 
-left_short : (s : State) → IsState s → (card : ℕ) → has_card (hand_of s (to_play s.table)) card ≡ true → length s.table.trick.cards < 3
-    → length (take_out card s.left) + played_count (put_card s.table card) Left ≡ tricks_left (put_card s.table card)
+left_short : (s : State) → IsState s → (card : ℕ) → has_card (hand_of s (to_play s.position)) card ≡ true → length s.position.trick.cards < 3
+    → length (take_out card s.left) + played_count (put_card s.position card) Left ≡ tricks_left (put_card s.position card)
 left_short s ok card h short =
-    let t = s.table in
+    let t = s.position in
     let can = hand_held s ok (to_play t) card h in
     omega (arith, tricks_short t card ok.sound can short, count_more t card (omega arith) Left, left_falls s ok card (to_play t) h, ok.fits.count)
 
-left_third : (s : State) → IsState s → (card : ℕ) → has_card (hand_of s (to_play s.table)) card ≡ true → length s.table.trick.cards ≡ 3
-    → length (take_out card s.left) + played_count (end_trick (put_card s.table card)) Left ≡ tricks_left (end_trick (put_card s.table card))
+left_third : (s : State) → IsState s → (card : ℕ) → has_card (hand_of s (to_play s.position)) card ≡ true → length s.position.trick.cards ≡ 3
+    → length (take_out card s.left) + played_count (end_trick (put_card s.position card)) Left ≡ tricks_left (end_trick (put_card s.position card))
 left_third s ok card h third =
-    let t = s.table in
+    let t = s.position in
     let can = hand_held s ok (to_play t) card h in
     omega (
       arith,
@@ -133,10 +133,10 @@ left_third s ok card h third =
       ok.fits.count,
     )
 
-left_count : (s : State) → IsState s → (card : ℕ) → has_card (hand_of s (to_play s.table)) card ≡ true
-    → length (take_out card s.left) + played_count (after_card s.table card) Left ≡ tricks_left (after_card s.table card)
+left_count : (s : State) → IsState s → (card : ℕ) → has_card (hand_of s (to_play s.position)) card ≡ true
+    → length (take_out card s.left) + played_count (after_card s.position card) Left ≡ tricks_left (after_card s.position card)
 left_count s ok card h =
-    let t = s.table in
+    let t = s.position in
     elim (cases_eq (length t.trick.cards) 3) as (λ _. length (take_out card s.left) + played_count (after_card t card) Left ≡ tricks_left (after_card t card)) [
       | inl third ↦ rw (after_third t card third) (left_third s ok card h third)
       | inr other ↦ (let short : length t.trick.cards < 3 = omega (arith, ok.sound.trick_short, other) in
@@ -145,26 +145,26 @@ left_count s ok card h =
 
 -- ---- a state after a legal card
 
-part_after : (s : State) → IsState s → (card : ℕ) → IsSubset (take_out card s.left) (take_out card s.table.unseen)
+part_after : (s : State) → IsState s → (card : ℕ) → IsSubset (take_out card s.left) (take_out card s.position.unseen)
 part_after s ok card c h =
     let both = and_parts (has_card s.left c) (not (eqb c card)) (sym (has_card-take_out card s.left c) ∙ h) in
-    has_card-take_out card s.table.unseen c ∙ rw (ok.fits.part c both.0, both.1) refl
+    has_card-take_out card s.position.unseen c ∙ rw (ok.fits.part c both.0, both.1) refl
 
 pub after-IsState : (s : State) → IsState s → (card : ℕ) → has_card (legal_in s) card ≡ true → IsState (after s card)
 after-IsState s ok card h =
-    let in_hand = legal_cards-low s.table.trick.cards (hand_of s (to_play s.table)) card h in
+    let in_hand = legal_cards-low s.position.trick.cards (hand_of s (to_play s.position)) card h in
     record {
-      sound = after_card_sound s.table card ok.sound (legal_can_play s ok card h);
+      sound = after_card_sound s.position card ok.sound (legal_can_play s ok card h);
       fits = record {
         set = IsCardSet-filter (λ c. not (eqb c card)) s.left ok.fits.set;
-        part = λ c k. rw (after_card-unseen s.table card) (part_after s ok card c k);
+        part = λ c k. rw (after_card-unseen s.position card) (part_after s ok card c k);
         count = left_count s ok card in_hand;
       };
     }
 
 -- ---- the cards left
 
-pub cards_left-after : (t : Table) (card : ℕ) → IsSound t → CanPlay t card → suc (cards_left (after_card t card)) ≡ cards_left t
+pub cards_left-after : (t : PositionValue) (card : ℕ) → IsSound t → CanPlay t card → suc (cards_left (after_card t card)) ≡ cards_left t
 cards_left-after t card sound can =
     let falls = hands_fall t sound card (to_play t) can in
     let one = one_seat (to_play t) in
@@ -196,17 +196,17 @@ legal_cards-length [] hand h = h
 legal_cards-length (led ∷ rest) hand h = or_whole-length (of_suit (suit_of led) hand) hand h
 
 -- each hand has the cards of the tricks left, less the one that its seat has played
-pub hand_length : (s : State) → IsState s → (seat : Seat) → length (hand_of s seat) + played_count s.table seat ≡ tricks_left s.table
+pub hand_length : (s : State) → IsState s → (seat : Seat) → length (hand_of s seat) + played_count s.position seat ≡ tricks_left s.position
 hand_length s ok Declarer = refl
 hand_length s ok Left = ok.fits.count
 hand_length s ok Dummy = ok.sound.dummy_count
 hand_length s ok Right =
-    omega (arith, length-minus s.table.unseen s.left ok.sound.unseen_set ok.fits.set ok.fits.part, ok.fits.count, ok.sound.unseen_count)
+    omega (arith, length-minus s.position.unseen s.left ok.sound.unseen_set ok.fits.set ok.fits.part, ok.fits.count, ok.sound.unseen_count)
 
 -- while tricks are left, the seat to play has a legal card
-pub some_legal : (s : State) → IsState s → is_over s.table ≡ false → (card : ℕ) × (has_card (legal_in s) card ≡ true)
+pub some_legal : (s : State) → IsState s → is_over s.position ≡ false → (card : ℕ) × (has_card (legal_in s) card ≡ true)
 some_legal s ok open' =
-    let t = s.table in
+    let t = s.position in
     let turn : played_count t (to_play t) ≡ 0 = count_in-turn (length t.trick.cards) t.trick.leader ok.sound.trick_short in
     let some : tricks_left t ≡ 0 → ⊥ = eqb-false (tricks_left t) 0 open' in
     some_card (legal_in s) (legal_cards-length t.trick.cards (hand_of s (to_play t)) (omega (arith, hand_length s ok (to_play t), turn, some)))

@@ -12,7 +12,7 @@ use Rattle.card_sets.specs.declared.seat.Seat.{Seat}
 use Rattle.card_sets.specs.Cards.{suit_of, rank_of, same_suit, suit_place}
 use Rattle.trick_rules.specs.declared.trump.Trump.{Trump}
 use Rattle.trick_rules.specs.declared.trump.Trump.TheVariants.{NoTrump, Suit as Suited}
-use Rattle.trick_rules.specs.Table.{Played, seat_after}
+use Rattle.trick_rules.specs.Positions.{TrickValue, seat_after}
 use Rattle.trick_rules.specs.Play.{is_trump, strength, greatest, winning_place, beats, IsWonBy, winner_of}
 
 -- ---- the place of the greatest number
@@ -226,7 +226,7 @@ winner_among trump leader (led ∷ rest) some cards_low apart =
     )
 
 -- a trick has exactly one winner
-pub one_winner : (trump : Trump) (trick : Played) → 1 ≤ length trick.cards → All (λ c. c < 52) trick.cards → AllPairs (λ c d. c ≢ d) trick.cards
+pub one_winner : (trump : Trump) (trick : TrickValue) → 1 ≤ length trick.cards → All (λ c. c < 52) trick.cards → AllPairs (λ c d. c ≢ d) trick.cards
     → (place : ℕ) × IsWonBy trump trick.cards place × ((other : ℕ) → IsWonBy trump trick.cards other → other ≡ place) × (winner_of trump trick ≡ seat_after place trick.leader)
 one_winner trump trick some cards_low apart = winner_among trump trick.leader trick.cards some cards_low apart
 

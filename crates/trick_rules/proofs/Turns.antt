@@ -4,7 +4,7 @@ use Rattle.std.specs.Prelude.{nat_lt, if◌then◌else◌, ◌==◌}
 use Rattle.card_sets.specs.declared.seat.Seat.{Seat}
 use Rattle.card_sets.specs.declared.seat.Seat.TheVariants.{Declarer, Left, Dummy, Right}
 use Rattle.card_sets.specs.Seats.{next_seat}
-use Rattle.trick_rules.specs.Table.{seat_after, seat_place, places_on}
+use Rattle.trick_rules.specs.Positions.{seat_after, seat_place, places_on}
 
 -- how many cards of a trick of n cards are a seat's
 abbrev pub count_in : Seat → ℕ → Seat → ℕ

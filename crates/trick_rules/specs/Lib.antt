@@ -1,3 +1,3 @@
-pub mod Table
+pub mod Positions
 pub mod Play
 pub mod Nodes

@@ -8,7 +8,7 @@ use Rattle.card_sets.specs.Cards.{suit_of, rank_of, same_suit}
 use Rattle.card_sets.specs.SetWords.{has_card}
 use Rattle.trick_rules.specs.declared.trump.Trump.{Trump}
 use Rattle.trick_rules.specs.declared.trump.Trump.TheVariants.{NoTrump, Suit as Suited}
-use Rattle.trick_rules.specs.Table.{Played, Table, State, seat_after, to_play, tricks_left}
+use Rattle.trick_rules.specs.Positions.{TrickValue, PositionValue, State, seat_after, to_play, tricks_left}
 
 -- ---- legal cards
 
@@ -65,7 +65,7 @@ pub record IsWonBy (trump : Trump) (cards : List ℕ) (place : ℕ) : Type 0 whe
       → beats trump (suit_of (slice_index cards 0)) (slice_index cards place) (slice_index cards other) ≡ true
 
 -- who played that card
-abbrev pub winner_of : Trump → Played → Seat
+abbrev pub winner_of : Trump → TrickValue → Seat
 winner_of trump trick = seat_after (winning_place trump trick.cards) trick.leader
 
 -- ---- after a card
@@ -80,7 +80,7 @@ abbrev pub take_out : ℕ → List ℕ → List ℕ
 take_out card cards = filter (λ c. not (c == card)) cards
 
 -- the card leaves the hand that holds it, and lies in the trick
-abbrev pub put_card : Table → ℕ → Table
+abbrev pub put_card : PositionValue → ℕ → PositionValue
 put_card t card = record {
   declarer = take_out card t.declarer;
   dummy = take_out card t.dummy;
@@ -91,73 +91,73 @@ put_card t card = record {
 }
 
 -- the fourth card ends the trick: its winner leads, and the need falls by one, not below 0, where declarer's side won
-abbrev pub end_trick : Table → Table
+abbrev pub end_trick : PositionValue → PositionValue
 end_trick t = record t {
   trick = record { leader = winner_of t.trump t.trick; cards = [] };
   need = if is_declarers (winner_of t.trump t.trick) then t.need - 1 else t.need;
 }
 
 -- the position after the seat to play has played this card
-abbrev pub after_card : Table → ℕ → Table
+abbrev pub after_card : PositionValue → ℕ → PositionValue
 after_card t card = if length t.trick.cards == 3 then end_trick (put_card t card) else put_card t card
 
 abbrev pub after : State → ℕ → State
-after s card = record { table = after_card s.table card; left = take_out card s.left }
+after s card = record { position = after_card s.position card; left = take_out card s.left }
 
 -- the cards among which those of a seat are: its hand, or the unseen cards for a defender
-abbrev pub held_by : Table → Seat → List ℕ
+abbrev pub held_by : PositionValue → Seat → List ℕ
 held_by t Declarer = t.declarer
 held_by t Left = t.unseen
 held_by t Dummy = t.dummy
 held_by t Right = t.unseen
 
 -- the seat to play may hold this card
-abbrev pub CanPlay : Table → ℕ → Type 0
+abbrev pub CanPlay : PositionValue → ℕ → Type 0
 CanPlay t card = has_card (held_by t (to_play t)) card ≡ true
 
 -- ---- over and decided
 
-abbrev pub is_over : Table → Bool
+abbrev pub is_over : PositionValue → Bool
 is_over t = tricks_left t == 0
 
 -- made where the need is 0, failed where it is greater than the tricks left, and open otherwise
-abbrev pub decided : Table → Option Bool
+abbrev pub decided : PositionValue → Option Bool
 decided t = if t.need == 0 then Some true else if nat_lt (tricks_left t) t.need then Some false else None
 
 -- ---- double dummy
 
 -- Right holds the unseen cards without Left's
 abbrev pub right_of : State → List ℕ
-right_of s = filter (λ c. not (has_card s.left c)) s.table.unseen
+right_of s = filter (λ c. not (has_card s.left c)) s.position.unseen
 
 abbrev pub hand_of : State → Seat → List ℕ
-hand_of s Declarer = s.table.declarer
+hand_of s Declarer = s.position.declarer
 hand_of s Left = s.left
-hand_of s Dummy = s.table.dummy
+hand_of s Dummy = s.position.dummy
 hand_of s Right = right_of s
 
 -- the legal cards of the seat to play
 abbrev pub legal_in : State → List ℕ
-legal_in s = legal_cards s.table.trick.cards (hand_of s (to_play s.table))
+legal_in s = legal_cards s.position.trick.cards (hand_of s (to_play s.position))
 
 -- whether declarer's side takes the need, in fewer than that many cards
 unfoldable pub makes_within : ℕ → State → Bool
 makes_within zero s = false
 makes_within (suc n) s =
-    if is_over s.table then s.table.need == 0
-    else if is_declarers (to_play s.table) then list_any (λ c. makes_within n (after s c)) (legal_in s)
+    if is_over s.position then s.position.need == 0
+    else if is_declarers (to_play s.position) then list_any (λ c. makes_within n (after s c)) (legal_in s)
     else list_all (λ c. makes_within n (after s c)) (legal_in s)
 
 -- the cards that the four seats still hold
-abbrev pub cards_left : Table → ℕ
+abbrev pub cards_left : PositionValue → ℕ
 cards_left t = length t.declarer + length t.dummy + length t.unseen
 
 -- whether declarer's side takes the need with all cards seen by all
 unfoldable pub makes : State → Bool
-makes s = makes_within (suc (cards_left s.table)) s
+makes s = makes_within (suc (cards_left s.position)) s
 
 -- the same as rules, with no number: the play ended with no need left; declarer's side has a legal card that makes; each legal card of the defenders makes
 pub data Makes : State → Type 0 where
-  ended : {s : State} → is_over s.table ≡ true → s.table.need ≡ 0 → Makes s
-  some_card : {s : State} → is_over s.table ≡ false → is_declarers (to_play s.table) ≡ true → (card : ℕ) → has_card (legal_in s) card ≡ true → Makes (after s card) → Makes s
-  each_card : {s : State} → is_over s.table ≡ false → is_declarers (to_play s.table) ≡ false → ((card : ℕ) → has_card (legal_in s) card ≡ true → Makes (after s card)) → Makes s
+  ended : {s : State} → is_over s.position ≡ true → s.position.need ≡ 0 → Makes s
+  some_card : {s : State} → is_over s.position ≡ false → is_declarers (to_play s.position) ≡ true → (card : ℕ) → has_card (legal_in s) card ≡ true → Makes (after s card) → Makes s
+  each_card : {s : State} → is_over s.position ≡ false → is_declarers (to_play s.position) ≡ false → ((card : ℕ) → has_card (legal_in s) card ≡ true → Makes (after s card)) → Makes s

@@ -1,7 +1,7 @@
 //! A position with the layouts that are thought possible.
 ghost use Rattle.std.specs.Prelude.{◌≡◌, ◌<◌, ◌≤◌, true, Some, length, slice_get, IfOk};
 ghost use Rattle.card_sets.specs.SetWords.{has_card};
-ghost use Rattle.trick_rules.specs.Table.{to_play};
+ghost use Rattle.trick_rules.specs.Positions.{to_play};
 ghost use Rattle.trick_rules.specs.Play.{is_declarers};
 ghost use Rattle.trick_rules.specs.Nodes.{IsNode, stops as stops_at, choices as choices_of, child as child_of, child_mask};
 
@@ -11,8 +11,8 @@ use std::alloc::{AllocError, Global};
 use std::marker::Model;
 use win_vectors::WinVector;
 
-/// A sound position and 1 to 256 layouts, each by Left's hand, a part of the unseen cards with Left's number of cards.
-/// Right holds the rest.
+/// A sound position and 1 to 256 layouts, each by Left's hand, a part of the unseen cards with
+/// Left's number of cards. Right holds the rest.
 #[derive(Debug, Drop)]
 pub struct Node {
     position: Position,
@@ -20,20 +20,23 @@ pub struct Node {
 }
 
 impl Model for Node {
-    ghost use Rattle.trick_rules.specs.Nodes.{Layouts, IsNode};
+    ghost use Rattle.trick_rules.specs.Nodes.{NodeValue, IsNode};
 
-    ghost Value = { Layouts };
+    ghost Value = { NodeValue };
 
-    ghost view = { λ node. record { table = node.position; lefts = node.lefts.items } };
+    ghost view = { λ node. record { position = node.position; lefts = node.lefts.items } };
 
-    ghost invariant = { λ node. IsNode (record { table = node.position; lefts = node.lefts.items }) };
+    ghost invariant = { λ node. IsNode (record {
+      position = node.position;
+      lefts = node.lefts.items;
+    }) };
 }
 
 impl Node {
     /// A node of this position and these layouts, in order.
     pub fn new(alloc: Global, position: Position, lefts: &[CardSet]) -> Result<Node, AllocError>
-        requires { IsNode (record { table = position; lefts = lefts.now }) }
-        ensures { IfOk result (λ node. node ≡ record { table = position; lefts = lefts.now }) }
+        requires { IsNode (record { position = position; lefts = lefts.now }) }
+        ensures { IfOk result (λ node. node ≡ record { position = position; lefts = lefts.now }) }
     {
         Ok(Node {
             position,
@@ -43,7 +46,7 @@ impl Node {
 
     /// The position that all at the table see.
     pub fn position(&self) -> &Position
-        ensures value { result.now ≡ self.now.table }
+        ensures value { result.now ≡ self.now.position }
         ensures a_node { IsNode self.now }
     {
         &self.position
@@ -85,12 +88,13 @@ impl Node {
 
     /// Whether declarer or dummy is to play.
     pub fn is_ours(&self) -> bool
-        ensures { result ≡ is_declarers (to_play self.now.table) }
+        ensures { result ≡ is_declarers (to_play self.now.position) }
     {
         self.position.is_ours()
     }
 
-    /// Whether a plan with this many moves of declarer's side left stops here: no move is left, or the result is decided.
+    /// Whether a plan with this many moves of declarer's side left stops here: no move is left, or
+    /// the result is decided.
     pub fn stops(&self, moves: u8) -> bool
         ensures { result ≡ stops_at self.now moves }
     {
@@ -108,7 +112,8 @@ impl Node {
         cards
     }
 
-    /// The node after a card, and the layouts that it keeps: in order, those in which the card is legal.
+    /// The node after a card, and the layouts that it keeps: in order, those in which the card is
+    /// legal.
     ///
     /// The vector is as wide as this node, with a 1 at each layout that is kept.
     pub fn child(&self, alloc: Global, card: Card) -> Result<(Node, WinVector), AllocError>

@@ -1,7 +1,7 @@
 //! What all at the table know, and the laws of play.
 ghost use Rattle.std.specs.Prelude.{◌≡◌, ◌<◌, ◌≤◌, ◌↔◌, true, IsTrue, IsSome, IfSome};
 ghost use Rattle.card_sets.specs.SetWords.{has_card, IsCardSet};
-ghost use Rattle.trick_rules.specs.Table.{to_play as seat_to_play, tricks_left as count_of_tricks, has_played as seat_has_played, places_on as count_of_places, seat_place, IsSound, FitsLeft, HandsFit, table_between_tricks};
+ghost use Rattle.trick_rules.specs.Positions.{to_play as seat_to_play, tricks_left as count_of_tricks, has_played as seat_has_played, places_on as count_of_places, seat_place, IsSound, FitsLeft, HandsFit, position_between_tricks};
 ghost use Rattle.trick_rules.specs.Play.{is_over, decided as result_of, is_declarers, legal_cards, legal_in as legal_cards_in, held_by as cards_held_by, hand_of, after_card, CanPlay};
 
 use crate::trick::{Trick, winner};
@@ -9,11 +9,12 @@ use crate::trump::Trump;
 use card_sets::{Card, CardSet, Seat};
 use std::marker::Model;
 
-/// A position: declarer's and dummy's hands, the cards that the two defenders hold together, the present trick, the
-/// tricks that declarer's side still needs, and trumps.
+/// A position: declarer's and dummy's hands, the cards that the two defenders hold together, the
+/// present trick, the tricks that declarer's side still needs, and trumps.
 ///
-/// It is sound: no card is in two of these places, the trick has fewer than four cards, the need is at most 13, and each
-/// seat has one card for each trick left, less the one that it has played to the trick.
+/// It is sound: no card is in two of these places, the trick has fewer than four cards, the need is
+/// at most 13, and each seat has one card for each trick left, less the one that it has played to
+/// the trick.
 #[derive(Debug, Drop)]
 pub struct Position {
     pub declarer: CardSet,
@@ -25,9 +26,9 @@ pub struct Position {
 }
 
 impl Model for Position {
-    ghost use Rattle.trick_rules.specs.Table.{Table, IsSound};
+    ghost use Rattle.trick_rules.specs.Positions.{PositionValue, IsSound};
 
-    ghost Value = { Table };
+    ghost Value = { PositionValue };
 
     ghost view = { λ p. record {
       declarer = p.declarer;
@@ -59,8 +60,10 @@ impl Position {
         need: u8,
         trump: Trump,
     ) -> Option<Position>
-        ensures sound { IsSome result ↔ IsSound (table_between_tricks declarer dummy unseen leader need trump) }
-        ensures value { IfSome result (λ p. p ≡ table_between_tricks declarer dummy unseen leader need trump) }
+        ensures sound { IsSome result
+            ↔ IsSound (position_between_tricks declarer dummy unseen leader need trump) }
+        ensures value { IfSome result
+            (λ p. p ≡ position_between_tricks declarer dummy unseen leader need trump) }
     {
         if hands_fit(declarer, dummy, unseen) && need <= 13 {
             Some(Position {
@@ -113,8 +116,8 @@ impl Position {
         self.tricks_left() == 0
     }
 
-    /// What is certain already: `Some(true)` exactly where the need is 0, `Some(false)` exactly where it is greater than
-    /// the tricks left.
+    /// What is certain already: `Some(true)` exactly where the need is 0, `Some(false)` exactly
+    /// where it is greater than the tricks left.
     pub fn decided(&self) -> Option<bool>
         ensures { result ≡ result_of self.now }
     {
@@ -134,7 +137,8 @@ impl Position {
         is_ours(self.to_play())
     }
 
-    /// Whether Left may hold just these cards: a part of the unseen cards, with Left's number of cards.
+    /// Whether Left may hold just these cards: a part of the unseen cards, with Left's number of
+    /// cards.
     #[tactic(auto, using(crate::proofs::CardLists::at_most_52))]
     pub fn fits(&self, left: CardSet) -> bool
         ensures { IsTrue result ↔ FitsLeft self.now left }
@@ -156,7 +160,7 @@ impl Position {
 
     /// The cards of a seat where Left holds these.
     pub fn hand(&self, seat: Seat, left: CardSet) -> CardSet
-        ensures { result ≡ hand_of (record { table = self.now; left = left }) seat }
+        ensures { result ≡ hand_of (record { position = self.now; left = left }) seat }
     {
         match seat {
             Seat::Declarer => self.declarer,
@@ -168,7 +172,7 @@ impl Position {
 
     /// The legal cards of the seat to play where Left holds these.
     pub fn legal_in(&self, left: CardSet) -> CardSet
-        ensures { result ≡ legal_cards_in (record { table = self.now; left = left }) }
+        ensures { result ≡ legal_cards_in (record { position = self.now; left = left }) }
     {
         legal(self, self.hand(self.to_play(), left))
     }
@@ -188,7 +192,8 @@ impl Position {
     }
 }
 
-// Whether no card is in two of the three sets, dummy's hand is as large as declarer's, and the defenders hold twice as many.
+// Whether no card is in two of the three sets, dummy's hand is as large as declarer's, and the
+// defenders hold twice as many.
 #[tactic(auto, using(crate::proofs::CardLists::at_most_52))]
 fn hands_fit(declarer: CardSet, dummy: CardSet, unseen: CardSet) -> bool
     ensures { IsTrue result ↔ HandsFit declarer dummy unseen }
@@ -258,9 +263,11 @@ fn trick_after(position: &Position, card: Card) -> (Trick, u8)
     (Trick::led_by(taker), need)
 }
 
-/// The position after the seat to play has played a card of its hand or, for a defender, an unseen card.
+/// The position after the seat to play has played a card of its hand or, for a defender, an unseen
+/// card.
 ///
-/// The fourth card ends the trick: its winner leads, and the need falls by one, not below 0, where declarer's side won.
+/// The fourth card ends the trick: its winner leads, and the need falls by one, not below 0, where
+/// declarer's side won.
 pub fn play(position: &Position, card: Card) -> Position
     requires { CanPlay position.now card }
     ensures value { result ≡ after_card position.now card }

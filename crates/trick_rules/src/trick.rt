@@ -1,6 +1,6 @@
 //! A trick, and who takes it.
 ghost use Rattle.std.specs.Prelude.{◌≡◌, ◌≤◌, ◌<◌, length, [], IsTrue, ◌↔◌};
-ghost use Rattle.trick_rules.specs.Table.{seat_after as seat_that_many_on};
+ghost use Rattle.trick_rules.specs.Positions.{seat_after as seat_that_many_on};
 ghost use Rattle.trick_rules.specs.Play.{suit_led, legal_cards, is_trump as is_trump_card, strength as strength_of, winner_of};
 
 use crate::trump::Trump;
@@ -16,9 +16,9 @@ pub struct Trick {
 }
 
 impl Model for Trick {
-    ghost use Rattle.trick_rules.specs.Table.{Played};
+    ghost use Rattle.trick_rules.specs.Positions.{TrickValue};
 
-    ghost Value = { Played };
+    ghost Value = { TrickValue };
 
     ghost view = { λ trick. record { leader = trick.leader; cards = trick.cards.items } };
 }
@@ -48,8 +48,8 @@ impl Trick {
         seat_after(self.cards.len(), self.leader)
     }
 
-    /// The cards of a hand that may be played to the trick: those of the suit led if the hand has any, else the whole
-    /// hand; the whole hand for the leader.
+    /// The cards of a hand that may be played to the trick: those of the suit led if the hand has
+    /// any, else the whole hand; the whole hand for the leader.
     pub fn legal(&self, hand: CardSet) -> CardSet
         ensures { result ≡ legal_cards self.now.cards hand }
     {
@@ -79,7 +79,8 @@ impl Trick {
     }
 }
 
-// How high a card stands in a trick: a trump above every other card, a card of the suit led above those of the other suits.
+// How high a card stands in a trick: a trump above every other card, a card of the suit led above
+// those of the other suits.
 fn strength(trump: Trump, led: Suit, card: Card) -> u8
     ensures value { result ≡ strength_of trump led card }
     ensures small { result < 64 }
@@ -115,7 +116,8 @@ fn seat_after(places: usize, seat: Seat) -> Seat
     there
 }
 
-/// Who takes a trick of four cards: the highest trump, or where there is none the highest card of the suit led.
+/// Who takes a trick of four cards: the highest trump, or where there is none the highest card of
+/// the suit led.
 pub fn winner(trick: &Trick, trump: Trump) -> Seat
     requires { length trick.now.cards ≡ 4 }
     ensures { result ≡ winner_of trump trick.now }

@@ -10,7 +10,8 @@ pub fn dominance_is_partial_order()
     ensures { DominanceIsPartialOrder }
 {}
 
-/// The printing order is a strict total order, in which a vector stands before those that it dominates.
+/// The printing order is a strict total order, in which a vector stands before those that it
+/// dominates.
 pub fn printing_order_is_total()
     ensures { PrintingOrderIsTotal }
 {}
@@ -20,8 +21,8 @@ pub fn meet_is_greatest()
     ensures { MeetIsGreatest }
 {}
 
-/// To restrict a vector that was spread by the same mask gives it back, and a spread vector dominates where the vector
-/// itself dominates what the mask picks.
+/// To restrict a vector that was spread by the same mask gives it back, and a spread vector
+/// dominates where the vector itself dominates what the mask picks.
 pub fn spread_undoes_restrict()
     ensures { SpreadUndoesRestrict }
 {}
@@ -36,18 +37,20 @@ pub fn reduced_is_unique()
     ensures { ReducedIsUnique }
 {}
 
-/// The reduced list has the vectors that no other value of the list dominates, each once, in printing order.
+/// The reduced list has the vectors that no other value of the list dominates, each once, in
+/// printing order.
 pub fn reduced_lists_the_best()
     ensures { ReducedListsTheBest }
 {}
 
-/// The reduced list is the only list that is strictly ordered, has no vector that dominates another, and covers exactly
-/// what the list covers.
+/// The reduced list is the only list that is strictly ordered, has no vector that dominates
+/// another, and covers exactly what the list covers.
 pub fn reduced_is_the_cover()
     ensures { ReducedIsTheCover }
 {}
 
-/// The reduced list doesn't depend on the order of the list, nor on how often a vector stands in it.
+/// The reduced list doesn't depend on the order of the list, nor on how often a vector stands in
+/// it.
 pub fn reduced_ignores_order()
     ensures { ReducedIgnoresOrder }
 {}

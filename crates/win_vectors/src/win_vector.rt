@@ -46,7 +46,8 @@ impl Model for WinVector {
 
     ghost inverse_ok = { λ a h i. record {
       width = length-bits_of a.width a.words i;
-      words = words_of-bits_of 4 a.width a.words (record { long = h.four; fit = h.fit; past = h.past }) i;
+      words = words_of-bits_of 4 a.width a.words
+          (record { long = h.four; fit = h.fit; past = h.past }) i;
     } };
 }
 
@@ -201,8 +202,8 @@ impl WinVector {
         self.width == other.width && self.words == other.words
     }
 
-    /// The printing order: more ones first, and among equal counts the vector with a 1 at the first layout where the two
-    /// differ. `Less` says that this vector comes first.
+    /// The printing order: more ones first, and among equal counts the vector with a 1 at the first
+    /// layout where the two differ. `Less` says that this vector comes first.
     pub fn order(self, other: WinVector) -> Ordering
         requires { length self ≡ length other }
         ensures { result ≡ vector_order self other }

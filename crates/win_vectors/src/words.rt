@@ -57,7 +57,8 @@ pub fn lowest_difference(ours: u64, theirs: u64) -> u16
     (ours ^ theirs).trailing_zeros() as u16
 }
 
-/// The order of vectors of 64 bits: more ones first, and among equal counts the one with a 1 at the first difference.
+/// The order of vectors of 64 bits: more ones first, and among equal counts the one with a 1 at the
+/// first difference.
 pub fn word_order(ours: u64, theirs: u64) -> Ordering
     ensures { result ≡ vector_order (bools 64 ours) (bools 64 theirs) }
 {

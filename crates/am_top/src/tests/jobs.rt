@@ -1,4 +1,5 @@
-//! The jobs beside the report: plain sampling, all layouts, a judged report, and a problem made from a number.
+//! The jobs beside the report: plain sampling, all layouts, a judged report, and a problem made
+//! from a number.
 use super::{QUEEN, QUEEN_LAYOUTS, QUEEN_REPORT, Run, ran, ran_over, shelf_of};
 use crate::{FileWord, Place, Status};
 use am_report::ReportKind;

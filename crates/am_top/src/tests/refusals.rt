@@ -1,4 +1,5 @@
-//! What a refused run ends with and says: the words, each kind of damage to a file, and failing reads and writes.
+//! What a refused run ends with and says: the words, each kind of damage to a file, and failing
+//! reads and writes.
 use super::{QUEEN, QUEEN_LAYOUTS, ran, shelf_of, words_of};
 use crate::{FileWord, PbnKind, Status, run};
 use am_outside::{MemorySink, OpenGate};

@@ -1,4 +1,5 @@
-//! Files written whole, over any shelf and sink: what the traits say is enough to say what came out.
+//! Files written whole, over any shelf and sink: what the traits say is enough to say what came
+//! out.
 ghost use Rattle.std.specs.Prelude.{◌≡◌, ◌≢◌, ◌++◌, ◌⊎◌, Some, IfSome, IsSomeAnd, OnOk, OnErr, IsErrOf};
 ghost use Rattle.std.specs.FinMap.{get};
 ghost use Rattle.std.specs.Io.KnownBytes.{append_known};
@@ -26,18 +27,24 @@ pub fn copy<S: Shelf, O: Sink>(
     out: &mut O,
 ) -> Result<(), CopyFault>
     ensures copied { IfSome (S.told shelf.old) (λ files. OnOk result
-        (IsSomeAnd (get files name.now) (λ bytes. O.told out.new ≡ append_known (O.told out.old) bytes))) }
+        (IsSomeAnd (get files name.now)
+        (λ bytes. O.told out.new ≡ append_known (O.told out.old) bytes))) }
     ensures unread { IsErrOf result CopyFault.Unread →
-        Rose (S.faults shelf.old name.now) (S.faults shelf.new name.now) × (O.told out.new ≡ O.told out.old) }
+        Rose (S.faults shelf.old name.now) (S.faults shelf.new name.now)
+        × (O.told out.new ≡ O.told out.old) }
     ensures too_long { IfSome (S.told shelf.old) (λ files. IsErrOf result CopyFault.TooLong →
         IsLonger files name.now limit × (O.told out.new ≡ O.told out.old)) }
-    ensures unwritten { IsErrOf result CopyFault.Unwritten → Rose (O.faults out.old) (O.faults out.new) }
+    ensures unwritten { IsErrOf result CopyFault.Unwritten
+        → Rose (O.faults out.old) (O.faults out.new) }
     ensures part { IfSome (S.told shelf.old) (λ files. IsErrOf result CopyFault.Unwritten →
-        IsSomeAnd (get files name.now) (λ bytes. AppendsPart (O.told out.old) bytes (O.told out.new))) }
+        IsSomeAnd (get files name.now)
+        (λ bytes. AppendsPart (O.told out.old) bytes (O.told out.new))) }
     ensures long { IfSome (S.told shelf.old) (λ files. IsLonger files name.now limit →
-        IsErrOf result CopyFault.TooLong ⊎ (IsErrOf result CopyFault.Unread ⊎ IsErrOf result CopyFault.Memory)) }
+        IsErrOf result CopyFault.TooLong
+        ⊎ (IsErrOf result CopyFault.Unread ⊎ IsErrOf result CopyFault.Memory)) }
     ensures same_files { S.told shelf.new ≡ S.told shelf.old }
-    ensures others { IfSome (S.told shelf.old) (λ files. KeepsOthers files name.now (S.faults shelf.old) (S.faults shelf.new)) }
+    ensures others { IfSome (S.told shelf.old)
+        (λ files. KeepsOthers files name.now (S.faults shelf.old) (S.faults shelf.new)) }
 {
     let text = match shelf.read(alloc, name, limit) {
         Ok(text) => text,
@@ -66,7 +73,8 @@ pub fn join<S: Shelf, O: Sink>(
     ensures unread { IsErrOf result CopyFault.Unread → (O.told out.new ≡ O.told out.old)
         × (Rose (S.faults shelf.old first.now) (S.faults shelf.new first.now)
         ⊎ Rose (S.faults shelf.old second.now) (S.faults shelf.new second.now)) }
-    ensures unwritten { IsErrOf result CopyFault.Unwritten → Rose (O.faults out.old) (O.faults out.new) }
+    ensures unwritten { IsErrOf result CopyFault.Unwritten
+        → Rose (O.faults out.old) (O.faults out.new) }
     ensures part { IfSome (S.told shelf.old) (λ files. IsErrOf result CopyFault.Unwritten →
         IsSomeAnd (get files first.now) (λ a. IsSomeAnd (get files second.now) (λ b.
         AppendsPart (O.told out.old) (a ++ b) (O.told out.new)))) }
@@ -83,8 +91,10 @@ pub fn join<S: Shelf, O: Sink>(
 /// Writes one piece after another.
 #[tactic(auto, using(am_outside::proofs::Written::one_after_another))]
 pub fn write_both<O: Sink>(out: &mut O, first: &[u8], second: &[u8]) -> Result<(), SinkFailed>
-    ensures whole { OnOk result (O.told out.new ≡ append_known (O.told out.old) (first.now ++ second.now)) }
-    ensures part { OnErr result (AppendsPart (O.told out.old) (first.now ++ second.now) (O.told out.new)) }
+    ensures whole { OnOk result
+        (O.told out.new ≡ append_known (O.told out.old) (first.now ++ second.now)) }
+    ensures part { OnErr result
+        (AppendsPart (O.told out.old) (first.now ++ second.now) (O.told out.new)) }
     ensures failed { OnErr result (Rose (O.faults out.old) (O.faults out.new)) }
 {
     write_whole(out, first)?;

@@ -2,7 +2,8 @@ use super::*;
 
 // Files as other programs write them.
 
-// A record of a match in export format: all mandatory tags, an auction with notes, the whole play, lines that end in CR LF.
+// A record of a match in export format: all mandatory tags, an auction with notes, the whole play,
+// lines that end in CR LF.
 const MATCH: &str = "% PBN 2.1\r
 % EXPORT\r
 %Content-type: text/x-pbn; charset=ISO-8859-1\r
@@ -36,7 +37,8 @@ D8 DK D5 D4 ; the tens are out\r
 \r
 ";
 
-// Boards from a dealing program: a comment on each, several tag pairs on a line, no auction and no play.
+// Boards from a dealing program: a comment on each, several tag pairs on a line, no auction and no
+// play.
 const HANDS: &str = "%DealMaker 1.07, set 0231
 { Set 0231, board 1 }
 [Board \"1\"] [Dealer \"N\"] [Vulnerable \"None\"]
@@ -52,7 +54,8 @@ const HANDS: &str = "%DealMaker 1.07, set 0231
 ;{ no more boards
 ";
 
-// A club's results: tables as sections, with column heads that have backslashes, and names in quotes.
+// A club's results: tables as sections, with column heads that have backslashes, and names in
+// quotes.
 const SCORES: &str = "% PBN 2.1
 [Event \"Tuesday pairs\"]
 [Board \"12\"]
@@ -69,7 +72,8 @@ E  C  6
  7  2 4S=     -  \"-100\"
 ";
 
-// An annotated collection: long comments with brackets and quotes in them, escaped lines inside and outside of comments.
+// An annotated collection: long comments with brackets and quotes in them, escaped lines inside and
+// outside of comments.
 const BOOK: &str = "[Event \"Chapter 4\"]
 {
   <p>South plays 6[S]. \"How do you play?\"</p>
@@ -92,7 +96,8 @@ CK CA C3 C4
 [Event \"Chapter 5\"][Board \"5\"][Deal \"#\"][Contract \"#\"]
 ";
 
-// A table's log: values that stand for those of the game before, question marks and empty values, alerts, a hand that was claimed.
+// A table's log: values that stand for those of the game before, question marks and empty values,
+// alerts, a hand that was claimed.
 const LOG: &str = "[Event \"#Evening\"]
 [Site \"\"]
 [Board \"1\"]
@@ -117,7 +122,8 @@ D5 DA DT D3
 [Auction \"E\"] Pass Pass Pass Pass
 ";
 
-// Exercises: one line a game, old line ends and new ones, lines of blanks in between, the last line without an end.
+// Exercises: one line a game, old line ends and new ones, lines of blanks in between, the last line
+// without an end.
 const DRILLS: &str =
     "\u{feff}[Event \"Drill\"][Board \"1\"][Deal \"N:32... A7... KJ... Q5...\"][Play \"N\"]S2 S7 SJ SQ *\r
  \t \r

@@ -6,13 +6,13 @@ use Rattle.alphamu_core.proofs.plain.+front.Given as goal
 
 -- each card is one fewer to play
 abbrev pub decreases-node_front : goal.decreases-node_front
-decreases-node_front l = 2 * cards_left l.node.now.table + 1
+decreases-node_front l = 2 * cards_left l.node.now.position + 1
 
 abbrev pub decreases-declarers_front : goal.decreases-declarers_front
-decreases-declarers_front l = 2 * cards_left l.node.now.table
+decreases-declarers_front l = 2 * cards_left l.node.now.position
 
 abbrev pub decreases-defenders_front : goal.decreases-defenders_front
-decreases-defenders_front l = 2 * cards_left l.node.now.table
+decreases-defenders_front l = 2 * cards_left l.node.now.position
 
 abbrev pub invariant-declarers_front-cards : goal.invariant-declarers_front-cards
 invariant-declarers_front-cards l = OursSoFar l.node (l.moves - 1) l.cards l.front l.fn.budget l.budget

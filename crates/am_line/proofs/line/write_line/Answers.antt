@@ -1,38 +1,38 @@
-use Rattle.am_line.specs.Lines.{line_of}
+use Rattle.am_line.specs.Lines.{status_line}
 use Rattle.am_line.proofs.line.write_line.Goals as goal
 
 pub returns-in-Unread-clause-written : goal.returns-in-Unread-clause-written
-unfolding line_of
+unfolding status_line
 returns-in-Unread-clause-written g c =
     rw (c.in-Unread.is, ← c.file_name.ensures) c.write_pieces-in-Unread.ensures.written
 
 pub returns-in-BadPbn-clause-written : goal.returns-in-BadPbn-clause-written
-unfolding line_of
+unfolding status_line
 returns-in-BadPbn-clause-written g c =
     rw (c.in-BadPbn.is, ← c.format.ensures.text, ← c.as_bytes.ensures.value, ← c.kind_name.ensures) c.write_pieces-in-BadPbn.ensures.written
 
 pub returns-in-NoTurn-clause-written : goal.returns-in-NoTurn-clause-written
-unfolding line_of
+unfolding status_line
 returns-in-NoTurn-clause-written g c = rw (c.in-NoTurn.is) c.write_pieces-in-NoTurn.ensures.written
 
 pub returns-in-Spent-clause-written : goal.returns-in-Spent-clause-written
-unfolding line_of
+unfolding status_line
 returns-in-Spent-clause-written g c = rw (c.in-Spent.is) c.write_spent.ensures.written
 
 pub returns-in-Unwritten-clause-written : goal.returns-in-Unwritten-clause-written
-unfolding line_of
+unfolding status_line
 returns-in-Unwritten-clause-written g c = rw (c.in-Unwritten.is) c.write_pieces-in-Unwritten.ensures.written
 
 pub returns-in-Memory-clause-written : goal.returns-in-Memory-clause-written
-unfolding line_of
+unfolding status_line
 returns-in-Memory-clause-written g c = rw (c.in-Memory.is) c.write_pieces-in-Memory.ensures.written
 
 pub returns-in-TooLong-clause-written : goal.returns-in-TooLong-clause-written
-unfolding line_of
+unfolding status_line
 returns-in-TooLong-clause-written g c =
     rw (c.in-TooLong.is, ← c.file_name-in-TooLong.ensures) c.write_pieces-in-TooLong.ensures.written
 
 pub returns-in-BadReport-clause-written : goal.returns-in-BadReport-clause-written
-unfolding line_of
+unfolding status_line
 returns-in-BadReport-clause-written g c =
     rw (c.in-BadReport.is, ← c.format-in-BadReport.ensures.text, ← c.as_bytes-in-BadReport.ensures.value, ← c.report_name.ensures) c.write_pieces-in-BadReport.ensures.written

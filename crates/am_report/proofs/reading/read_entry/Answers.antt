@@ -5,8 +5,8 @@ use Rattle.byte_text.specs.Lines.{said_at}
 use Rattle.am_report.specs.declared.fault.ReportFault.{ReportFault}
 use Rattle.am_report.specs.declared.fault.ReportKind.TheVariants as kinds
 use Rattle.am_report.specs.ReportLines.{vector_said}
-use Rattle.am_report.specs.Reading.{expected, entry_read, IsFaultOf}
-use Rattle.am_report.proofs.ReportSteps.{same_fault, entry_read-no_vector, entry_read-plan, entry_read-plan_fault}
+use Rattle.am_report.specs.Reading.{expected, entry_read, IsReportFaultOf}
+use Rattle.am_report.proofs.ReportSteps.{same_fault, entry_read-no_vector, entry_read-plan, entry_read-report_fault}
 use Rattle.am_report.proofs.reading.read_entry.Goals as goal
 
 pub returns-in_err-vector-clause-read : goal.returns-in_err-vector-clause-read
@@ -23,5 +23,5 @@ returns-in-Ok-clause-read c =
 
 pub returns-in-Err-clause-read : goal.returns-in-Err-clause-read
 returns-in-Err-clause-read c =
-    subst (λ (fault : ReportFault). IsFaultOf fault (entry_read c.args.bytes.now c.args.at)) (sym c.plan_fault.ensures)
-    (entry_read-plan_fault c.args.bytes.now c.args.at c.in_ok-vector.vector c.in_ok-vector.next c.in-Err.fault c.in_ok-vector.ensures.read c.in-Err.ensures.fault)
+    subst (λ (fault : ReportFault). IsReportFaultOf fault (entry_read c.args.bytes.now c.args.at)) (sym c.report_fault.ensures)
+    (entry_read-report_fault c.args.bytes.now c.args.at c.in_ok-vector.vector c.in_ok-vector.next c.in-Err.fault c.in_ok-vector.ensures.read c.in-Err.ensures.fault)

@@ -1,6 +1,6 @@
 use Rattle.std.proofs.Common.{ap, ◌∙◌}
 use Rattle.card_sets.specs.SetWords.{has_card, cards_where}
-use Rattle.trick_rules.specs.Table.{Played}
+use Rattle.trick_rules.specs.Positions.{TrickValue}
 use Rattle.dd_solver.proofs.Kept.{first-none, first-more, first-all}
 use Rattle.dd_solver.proofs.equals.cards_of.Goals as goal
 
@@ -15,4 +15,4 @@ loop-card-preserved c =
 pub returns : goal.returns
 returns c =
     first-all c.as_slice-card-items.result.now c.loop-card.cards c.loop-card.card-index c.loop-card-test.false c.loop-card.invariant
-    ∙ ap (λ xs. cards_where (has_card xs)) (c.as_slice-card-items.ensures.value ∙ ap (λ (trick : Played). trick.cards) c.trick.view_is)
+    ∙ ap (λ xs. cards_where (has_card xs)) (c.as_slice-card-items.ensures.value ∙ ap (λ (trick : TrickValue). trick.cards) c.trick.view_is)

@@ -1,6 +1,6 @@
 use Rattle.std.proofs.Common.{ap, sym, ◌∙◌}
 use Rattle.card_sets.specs.SetWords.{has_card}
-use Rattle.trick_rules.specs.Table.{State}
+use Rattle.trick_rules.specs.Positions.{State}
 use Rattle.trick_rules.specs.Play.{legal_in}
 use Rattle.trick_rules.proofs.CardLists.{take_out-low}
 use Rattle.dd_solver.proofs.Minimax.{first_legal, rest_legal}
@@ -9,7 +9,7 @@ use Rattle.dd_solver.proofs.equals.one_of_equals.Goals as goal
 
 pub loop-card-init : goal.loop-card-init
 loop-card-init c =
-    let s : State = record { table = c.args.position.now; left = c.args.left } in
+    let s : State = record { position = c.args.position.now; left = c.args.left } in
     record {
       rest = λ card h. sym (ap (λ x. has_card x card) c.legal_in-legal.ensures) ∙ h;
       legal = λ card h. sym (ap (λ x. has_card x card) c.legal_in-legal.ensures) ∙ h;
@@ -18,7 +18,7 @@ loop-card-init c =
 
 pub loop-card-preserved-in-Some-next_equal : goal.loop-card-preserved-in-Some-next_equal
 loop-card-preserved-in-Some-next_equal c =
-    let s : State = record { table = c.args.position.now; left = c.args.left } in
+    let s : State = record { position = c.args.position.now; left = c.args.left } in
     let card = c.in-Some.card in
     let rest = c.pop_first.new.self in
     let legal = first_legal c.loop-card.rest rest (legal_in s) card c.in-Some.ensures.value c.loop-card.invariant.rest in
@@ -32,7 +32,7 @@ loop-card-preserved-in-Some-next_equal c =
 
 pub loop-card-preserved : goal.loop-card-preserved
 loop-card-preserved c =
-    let s : State = record { table = c.args.position.now; left = c.args.left } in
+    let s : State = record { position = c.args.position.now; left = c.args.left } in
     record {
       rest = rest_legal c.loop-card.rest c.pop_first.new.self (legal_in s) c.in-Some.card c.in-Some.ensures.value c.loop-card.invariant.rest;
       legal = c.loop-card.invariant.legal;
@@ -44,5 +44,5 @@ returns-clause-legal c = c.loop-card.invariant.legal
 
 pub returns-clause-answer : goal.returns-clause-answer
 returns-clause-answer c ours =
-    let s : State = record { table = c.args.position.now; left = c.args.left } in
+    let s : State = record { position = c.args.position.now; left = c.args.left } in
     choice-kept s ours c.loop-card.kept c.loop-card.invariant.legal c.loop-card.invariant.spoken

@@ -1,13 +1,13 @@
 use Rattle.std.proofs.Common.{length}
 use Rattle.card_sets.specs.SetWords.{IsSubset}
-use Rattle.trick_rules.specs.Table.{State}
+use Rattle.trick_rules.specs.Positions.{State}
 use Rattle.trick_rules.specs.Play.{legal_in}
 use Rattle.dd_solver.proofs.Kept.{SpokenFor}
 use Rattle.dd_solver.proofs.equals.one_of_equals.Given as goal
 
 abbrev pub invariant-loop-card : goal.invariant-loop-card
 invariant-loop-card l =
-    let s : State = record { table = l.position; left = l.fn.left } in
+    let s : State = record { position = l.position; left = l.fn.left } in
     record { rest : IsSubset l.rest (legal_in s); legal : IsSubset l.kept (legal_in s); spoken : SpokenFor s l.kept }
 
 abbrev pub decreases-loop-card : goal.decreases-loop-card

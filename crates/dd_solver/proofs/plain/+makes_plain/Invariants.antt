@@ -1,6 +1,6 @@
 use Rattle.std.proofs.Common.{◌≡◌, length}
 use Rattle.card_sets.specs.SetWords.{IsSubset}
-use Rattle.trick_rules.specs.Table.{State}
+use Rattle.trick_rules.specs.Positions.{State}
 use Rattle.trick_rules.specs.Play.{cards_left, legal_in, makes}
 use Rattle.dd_solver.specs.Choices.{choice_makes}
 use Rattle.dd_solver.proofs.plain.+makes_plain.Given as goal
@@ -10,7 +10,7 @@ decreases-makes_plain l = cards_left l.position.now
 
 abbrev pub invariant-loop-card : goal.invariant-loop-card
 invariant-loop-card l =
-    let s : State = record { table = l.position; left = l.left } in
+    let s : State = record { position = l.position; left = l.left } in
     record { answer : makes s ≡ choice_makes l.ours s l.cards; legal : IsSubset l.cards (legal_in s) }
 
 abbrev pub decreases-loop-card : goal.decreases-loop-card

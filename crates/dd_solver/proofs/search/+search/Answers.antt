@@ -1,7 +1,7 @@
 use Rattle.std.proofs.Common.{◌≡◌, Bool, ℕ, None, List, not, refl, subst, ap, sym, ◌∙◌, arith}
 use Rattle.card_sets.specs.SetWords.{has_card}
 use Rattle.card_sets.proofs.Sets.{IsSubset-filter}
-use Rattle.trick_rules.specs.Table.{State, to_play, IsSound, IsState}
+use Rattle.trick_rules.specs.Positions.{State, to_play, IsSound, IsState}
 use Rattle.trick_rules.specs.Play.{after, decided, is_declarers, legal_in, cards_left, makes}
 use Rattle.trick_rules.proofs.PlayLaws.{makes_where_decided, a_legal_card_can_be_played, a_legal_card_leads_to_a_state, a_card_leaves_one_fewer}
 use Rattle.trick_rules.proofs.Decisions.{open-decided}
@@ -11,30 +11,30 @@ use Rattle.dd_solver.proofs.search.+search.Goals as goal
 
 pub search-returns-in-Some : goal.search-returns-in-Some
 search-returns-in-Some t c =
-    let s : State = record { table = c.args.position.now; left = c.args.left } in
+    let s : State = record { position = c.args.position.now; left = c.args.left } in
     let ok : IsState s = record { sound = subst IsSound c.position.view_is c.position.invariant; fits = c.requires } in
     sym (makes_where_decided s c.in-Some.made ok (sym c.decided.ensures ∙ c.in-Some.is))
 
 pub best_of-play-requires : goal.best_of-play-requires
 best_of-play-requires t c =
-    let s : State = record { table = c.args.position.now; left = c.args.left } in
+    let s : State = record { position = c.args.position.now; left = c.args.left } in
     let legal = first_legal c.loop-card.rest c.pop_first.new.self (legal_in s) c.in-Some.card c.in-Some.ensures.value c.loop-card.invariant.legal in
     a_legal_card_can_be_played s c.in-Some.card c.requires.state legal
 
 pub best_of-search-requires : goal.best_of-search-requires
 best_of-search-requires t c =
-    let s : State = record { table = c.args.position.now; left = c.args.left } in
+    let s : State = record { position = c.args.position.now; left = c.args.left } in
     let card = c.in-Some.card in
     let ok : IsState s = c.requires.state in
     let legal = first_legal c.loop-card.rest c.pop_first.new.self (legal_in s) card c.in-Some.ensures.value c.loop-card.invariant.legal in
-    let fewer = a_card_leaves_one_fewer s.table card ok.sound (a_legal_card_can_be_played s card ok legal) in (
+    let fewer = a_card_leaves_one_fewer s.position card ok.sound (a_legal_card_can_be_played s card ok legal) in (
       omega (arith, fewer, ap cards_left c.play.ensures.value, c.decreases),
       rw (c.play.ensures.value, c.without.ensures.value) (a_legal_card_leads_to_a_state s card ok legal).fits,
     )
 
 pub best_of-returns-then-search-ours : goal.best_of-returns-then-search-ours
 best_of-returns-then-search-ours t c =
-    let s : State = record { table = c.args.position.now; left = c.args.left } in
+    let s : State = record { position = c.args.position.now; left = c.args.left } in
     let card = c.in-Some.card in
     let got : makes (after s card) ≡ c.args.ours = sym (rw (c.play.ensures.value, c.without.ensures.value) at c.search.ensures) ∙ same_answer c.search.result c.args.ours c.if-search-ours.true in
     sym (c.loop-card.invariant.answer ∙ ap (choice_makes c.args.ours s) c.in-Some.ensures.value ∙ choice-settled s c.args.ours card c.pop_first.new.self got)
@@ -44,7 +44,7 @@ best_of-loop-card-init t c = record { answer = refl; legal = c.requires.legal }
 
 pub best_of-loop-card-preserved : goal.best_of-loop-card-preserved
 best_of-loop-card-preserved t c =
-    let s : State = record { table = c.args.position.now; left = c.args.left } in
+    let s : State = record { position = c.args.position.now; left = c.args.left } in
     let card = c.in-Some.card in
     let got : makes (after s card) ≡ not c.args.ours = sym (rw (c.play.ensures.value, c.without.ensures.value) at c.search.ensures) ∙ other_answer c.search.result c.args.ours c.if-search-ours.false in
     record {
@@ -54,17 +54,17 @@ best_of-loop-card-preserved t c =
 
 pub best_of-returns : goal.best_of-returns
 best_of-returns t c =
-    let s : State = record { table = c.args.position.now; left = c.args.left } in
+    let s : State = record { position = c.args.position.now; left = c.args.left } in
     let none = c.in_default.ensures in
     sym (c.loop-card.invariant.answer ∙ ap (choice_makes c.args.ours s) none.value.0 ∙ choice-none s c.args.ours)
 
 -- the answer, by the cards that are tried
-answer_by : (s : State) (ours : Bool) (cards : List ℕ) → IsState s → decided s.table ≡ None → is_declarers (to_play s.table) ≡ ours → choice_makes ours s cards ≡ choice_makes ours s (legal_in s) → makes s ≡ choice_makes ours s cards
-answer_by s ours cards ok open' turn same = choice-legal s ours ok (open-decided s.table open') turn ∙ sym same
+answer_by : (s : State) (ours : Bool) (cards : List ℕ) → IsState s → decided s.position ≡ None → is_declarers (to_play s.position) ≡ ours → choice_makes ours s cards ≡ choice_makes ours s (legal_in s) → makes s ≡ choice_makes ours s cards
+answer_by s ours cards ok open' turn same = choice-legal s ours ok (open-decided s.position open') turn ∙ sym same
 
 pub search_cards-returns-then-best_of-ours : goal.search_cards-returns-then-best_of-ours
 search_cards-returns-then-best_of-ours t c =
-    let s : State = record { table = c.args.position.now; left = c.args.left } in
+    let s : State = record { position = c.args.position.now; left = c.args.left } in
     let ours = c.is_ours-ours.result in
     let cards = c.one_of_equals-cards.result in
     let early : choice_makes ours s c.likely-early.result ≡ ours = sym c.best_of.ensures ∙ same_answer c.best_of.result ours c.if-best_of-ours.true in
@@ -85,7 +85,7 @@ search_cards-best_of-requires-2 t c = (
 
 pub search_cards-returns : goal.search_cards-returns
 search_cards-returns t c =
-    let s : State = record { table = c.args.position.now; left = c.args.left } in
+    let s : State = record { position = c.args.position.now; left = c.args.left } in
     let ours = c.is_ours-ours.result in
     let cards = c.one_of_equals-cards.result in
     let early : choice_makes ours s c.likely-early.result ≡ not ours = sym c.best_of.ensures ∙ other_answer c.best_of.result ours c.if-best_of-ours.false in

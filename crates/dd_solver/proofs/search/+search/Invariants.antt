@@ -1,6 +1,6 @@
 use Rattle.std.proofs.Common.{◌≡◌, ◌+◌, ◌*◌, length}
 use Rattle.card_sets.specs.SetWords.{IsSubset}
-use Rattle.trick_rules.specs.Table.{State}
+use Rattle.trick_rules.specs.Positions.{State}
 use Rattle.trick_rules.specs.Play.{cards_left, legal_in}
 use Rattle.dd_solver.specs.Choices.{choice_makes}
 use Rattle.dd_solver.proofs.search.+search.Given as goal
@@ -16,7 +16,7 @@ decreases-best_of l = 3 * cards_left l.position.now
 
 abbrev pub invariant-best_of-loop-card : goal.invariant-best_of-loop-card
 invariant-best_of-loop-card l =
-    let s : State = record { table = l.position; left = l.left } in
+    let s : State = record { position = l.position; left = l.left } in
     record { answer : choice_makes l.ours s l.fn.cards ≡ choice_makes l.ours s l.rest; legal : IsSubset l.rest (legal_in s) }
 
 abbrev pub decreases-best_of-loop-card : goal.decreases-best_of-loop-card

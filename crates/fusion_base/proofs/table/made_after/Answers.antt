@@ -1,5 +1,5 @@
 use Rattle.std.proofs.Common.{◌≡◌, ◌<◌, ◌∙◌, length, replicate, set, false, ap, sym, subst, arith, rules}
-use Rattle.trick_rules.specs.Table.{FitsLeft}
+use Rattle.trick_rules.specs.Positions.{FitsLeft}
 use Rattle.trick_rules.specs.Play.{CanPlay, after_card, makes}
 use Rattle.trick_rules.proofs.PlayLaws.{a_choice_can_be_played}
 use Rattle.fusion_base.proofs.Sampled.{made, made_upto, made_upto-none, made_upto-more, made_upto-all, length-made_upto, fits_after}
@@ -18,7 +18,7 @@ makes-requires c =
     let n = c.args.node.now in
     let fits = fits_after n c.args.card c.position.ensures.a_node c.requires.ours c.requires.choice c.loop-place.place c.left.result (search rules) c.left.ensures in
     subst (λ table. FitsLeft table c.without-left.result) (sym (c.play-after.ensures.value ∙ ap (λ table. after_card table c.args.card) c.position.ensures.value))
-    (subst (λ left. FitsLeft (after_card n.table c.args.card) left) (sym c.without-left.ensures.value) fits)
+    (subst (λ left. FitsLeft (after_card n.position c.args.card) left) (sym c.without-left.ensures.value) fits)
 
 pub set-made-requires : goal.set-made-requires
 set-made-requires c =
@@ -31,8 +31,8 @@ loop-place-preserved c =
     let place = c.loop-place.place in
     let made_here : c.makes.result ≡ made n c.args.card c.left.result =
     c.makes.ensures
-    ∙ ap (λ table. makes (record { table = table; left = c.without-left.result })) (c.play-after.ensures.value ∙ ap (λ table. after_card table c.args.card) c.position.ensures.value)
-    ∙ ap (λ left. makes (record { table = after_card n.table c.args.card; left = left })) c.without-left.ensures.value in
+    ∙ ap (λ table. makes (record { position = table; left = c.without-left.result })) (c.play-after.ensures.value ∙ ap (λ table. after_card table c.args.card) c.position.ensures.value)
+    ∙ ap (λ left. makes (record { position = after_card n.position c.args.card; left = left })) c.without-left.ensures.value in
     c.set-made.ensures
     ∙ ap (λ bits. set bits place c.makes.result) c.loop-place.invariant
     ∙ ap (λ bit. set (made_upto n c.args.card place) place bit) made_here

@@ -2,9 +2,9 @@ use Rattle.std.proofs.Common.{◌≡◌, ◌+◌, ◌++◌, ◌<◌, ◌≤◌, 
 use Rattle.std.specs.Prelude.{MatchOption}
 use Rattle.std.specs.List.{enumerate_from}
 use Rattle.std.proofs.lemmas.List.{length-append}
-use Rattle.trick_rules.specs.Table.{Table}
+use Rattle.trick_rules.specs.Positions.{PositionValue}
 use Rattle.layout_list.specs.declared.list.Sorting.{Sorting}
-use Rattle.layout_list.specs.Verdicts.{table_after}
+use Rattle.layout_list.specs.Verdicts.{position_after}
 use Rattle.layout_list.specs.Layouts.{verdict, numbers_kept, lefts_kept, dropped, IsAfter}
 use Rattle.layout_list.proofs.Sort.{moved, unmoved, split_at, numbers_yes, numbers_no, lefts_yes, lefts_no, dropped_yes, dropped_no, node_more, same_position}
 use Rattle.layout_list.proofs.list.sort_out.Goals as goal
@@ -33,7 +33,7 @@ loop-index-preserved c =
           let a = w.in_ok-allow-in-Ok.ensures in
           let b = w.in-Ok.ensures in
           let none : verdict plays t layout ≡ None = ap (λ t. verdict plays t layout) (sym c.copy.ensures) ∙ b.verdict in
-          let position = b.position ∙ ap (λ t. table_after t plays) c.copy.ensures in
+          let position = b.position ∙ ap (λ t. position_after t plays) c.copy.ensures in
           let longer = a.lefts ∙ ap (λ h. c.loop-index.sorting.lefts.items ++ h ∷ []) b.left in
           let after : IsAfter plays t w.allow.new.self.lefts.items w.in-Ok.followed.position =
           node_more plays t c.loop-index.sorting.lefts.items w.allow.new.self.lefts.items c.loop-index.sorting.position w.in-Ok.followed.position w.in-Ok.followed.left inv.position position b.state a.lefts (omega (arith, inv.count, c.requires.few)) in
@@ -42,7 +42,7 @@ loop-index-preserved c =
             numbers = moved _ _ _ _ _ _ inv.numbers (ap (numbers_kept plays t) split ∙ numbers_yes plays t (i + 1) layout rest none) a.numbers;
             lefts = moved _ _ _ _ _ _ inv.lefts (ap (lefts_kept plays t) split ∙ lefts_yes plays t (i + 1) layout rest none) longer;
             ruled_out = unmoved _ _ _ _ _ inv.ruled_out (ap (dropped plays t) split ∙ dropped_yes plays t (i + 1) layout rest none) a.dropped;
-            position = subst (λ (o : Option Table). MatchOption o (w.allow.new.self.lefts.items ≡ []) (IsAfter plays t w.allow.new.self.lefts.items)) (sym a.position) after;
+            position = subst (λ (o : Option PositionValue). MatchOption o (w.allow.new.self.lefts.items ≡ []) (IsAfter plays t w.allow.new.self.lefts.items)) (sym a.position) after;
           })
       | in-Err+in_ok-rule_out-in-Err w ↦
           let a = w.in_ok-rule_out-in-Err.ensures in

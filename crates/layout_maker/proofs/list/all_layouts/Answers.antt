@@ -2,9 +2,9 @@ use Rattle.std.proofs.Common.{◌≡◌, List, ℕ, Ok, Some, inr, ap, ◌∙◌
 use Rattle.std.specs.Prelude.{IfSome, MatchResult, Result}
 use Rattle.card_sets.specs.SetWords.{IsCardSet}
 use Rattle.pbn_deal.specs.Boards.{BoardValue, FitsUnseen, IsBoard}
-use Rattle.layout_list.specs.declared.line.Defenders.{Defenders}
+use Rattle.layout_list.specs.declared.line.Layout.{Layout}
 use Rattle.layout_maker.specs.declared.fault.MakeFault.{MakeFault}
-use Rattle.layout_maker.specs.Divisions.{layout_with, if_few, IsFaultOf}
+use Rattle.layout_maker.specs.Divisions.{layout_with, if_few, IsMakeFaultOf}
 use Rattle.layout_maker.specs.Choosing.{fitting_hands}
 use Rattle.layout_maker.proofs.Told.{layouts_over-fitting, layouts_over-none, layouts_made-shown}
 use Rattle.layout_maker.proofs.list.all_layouts.Goals as goal
@@ -44,4 +44,4 @@ returns c =
     ∙ ap if_few
     (layouts_over-fitting b unseen may (unseen_set b unseen shown c.unseen.ensures.sound) (sym c.may_hold.ensures ∙ c.in-Some-may_hold.is)
     ∙ ap (map (layout_with unseen)) (ap (λ n. fitting_hands may n unseen) (sym size) ∙ c.in-Some-fitting_choices.ensures.hands)) in
-    subst (λ (made : Result (List Defenders) MakeFault). MatchResult c.listed.result (λ layouts. made ≡ Ok layouts.items) (IsFaultOf made)) (sym same) c.listed.ensures
+    subst (λ (made : Result (List Layout) MakeFault). MatchResult c.listed.result (λ layouts. made ≡ Ok layouts.items) (IsMakeFaultOf made)) (sym same) c.listed.ensures

@@ -7,7 +7,7 @@ use Rattle.pbn_deal.specs.declared.mark.Mark.{Mark}
 use Rattle.pbn_deal.specs.declared.mark.Mark.TheVariants.{Plus, Gap, Card}
 use Rattle.pbn_deal.specs.declared.section.Entry.{Entry}
 use Rattle.pbn_deal.specs.Marks.{mark_of}
-use Rattle.pbn_deal.specs.Sections.{section_read, prepend, is_end, is_plus, is_skipped, is_other, is_card, before_end, card_in}
+use Rattle.pbn_deal.specs.Sections.{section_read, prepend, is_end, is_plus, is_skipped_mark, is_other, is_card, before_end, card_marked}
 use Rattle.pbn_deal.proofs.SectionSteps.{section_read-last_plus, count-before_end, entry_more, plus_no_card}
 use Rattle.pbn_deal.proofs.section.read_section.Goals as goal
 use Rattle.pbn_deal.proofs.section.read_section.Goals.{in-Card, in-Plus-2, in-Gap}
@@ -40,17 +40,17 @@ returns-in-Plus c =
 entry_step : (tokens : List TokenValue) (i : ℕ) (t inside : TokenValue) (left now : ℕ) (entries longer : List Entry) (card : Option ℕ) (m : Mark)
     → left ≡ count_by is_card (before_end (drop i tokens)) → section_read tokens ≡ prepend entries (section_read (drop i tokens))
     → drop i tokens ≡ t ∷ drop (i + 1) tokens → mark_of t.text ≡ m
-    → is_end m ≡ false → is_skipped m ≡ false → is_other m ≡ false → (is_plus m ≡ true → 0 < left)
-    → longer ≡ entries ++ (record { card = card; line = inside.line } ∷ []) → inside ≡ t → card ≡ card_in m → now ≡ left - cond (is_some (card_in m)) 1 0
+    → is_end m ≡ false → is_skipped_mark m ≡ false → is_other m ≡ false → (is_plus m ≡ true → 0 < left)
+    → longer ≡ entries ++ (record { card = card; line = inside.line } ∷ []) → inside ≡ t → card ≡ card_marked m → now ≡ left - cond (is_some (card_marked m)) 1 0
     → record { cards : now ≡ count_by is_card (before_end (drop (i + 1) tokens)); read : section_read tokens ≡ prepend longer (section_read (drop (i + 1) tokens)) }
 entry_step tokens i t inside left now entries longer card m cards read split is goes counts known more pushed view same falls =
     let counted = cards ∙ ap (λ ts. count_by is_card (before_end ts)) split ∙ count-before_end t (drop (i + 1) tokens) m is goes in
     let plus : (p : is_plus m ≡ true) → 0 < count_by is_card (before_end (drop (i + 1) tokens)) = λ p.
-    let some = more p in let none : cond {A = ℕ} (is_some (card_in m)) 1 0 ≡ 0 = plus_no_card m p in omega (arith, counted) in
+    let some = more p in let none : cond {A = ℕ} (is_some (card_marked m)) 1 0 ≡ 0 = plus_no_card m p in omega (arith, counted) in
     record {
       cards = omega (arith, counted, falls);
       read = entry_more tokens (drop (i + 1) tokens) t entries longer (drop i tokens) m read split is goes counts known plus
-          (pushed ∙ ap (λ card. entries ++ (record { card = card; line = inside.line } ∷ [])) same ∙ ap (λ v. entries ++ (record { card = card_in m; line = v.line } ∷ [])) view);
+          (pushed ∙ ap (λ card. entries ++ (record { card = card; line = inside.line } ∷ [])) same ∙ ap (λ v. entries ++ (record { card = card_marked m; line = v.line } ∷ [])) view);
     }
 
 pub loop-token-preserved : goal.loop-token-preserved

@@ -7,13 +7,13 @@ use Rattle.strategy_tree.specs.Bridge.{bridge}
 use Rattle.plain_fronts.proofs.plain.+front.Given as goal
 
 abbrev pub decreases-plain_front : goal.decreases-plain_front
-decreases-plain_front l = 2 * cards_left l.node.now.table + 1
+decreases-plain_front l = 2 * cards_left l.node.now.position + 1
 
 abbrev pub decreases-front_at_declarer : goal.decreases-front_at_declarer
-decreases-front_at_declarer l = 2 * cards_left l.node.now.table
+decreases-front_at_declarer l = 2 * cards_left l.node.now.position
 
 abbrev pub decreases-front_at_defender : goal.decreases-front_at_defender
-decreases-front_at_defender l = 2 * cards_left l.node.now.table
+decreases-front_at_defender l = 2 * cards_left l.node.now.position
 
 abbrev pub invariant-front_at_declarer-cards : goal.invariant-front_at_declarer-cards
 invariant-front_at_declarer-cards l = record {

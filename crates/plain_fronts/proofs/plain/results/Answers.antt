@@ -11,8 +11,8 @@ loop-place-preserved c =
     let low : c.loop-place.place < length n.lefts = search rules in
     c.set-made.ensures
     ∙ ap (λ made. set made c.loop-place.place c.makes_plain.result) c.loop-place.invariant
-    ∙ ap (λ made. set (results_upto (λ left. makes (record { table = n.table; left = left })) n.lefts c.loop-place.place) c.loop-place.place made) (search rules)
-    ∙ results_upto-more (λ left. makes (record { table = n.table; left = left })) n.lefts c.loop-place.place c.left.result low is
+    ∙ ap (λ made. set (results_upto (λ left. makes (record { position = n.position; left = left })) n.lefts c.loop-place.place) c.loop-place.place made) (search rules)
+    ∙ results_upto-more (λ left. makes (record { position = n.position; left = left })) n.lefts c.loop-place.place c.left.result low is
 
 pub returns : goal.returns
-returns c = c.loop-place.invariant ∙ results_upto-all c.args.node.now.table c.args.node.now.lefts c.loop-place.place (omega arith)
+returns c = c.loop-place.invariant ∙ results_upto-all c.args.node.now.position c.args.node.now.lefts c.loop-place.place (omega arith)

@@ -4,4 +4,4 @@ use Rattle.plain_fronts.proofs.Results.{results_upto}
 use Rattle.plain_fronts.proofs.plain.results.Given as goal
 
 abbrev pub invariant-loop-place : goal.invariant-loop-place
-invariant-loop-place l = l.made ≡ results_upto (λ left. makes (record { table = l.node.table; left = left })) l.node.lefts l.place
+invariant-loop-place l = l.made ≡ results_upto (λ left. makes (record { position = l.node.position; left = left })) l.node.lefts l.place

@@ -1,6 +1,6 @@
 use Rattle.std.proofs.Common.{◌≡◌, sym, ap, subst, Err}
 use Rattle.alphamu_core.specs.declared.answers.RootFault.TheVariants.{Spent}
-use Rattle.plan_finder.specs.Choices.{IsSpentAt}
+use Rattle.plan_finder.specs.Choices.{IsChoiceSpentAt}
 use Rattle.plan_finder.proofs.Passed.{some_keeps, spent_here, same_width, none_more}
 use Rattle.plan_finder.proofs.choice.first_choice.Goals as goal
 
@@ -9,7 +9,7 @@ returns-in-Err-clause-spent g c = λ card e.
     let named : c.at_card.result ≡ Spent card = cc in
     let fault = c.at_card.ensures.only card named in
     let larger = c.in-Err.ensures.spent (ap Err fault.1) in
-    subst (λ card. IsSpentAt c.args.node.now c.args.moves c.args.vector.now c.args.nodes card) (sym fault.0)
+    subst (λ card. IsChoiceSpentAt c.args.node.now c.args.moves c.args.vector.now c.args.nodes card) (sym fault.0)
     (spent_here c.args.node.now c.args.moves c.args.vector.now c.cards.invariant.so c.in-Some.ensures.value c.in_ok-child.ensures.node c.args.nodes c.in-Some.ensures.a_set larger)
 
 pub pick-requires : goal.pick-requires

@@ -9,7 +9,7 @@ use Rattle.strategy_tree.proofs.BridgeNodes.{stopped}
 use Rattle.strategy_tree.proofs.Meanings.{plan_of-Stop, plan_of-Play, plan_of-Hear}
 use Rattle.alphamu_core.specs.declared.answers.RootFault.TheVariants.{Spent as RootSpent}
 use Rattle.alphamu_core.specs.declared.answers.SearchFault.TheVariants.{Spent}
-use Rattle.plan_finder.specs.TooLarge.{IsTooLarge}
+use Rattle.plan_finder.specs.SpentPlans.{IsPlanSpentAt}
 use Rattle.plan_finder.proofs.Picks.{open_at, a_move_left, length-of_front, own_pick, play_chosen, too_large_first, too_large_below, larger_than, node_after, fewer_after, vector_after, passed_on}
 use Rattle.plan_finder.proofs.Replied.{replied_none, replied_all, next_reply, node_below, fewer_below, spent_below, mask_width, mask_some, part_width, part_above, above_of, replied_more}
 use Rattle.plan_finder.proofs.finder.+plan.Goals as goal
@@ -91,7 +91,7 @@ plan_for-returns-clause-spent g t c = λ card e.
     let goes_on = open_at c.args.node.now c.args.moves c.stops.result c.stops.ensures c.if-stops.false in
     let named : c.at_card.result ≡ RootSpent card = cc in
     let fault = c.at_card.ensures.only card named in
-    subst (λ card. IsTooLarge c.args.node.now c.args.moves c.args.target.now c.args.nodes card) (sym fault.0)
+    subst (λ card. IsPlanSpentAt c.args.node.now c.args.moves c.args.target.now c.args.nodes card) (sym fault.0)
     (too_large_below c.args.node.now c.args.moves c.args.target.now c.args.nodes c.in_ok-first.first goes_on c.requires.target c.in_ok-first.ensures.first (c.in-Err.ensures.spent (ap Err fault.1)))
 
 pub plan_for-returns-clause-grown : goal.plan_for-returns-clause-grown

@@ -5,13 +5,13 @@ use Rattle.plan_finder.proofs.finder.+plan.Given as goal
 
 -- each card is one fewer to play
 abbrev pub decreases-plan_for : goal.decreases-plan_for
-decreases-plan_for g l = 2 * cards_left l.node.now.table
+decreases-plan_for g l = 2 * cards_left l.node.now.position
 
 abbrev pub decreases-plan_below : goal.decreases-plan_below
-decreases-plan_below g l = 2 * cards_left l.node.now.table + 1
+decreases-plan_below g l = 2 * cards_left l.node.now.position + 1
 
 abbrev pub decreases-replies : goal.decreases-replies
-decreases-replies g l = 2 * cards_left l.node.now.table
+decreases-replies g l = 2 * cards_left l.node.now.position
 
 abbrev pub invariant-replies-cards : goal.invariant-replies-cards
 invariant-replies-cards g l = record {

@@ -1,6 +1,6 @@
 use Rattle.std.proofs.Common.{◌≡◌, ◌∙◌, ◌≤◌, Some, length, sym, ap, arith}
 use Rattle.std.specs.List.{slice_get}
-use Rattle.trick_rules.specs.Table.{Table}
+use Rattle.trick_rules.specs.Positions.{PositionValue}
 use Rattle.strategy_games.specs.Plans.{wins, wins_vector}
 use Rattle.strategy_tree.specs.Bridge.{bridge}
 use Rattle.strategy_tree.specs.PlanMeaning.{plan_of}
@@ -19,7 +19,7 @@ returns-then-bit-get c =
     let place = c.loop-place.place in
     let bit = c.wins-bit.result in
     let fits = fits_from plan c.args.node.now c.of.result c.args.moves c.in_default.field-0 c.of.ensures c.in_default.ensures in
-    let is = c.wins-bit.ensures ∙ ap (λ (t : Table). wins bridge plan (record { table = t; left = c.left.result })) c.position.ensures.value in
+    let is = c.wins-bit.ensures ∙ ap (λ (t : PositionValue). wins bridge plan (record { position = t; left = c.left.result })) c.position.ensures.value in
     let own : slice_get (wins_vector bridge plan c.args.node.now) place ≡ Some bit = own_bit plan c.args.node.now place c.left.result c.left.ensures ∙ ap (λ b. Some b) (sym is) in
     let given = c.get.ensures ∙ ap (λ b. Some b) (unlike bit c.get.result c.if-bit-get.true) in
     (fits, differ_here (wins_vector bridge plan c.args.node.now) c.args.vector.now place bit own given c.loop-place.invariant)
@@ -29,7 +29,7 @@ loop-place-preserved c =
     let plan = plan_of c.args.plan.now in
     let place = c.loop-place.place in
     let bit = c.wins-bit.result in
-    let is = c.wins-bit.ensures ∙ ap (λ (t : Table). wins bridge plan (record { table = t; left = c.left.result })) c.position.ensures.value in
+    let is = c.wins-bit.ensures ∙ ap (λ (t : PositionValue). wins bridge plan (record { position = t; left = c.left.result })) c.position.ensures.value in
     let own : slice_get (wins_vector bridge plan c.args.node.now) place ≡ Some bit = own_bit plan c.args.node.now place c.left.result c.left.ensures ∙ ap (λ b. Some b) (sym is) in
     let given = c.get.ensures ∙ ap (λ b. Some b) (alike bit c.get.result c.if-bit-get.false) in
     same_more (wins_vector bridge plan c.args.node.now) c.args.vector.now place bit own given c.loop-place.invariant

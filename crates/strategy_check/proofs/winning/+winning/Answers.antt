@@ -1,6 +1,6 @@
 use Rattle.std.proofs.Common.{◌≡◌, ◌∙◌, true, false, sym, ap, subst, arith}
 use Rattle.card_sets.specs.SetWords.{has_card}
-use Rattle.trick_rules.specs.Table.{State}
+use Rattle.trick_rules.specs.Positions.{State}
 use Rattle.trick_rules.specs.Play.{after}
 use Rattle.trick_rules.proofs.PlayLaws as play
 use Rattle.strategy_games.specs.Misfits.{node_count, node_counts}
@@ -17,25 +17,25 @@ use Rattle.strategy_check.proofs.winning.+winning.Goals.{win_against_each-else-h
 -- ---- one plan
 
 pub wins-makes-requires : goal.wins-makes-requires
-wins-makes-requires t c = followed_state (plan_of c.args.plan.now) (record { table = c.args.position.now; left = c.args.left }) c.requires
+wins-makes-requires t c = followed_state (plan_of c.args.plan.now) (record { position = c.args.position.now; left = c.args.left }) c.requires
 
 pub wins-play-requires : goal.wins-play-requires
 wins-play-requires t c =
-    let s : State = record { table = c.args.position.now; left = c.args.left } in
+    let s : State = record { position = c.args.position.now; left = c.args.left } in
     let is = ap plan_of c.in-Play.is ∙ plan_of-Play c.in-Play.card c.in-Play.rest in
     let follow = follow_Play c.in-Play.card (plan_of c.in-Play.rest.value) s (subst (λ p. CanFollow p s) is c.requires) in
     play.a_legal_card_can_be_played s c.in-Play.card (followed_state (plan_of c.args.plan.now) s c.requires) follow.0
 
 pub wins-wins-requires : goal.wins-wins-requires
 wins-wins-requires t c =
-    let s : State = record { table = c.args.position.now; left = c.args.left } in
+    let s : State = record { position = c.args.position.now; left = c.args.left } in
     let is = ap plan_of c.in-Play.is ∙ plan_of-Play c.in-Play.card c.in-Play.rest ∙ ap (λ p. Play c.in-Play.card (plan_of p)) (sym c.deref.ensures) in
     let follow = follow_Play c.in-Play.card (plan_of c.deref.result.now) s (subst (λ p. CanFollow p s) is c.requires) in
     (omega (arith, ap node_count is, c.decreases), rw (c.play.ensures.value, c.without.ensures.value) follow.1)
 
 pub wins-win_against_each-requires : goal.wins-win_against_each-requires
 wins-win_against_each-requires t c =
-    let s : State = record { table = c.args.position.now; left = c.args.left } in
+    let s : State = record { position = c.args.position.now; left = c.args.left } in
     let is = ap plan_of c.in-Hear.is ∙ plan_of-Hear c.in-Hear.replies ∙ ap (λ rs. Hear (replies_of rs)) (sym c.deref-in-Hear.ensures.value) in
     (omega (arith, ap node_count is, c.decreases), follow_Hear (replies_of c.deref-in-Hear.result.now) s (subst (λ p. CanFollow p s) is c.requires))
 
@@ -43,14 +43,14 @@ wins-win_against_each-requires t c =
 
 pub win_against_each-play-requires : goal.win_against_each-play-requires
 win_against_each-play-requires t c =
-    let s : State = record { table = c.args.position.now; left = c.args.left } in
+    let s : State = record { position = c.args.position.now; left = c.args.left } in
     let card = c.reply-item.result.card in
     let legal = sym (c.has.ensures.value ∙ ap (λ cards. has_card cards card) c.legal_in-legal.ensures) ∙ c.if-has.true in
     play.a_legal_card_can_be_played s card (followed_states (replies_of c.args.replies.now) s c.requires) legal
 
 pub win_against_each-wins-requires : goal.win_against_each-wins-requires
 win_against_each-wins-requires t c =
-    let s : State = record { table = c.args.position.now; left = c.args.left } in
+    let s : State = record { position = c.args.position.now; left = c.args.left } in
     let card = c.reply-item.result.card in
     let next = replies_of-drop c.args.replies.now c.loop-reply.reply-index c.reply-item.result c.loop-reply-test.true c.reply-item.is in
     let legal = sym (c.has.ensures.value ∙ ap (λ cards. has_card cards card) c.legal_in-legal.ensures) ∙ c.if-has.true in
@@ -59,7 +59,7 @@ win_against_each-wins-requires t c =
 
 pub win_against_each-returns-then-not-wins : goal.win_against_each-returns-then-not-wins
 win_against_each-returns-then-not-wins t c =
-    let s : State = record { table = c.args.position.now; left = c.args.left } in
+    let s : State = record { position = c.args.position.now; left = c.args.left } in
     let card = c.reply-item.result.card in
     let plan = plan_of c.reply-item.result.plan in
     let next = replies_of-drop c.args.replies.now c.loop-reply.reply-index c.reply-item.result c.loop-reply-test.true c.reply-item.is in
@@ -69,7 +69,7 @@ win_against_each-returns-then-not-wins t c =
 
 pub win_against_each-loop-reply-preserved : goal.win_against_each-loop-reply-preserved
 win_against_each-loop-reply-preserved t c =
-    let s : State = record { table = c.args.position.now; left = c.args.left } in
+    let s : State = record { position = c.args.position.now; left = c.args.left } in
     let card = c.reply-item.result.card in
     let plan = plan_of c.reply-item.result.plan in
     let next = replies_of-drop c.args.replies.now c.loop-reply.reply-index c.reply-item.result c.loop-reply-test.true c.reply-item.is in

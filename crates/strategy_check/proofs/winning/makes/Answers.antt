@@ -4,4 +4,4 @@ use Rattle.strategy_check.proofs.winning.makes.Goals as goal
 
 pub returns-in-Some : goal.returns-in-Some
 returns-in-Some c =
-    sym (makes_where_decided (record { table = c.args.position.now; left = c.args.left }) c.in-Some.made c.requires (sym c.decided.ensures ∙ c.in-Some.is))
+    sym (makes_where_decided (record { position = c.args.position.now; left = c.args.left }) c.in-Some.made c.requires (sym c.decided.ensures ∙ c.in-Some.is))

@@ -5,15 +5,15 @@ use Rattle.strategy_tree.specs.declared.plan_reader.PlanFault.TheVariants.{Memor
 use Rattle.strategy_games.specs.Plans.{Plan}
 use Rattle.strategy_tree.specs.PlanMeaning.{plan_of}
 use Rattle.strategy_tree.specs.PlanText.{plan_text, levels_of, HasReplies, HasCards}
-use Rattle.strategy_tree.specs.PlanRead.{plan_read}
+use Rattle.strategy_tree.specs.PlanRead.{plan_read, most_levels}
 use Rattle.strategy_tree.proofs.ReadBack.{reads_back}
 use Rattle.strategy_tree.proofs.plan_reader.plan_text_reads_back.Goals as goal
 
 -- what was appended is read from the old end, whatever follows
-read_on : (plan : Plan ℕ) (old out rest : List ℕ) → out ≡ old ++ plan_text plan → levels_of plan ≤ 64 → HasReplies plan → HasCards plan → plan_read (out ++ rest) (length old) ≡ Ok (plan, length out)
+read_on : (plan : Plan ℕ) (old out rest : List ℕ) → out ≡ old ++ plan_text plan → levels_of plan ≤ most_levels → HasReplies plan → HasCards plan → plan_read (out ++ rest) (length old) ≡ Ok (plan, length out)
 read_on plan old out rest is fits replies cards = rw is (reads_back plan old rest fits replies cards)
 
-read_all : (plan : Plan ℕ) (old out bytes : List ℕ) (start : ℕ) → bytes ≡ out → start ≡ length old → out ≡ old ++ plan_text plan → levels_of plan ≤ 64 → HasReplies plan → HasCards plan → plan_read bytes start ≡ Ok (plan, length out)
+read_all : (plan : Plan ℕ) (old out bytes : List ℕ) (start : ℕ) → bytes ≡ out → start ≡ length old → out ≡ old ++ plan_text plan → levels_of plan ≤ most_levels → HasReplies plan → HasCards plan → plan_read bytes start ≡ Ok (plan, length out)
 read_all plan old out bytes start same at is fits replies cards = rw (same, at) (subst (λ xs. plan_read xs (length old) ≡ Ok (plan, length out)) (append-nil out) (read_on plan old out [] is fits replies cards))
 
 same_read : {x : Result (Plan ℕ × ℕ) PlanFault} {p q : Plan ℕ} {m n : ℕ} → x ≡ Ok (p, m) → x ≡ Ok (q, n) → (p ≡ q) × (m ≡ n)

@@ -1,6 +1,6 @@
 use Rattle.std.proofs.Common.{All, rules, sym, subst}
 use Rattle.std.proofs.lemmas.List.Elements.{All-push}
-use Rattle.trick_rules.specs.Table.{FitsLeft}
+use Rattle.trick_rules.specs.Positions.{FitsLeft}
 use Rattle.tests_play.proofs.given.node_of.Goals as goal
 
 pub loop-hand-preserved : goal.loop-hand-preserved

@@ -1,5 +1,5 @@
 use Rattle.std.proofs.Common.{◌≤◌, All, vec_len}
-use Rattle.trick_rules.specs.Table.{FitsLeft}
+use Rattle.trick_rules.specs.Positions.{FitsLeft}
 use Rattle.tests_play.proofs.given.node_of.Given as goal
 
 abbrev pub invariant-loop-hand : goal.invariant-loop-hand

@@ -1,7 +1,7 @@
 use Rattle.std.proofs.Common.{◌≡◌, ◌+◌, ◌≤◌, ◌∙◌, true, List, ℕ, sym, ap, subst, length, map, filter, arith}
 use Rattle.card_sets.specs.SetWords.{has_card}
 use Rattle.trick_rules.specs.Play.{CanPlay, take_out}
-use Rattle.trick_rules.specs.Nodes.{Layouts, IsNode, is_legal, choices}
+use Rattle.trick_rules.specs.Nodes.{NodeValue, IsNode, is_legal, choices}
 use Rattle.trick_rules.proofs.PlayLaws.{a_choice_can_be_played, a_choice_leads_to_a_node}
 use Rattle.trick_rules.proofs.KeptLayouts.{kept_upto, kept_set, kept_keep, kept_all}
 use Rattle.strategy_check.proofs.inline_node.InlineNode.child.Goals as goal
@@ -34,14 +34,14 @@ loop-left-preserved c =
 
 pub play-requires : goal.play-requires
 play-requires c =
-    subst (λ (n : Layouts). CanPlay n.table c.args.card) (sym c.self.view_is)
+    subst (λ (n : NodeValue). CanPlay n.position c.args.card) (sym c.self.view_is)
     (a_choice_can_be_played c.args.self.now c.args.card (subst (λ n. IsNode n) c.self.view_is c.self.invariant) c.requires)
 
 pub invariant_of-result : goal.invariant_of-result
 invariant_of-result c =
     let t = c.self.inside.position in
     let card = c.args.card in
-    let here : Layouts = record { table = t; lefts = c.self.inside.lefts.items } in
+    let here : NodeValue = record { position = t; lefts = c.self.inside.lefts.items } in
     let lefts = c.loop-left.invariant.kept ∙ kept_all (is_legal t card) card c.as_slice-left-items.result.now c.loop-left.left-index c.loop-left-test.false
     ∙ ap (λ (ys : List (List ℕ)). map (take_out card) (filter (is_legal t card) ys)) c.as_slice-left-items.ensures.value in
     rw (c.play.ensures.value, lefts) (a_choice_leads_to_a_node here card c.self.invariant (subst (λ n. has_card (choices n) card ≡ true) (sym c.self.view_is) c.requires))

@@ -2,7 +2,7 @@ use Rattle.std.proofs.Common.{◌≡◌, ◌∙◌, ◌++◌, ◌+◌, ◌≤◌
 use Rattle.win_vectors.specs.Fronts.{Vector, IsReduced}
 use Rattle.pareto_fronts.specs.FrontValue.{FrontValue}
 use Rattle.pareto_fronts.proofs.FrontLemmas.{on_ok}
-use Rattle.trick_rules.specs.Nodes.{Layouts}
+use Rattle.trick_rules.specs.Nodes.{NodeValue}
 use Rattle.strategy_games.specs.Plans.{IsFront}
 use Rattle.strategy_games.proofs.Fronts.{front_unique}
 use Rattle.strategy_tree.specs.Bridge.{bridge}
@@ -10,14 +10,14 @@ use Rattle.front_table.specs.Proven.{IsFrontAt}
 use Rattle.tests_play.proofs.stores.OneEntryFrontStore.look.Goals as goal
 
 -- what is put into an empty front is the front that it was
-copied_front : (n m : Layouts) (k j : ℕ) (kept found : FrontValue) (empty : List Vector) → IsFrontAt n k kept → n ≡ m → k ≡ j → IsReduced kept.vectors kept.vectors
+copied_front : (n m : NodeValue) (k j : ℕ) (kept found : FrontValue) (empty : List Vector) → IsFrontAt n k kept → n ≡ m → k ≡ j → IsReduced kept.vectors kept.vectors
     → empty ≡ [] → IsReduced (empty ++ kept.vectors) found.vectors → found.width ≡ length m.lefts → IsFrontAt m j found
 copied_front n m k j kept found empty is_front node moves own none copied width =
     let alone : IsReduced kept.vectors found.vectors = subst (λ (vs : List Vector). IsReduced (vs ++ kept.vectors) found.vectors) none copied in
     let same : kept.vectors ≡ found.vectors = front_unique (Contains kept.vectors) kept.vectors found.vectors own alone in
     let here : IsFront bridge n k found.vectors = subst (λ (vs : List Vector). IsFront bridge n k vs) same is_front.front in
     let moved : IsFront bridge n j found.vectors = subst (λ (i : ℕ). IsFront bridge n i found.vectors) moves here in
-    record { front = subst (λ (l : Layouts). IsFront bridge l j found.vectors) node moved; width = width }
+    record { front = subst (λ (l : NodeValue). IsFront bridge l j found.vectors) node moved; width = width }
 
 pub returns-clause-hit : goal.returns-clause-hit
 returns-clause-hit c = λ hit.

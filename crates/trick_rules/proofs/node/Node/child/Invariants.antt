@@ -5,6 +5,6 @@ use Rattle.trick_rules.proofs.node.Node.child.Given as goal
 
 abbrev pub invariant-loop-place : goal.invariant-loop-place
 invariant-loop-place l = record {
-  kept : l.lefts.items ≡ kept_upto (is_legal l.self.table l.card) l.card l.self.lefts l.place;
-  mask : l.mask ≡ mask_upto (is_legal l.self.table l.card) l.self.lefts l.place;
+  kept : l.lefts.items ≡ kept_upto (is_legal l.self.position l.card) l.card l.self.lefts l.place;
+  mask : l.mask ≡ mask_upto (is_legal l.self.position l.card) l.self.lefts l.place;
 }

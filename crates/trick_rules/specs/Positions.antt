@@ -7,23 +7,23 @@ use Rattle.card_sets.specs.SetWords.{IsCardSet, IsSubset, Apart}
 use Rattle.trick_rules.specs.declared.trump.Trump.{Trump}
 
 -- a trick: who led, and the cards in the order of play
-pub record Played : Type 0 where
+pub record TrickValue : Type 0 where
   pub leader : Seat
   pub cards : List ℕ
 
 -- what all at the table know: declarer's and dummy's hands, the cards that the two defenders hold together,
 -- the present trick, how many tricks declarer's side still needs, and trumps
-pub record Table : Type 0 where
+pub record PositionValue : Type 0 where
   pub declarer : List ℕ
   pub dummy : List ℕ
   pub unseen : List ℕ
-  pub trick : Played
+  pub trick : TrickValue
   pub need : ℕ
   pub trump : Trump
 
--- a table and Left's hand
+-- a position and Left's hand
 pub record State : Type 0 where
-  pub table : Table
+  pub position : PositionValue
   pub left : List ℕ
 
 -- the seat that many places on, clockwise
@@ -32,7 +32,7 @@ seat_after zero seat = seat
 seat_after (suc n) seat = seat_after n (next_seat seat)
 
 -- clockwise from the leader, past the cards of the trick
-abbrev pub to_play : Table → Seat
+abbrev pub to_play : PositionValue → Seat
 to_play t = seat_after (length t.trick.cards) t.trick.leader
 
 -- declarer, Left, dummy and Right, clockwise
@@ -47,19 +47,19 @@ abbrev pub places_on : Seat → Seat → ℕ
 places_on leader seat = (seat_place seat + 4 - seat_place leader) % 4
 
 -- a seat has played where it sits fewer places after the leader than the trick has cards
-abbrev pub has_played : Table → Seat → Bool
+abbrev pub has_played : PositionValue → Seat → Bool
 has_played t seat = nat_lt (places_on t.trick.leader seat) (length t.trick.cards)
 
 -- how many cards of the trick are the seat's
-abbrev pub played_count : Table → Seat → ℕ
+abbrev pub played_count : PositionValue → Seat → ℕ
 played_count t seat = if has_played t seat then 1 else 0
 
 -- the tricks left, the present one among them
-abbrev pub tricks_left : Table → ℕ
+abbrev pub tricks_left : PositionValue → ℕ
 tricks_left t = length t.declarer + played_count t Declarer
 
 -- a position that can come about
-pub record IsSound (t : Table) : Type 0 where
+pub record IsSound (t : PositionValue) : Type 0 where
   pub declarer_set : IsCardSet t.declarer
   pub dummy_set : IsCardSet t.dummy
   pub unseen_set : IsCardSet t.unseen
@@ -77,8 +77,8 @@ pub record IsSound (t : Table) : Type 0 where
   pub unseen_count : length t.unseen + played_count t Left + played_count t Right ≡ 2 * tricks_left t
 
 -- a position with no card in the trick
-abbrev pub table_between_tricks : List ℕ → List ℕ → List ℕ → Seat → ℕ → Trump → Table
-table_between_tricks declarer dummy unseen leader need trump = record {
+abbrev pub position_between_tricks : List ℕ → List ℕ → List ℕ → Seat → ℕ → Trump → PositionValue
+position_between_tricks declarer dummy unseen leader need trump = record {
   declarer = declarer;
   dummy = dummy;
   unseen = unseen;
@@ -99,12 +99,12 @@ pub record HandsFit (declarer dummy unseen : List ℕ) : Type 0 where
   pub unseen_count : length unseen ≡ 2 * length declarer
 
 -- a Left hand that fits a position: a part of the unseen cards, with Left's number of cards
-pub record FitsLeft (t : Table) (left : List ℕ) : Type 0 where
+pub record FitsLeft (t : PositionValue) (left : List ℕ) : Type 0 where
   pub set : IsCardSet left
   pub part : IsSubset left t.unseen
   pub count : length left + played_count t Left ≡ tricks_left t
 
 -- a sound position with a Left hand that fits it
 pub record IsState (s : State) : Type 0 where
-  pub sound : IsSound s.table
-  pub fits : FitsLeft s.table s.left
+  pub sound : IsSound s.position
+  pub fits : FitsLeft s.position s.left

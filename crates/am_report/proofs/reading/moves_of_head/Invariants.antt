@@ -5,7 +5,7 @@ use Rattle.std.specs.List.{slice_split, filter_map}
 use Rattle.byte_text.specs.Lines.{is_line_end}
 use Rattle.am_report.specs.ReportLines.{moves_said}
 use Rattle.am_report.proofs.ReportSteps.{moves_left, size_left}
-use Rattle.am_report.proofs.reading.moves_in.Given as goal
+use Rattle.am_report.proofs.reading.moves_of_head.Given as goal
 
 -- the number found so far comes before those in the lines left
 abbrev pub invariant-lines : goal.invariant-lines

@@ -1,7 +1,7 @@
 use Rattle.std.proofs.Common.{◌≡◌, sym, ap, ◌∙◌}
 use Rattle.pbn_deal.specs.Deal.{hand_at}
 use Rattle.layout_list.proofs.Fits.{fits_board}
-use Rattle.layout_list.proofs.line.defenders_in.Goals as goal
+use Rattle.layout_list.proofs.line.layout_in.Goals as goal
 
 pub returns-then-is_told-clause-fits : goal.returns-then-is_told-clause-fits
 returns-then-is_told-clause-fits c =

@@ -1,6 +1,0 @@
-use Rattle.std.proofs.Common.{◌≡◌, ◌+◌, drop}
-use Rattle.am_answer.specs.Judging.{first_fault}
-use Rattle.job_check.proofs.judge.first_fault.Given as goal
-
-abbrev pub invariant-loop-index : goal.invariant-loop-index
-invariant-loop-index l = first_fault l.node l.moves 1 l.entries ≡ first_fault l.node l.moves (1 + l.index) (drop l.index l.entries)
