@@ -6,19 +6,19 @@ use Rattle.card_letters.specs.Letters.{letters_of}
 use Rattle.strategy_games.specs.Plans.{Plan, Replies, Stop, Play, Hear, NoReply, Reply, cards_of}
 
 unfoldable pub stop_line : List ℕ
-stop_line = ended_line (codes "stop")
+stop_line = line_of (codes "stop")
 
 -- declarer's side plays the card
 unfoldable pub play_line : ℕ → List ℕ
-play_line card = ended_line (codes "play " ++ letters_of card)
+play_line card = line_of (codes "play " ++ letters_of card)
 
 -- so many replies follow
 unfoldable pub hear_line : ℕ → List ℕ
-hear_line count = ended_line (codes "hear " ++ decimal count)
+hear_line count = line_of (codes "hear " ++ decimal count)
 
 -- a defender's card, whose reply follows
 unfoldable pub on_line : ℕ → List ℕ
-on_line card = ended_line (codes "on " ++ letters_of card)
+on_line card = line_of (codes "on " ++ letters_of card)
 
 abbrev mutual
   -- the lines of a plan, each node before those below it
