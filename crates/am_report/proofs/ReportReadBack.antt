@@ -14,7 +14,8 @@ use Rattle.am_report.specs.ReportLines.{front_said, card_said}
 use Rattle.am_report.specs.Reading.{expected, has_version, front_place, moves_of_head, head_said, head_read, end_read, below_read, report_read}
 use Rattle.am_report.specs.ReadBack.{IsPrintable, printed_report}
 use Rattle.am_report.proofs.HeadLines.{moves_of_head-head_text, front_place-head_text}
-use Rattle.am_report.proofs.EntryLines.{said_at-here, front_is_said, front_plain, entries_read-here, card_is_said, card_plain}
+use Rattle.byte_text.proofs.PlainLines.{said_at-here}
+use Rattle.am_report.proofs.EntryLines.{front_is_said, front_plain, entries_read-here, card_is_said, card_plain}
 use Rattle.am_report.proofs.ReportSteps.{below_read-whole}
 
 -- the head above the front, with the moves and the number of vectors
