@@ -10,7 +10,7 @@ use Rattle.strategy_check.specs.declared.verdict.Verdict.TheVariants.{Good, NotA
 
 -- the first layout, counted from 1, where the vectors differ, and the first vector's bit there
 pub record IsFirstDifference (own given : Vector) (layout : ℕ) (bit : Bool) : Type 0 where
-  pub counted_nodes : 1 ≤ layout
+  pub counted : 1 ≤ layout
   pub same_before : take (layout - 1) own ≡ take (layout - 1) given
   pub own_bit : slice_get own (layout - 1) ≡ Some bit
   pub given_bit : slice_get given (layout - 1) ≡ Some (not bit)
