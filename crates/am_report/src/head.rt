@@ -69,20 +69,20 @@ fn push_position(
     text: &mut Text,
     alloc: Global,
     board: &Board,
-    table: &Position,
+    position: &Position,
 ) -> Result<(), AllocError>
-    ensures { OnOk result (text.new ≡ text.old ++ position_text board.now table.now) }
+    ensures { OnOk result (text.new ≡ text.old ++ position_text board.now position.now) }
 {
     push_line(text, b"declarer ", &[compass_letter(board.declarer())])?;
-    push_trump_line(text, table.trump)?;
-    push_number_line(text, alloc, b"need ", u64::from(table.need))?;
-    push_hand_line(text, alloc, board, Seat::Declarer, table.declarer)?;
-    push_hand_line(text, alloc, board, Seat::Dummy, table.dummy)?;
-    push_trick_line(text, board, &table.trick)?;
+    push_trump_line(text, position.trump)?;
+    push_number_line(text, alloc, b"need ", u64::from(position.need))?;
+    push_hand_line(text, alloc, board, Seat::Declarer, position.declarer)?;
+    push_hand_line(text, alloc, board, Seat::Dummy, position.dummy)?;
+    push_trick_line(text, board, &position.trick)?;
     push_line(
         text,
         b"turn ",
-        &[compass_letter(board.compass(table.to_play()))],
+        &[compass_letter(board.compass(position.to_play()))],
     )
 }
 

@@ -3,4 +3,4 @@ use Rattle.am_report.specs.Fusion.{most_ones}
 use Rattle.am_report.proofs.fusion.most_ones.Given as goal
 
 abbrev pub invariant-loop-entry : goal.invariant-loop-entry
-invariant-loop-entry l = l.most ≡ most_ones (take l.entry-index l.position)
+invariant-loop-entry l = l.most ≡ most_ones (take l.entry-index l.table)
