@@ -1,5 +1,11 @@
-pub mod Tried
+pub mod Judging
+pub mod Bounds
+pub mod Standing
+pub mod Enough
+pub mod Taken
+pub mod Trying
+pub mod Paid
 pub mod OpenNodes
-pub mod Leaves
 pub mod OursSoFar
 pub mod TheirsSoFar
+pub mod Answered

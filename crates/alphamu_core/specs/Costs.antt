@@ -1,11 +1,19 @@
 -- What a search pays.
-use Rattle.std.specs.Prelude.{◌≡◌, ◌+◌, ◌<◌, ◌≤◌, ℕ, Result, IfOk, IsErrOf}
+use Rattle.std.specs.Prelude.{◌≡◌, ◌+◌, ◌<◌, ◌≤◌, ℕ, Bool, true, Result, IfOk, IsErrOf}
+use Rattle.cut_rules.specs.declared.CutRules.{CutRules}
+use Rattle.cut_rules.specs.Rules.{no_cuts}
 use Rattle.alphamu_core.specs.declared.answers.SearchFault.{SearchFault}
 use Rattle.alphamu_core.specs.declared.answers.SearchFault.TheVariants.{Spent}
 
--- a search of a tree of this size pays for each of its nodes and for no more, and is spent only where the tree is larger than the budget
-pub record Costs {T : Type 0} (size before after : ℕ) (result : Result T SearchFault) : Type 0 where
-  pub counts : IfOk result (λ _. after + size ≡ before)
+-- a search that makes no cut, over a store that never has a front, enters each node of the tree
+abbrev pub EntersEach : CutRules → Bool → Type 0
+EntersEach rules blind = (rules ≡ no_cuts) × (blind ≡ true)
+
+-- a search of a tree of this size pays for one node at least and for each node at most, and is spent only where the tree is larger
+-- than the budget; where it enters each node it pays for each
+pub record Costs {T : Type 0} (Each : Type 0) (size before after : ℕ) (result : Result T SearchFault) : Type 0 where
+  pub counts : Each → IfOk result (λ _. after + size ≡ before)
   pub spent : IsErrOf result Spent → before < size
+  pub entered : IfOk result (λ _. after < before)
   pub never_rises : after ≤ before
   pub falls : before ≤ after + size

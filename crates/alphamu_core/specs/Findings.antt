@@ -1,10 +1,12 @@
 -- What a search finds.
-use Rattle.std.specs.Prelude.{⊤, ℕ, List}
+use Rattle.std.specs.Prelude.{◌≡◌, ◌≢◌, ⊤, ℕ, List}
 use Rattle.win_vectors.specs.Fronts.{Vector}
 use Rattle.trick_rules.specs.Nodes.{NodeValue}
 use Rattle.strategy_games.specs.Plans.{IsBelow}
 use Rattle.strategy_tree.specs.Bridge.{bridge}
 use Rattle.front_table.specs.Proven.{IsFrontAt}
+use Rattle.cut_rules.specs.declared.CutRules.{CutRules}
+use Rattle.cut_rules.specs.Rules.{no_cuts}
 use Rattle.alphamu_core.specs.declared.answers.Found.{Found}
 use Rattle.alphamu_core.specs.declared.answers.Found.TheVariants.{Exact, Below}
 
@@ -17,3 +19,18 @@ IsFound n moves alpha Below = IsBelow bridge n moves alpha
 abbrev pub IsExact : Found → Type 0
 IsExact (Exact front) = ⊤
 IsExact Below = ⊥
+
+-- an answer by these rules, of which an answer below needs a cut
+abbrev pub IsAnswer : NodeValue → ℕ → List Vector → CutRules → Found → Type 0
+IsAnswer n moves alpha rules (Exact front) = IsFrontAt n moves front
+IsAnswer n moves alpha rules Below = IsBelow bridge n moves alpha × (rules ≢ no_cuts)
+
+-- if the answer is a front, it is the front of the node
+abbrev pub IsFrontIfExact : NodeValue → ℕ → Found → Type 0
+IsFrontIfExact n moves (Exact front) = IsFrontAt n moves front
+IsFrontIfExact n moves Below = ⊤
+
+-- if the answer is a front, its vectors are of this width
+abbrev pub IsExactOfWidth : ℕ → Found → Type 0
+IsExactOfWidth width (Exact front) = front.width ≡ width
+IsExactOfWidth width Below = ⊤

@@ -1,2 +1,5 @@
 pub mod Findings
 pub mod Costs
+pub mod Limits
+pub mod Judging
+pub mod Kept

@@ -6,8 +6,12 @@
 mod answers;
 mod budget;
 mod exact;
+mod kept;
+mod limits;
 mod node_search;
-mod plain;
+mod offers;
+mod results;
+mod walk;
 
 pub use answers::{Found, RootFault, SearchFault};
 pub use budget::Budget;

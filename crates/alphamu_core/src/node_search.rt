@@ -8,10 +8,10 @@ ghost use Rattle.trick_rules.specs.Nodes.{most_moves};
 
 use crate::answers::{Found, SearchFault};
 use crate::budget::Budget;
-use crate::plain::node_front;
+use crate::walk::visit;
 use cut_rules::CutRules;
 use dd_solver::Solver;
-use front_table::FrontStore;
+use front_table::{FrontStore, MOST_ENTRY_VECTORS};
 use pareto_fronts::Front;
 use std::alloc::Global;
 use trick_rules::Node;
@@ -47,6 +47,18 @@ pub fn search<S: FrontStore>(
 
     ensures grown { S.grown store.old store.new }
 {
-    let front = node_front(alloc, solver, budget, node, moves)?;
-    Ok(Found::Exact(front))
+    let mut scratch = Front::new(alloc, node.width());
+    scratch.reserve(MOST_ENTRY_VECTORS)?;
+    let node = node.copy(alloc)?;
+    visit(
+        alloc,
+        store,
+        solver,
+        budget,
+        &mut scratch,
+        node,
+        moves,
+        alpha,
+        rules,
+    )
 }

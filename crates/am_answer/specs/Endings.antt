@@ -1,24 +1,36 @@
 -- How a run may end, and what it has written by then.
-use Rattle.std.specs.Prelude.{◌≡◌, ◌⊎◌, ⊤, ℕ, List, Option, IfSome, Result, Ok, Err}
+use Rattle.std.specs.Prelude.{◌≡◌, ◌⊎◌, ◌++◌, ⊤, ℕ, false, List, Option, IfSome, IsSomeAnd, Result, Ok, Err}
 use Rattle.std.specs.Io.KnownBytes.{append_known}
 use Rattle.am_outside.specs.Faults.{Rose}
 use Rattle.am_outside.specs.Sink.{AppendsPart}
+use Rattle.trick_rules.specs.Nodes.{NodeValue}
+use Rattle.job_words.specs.declared.asks.Search.{Search}
 use Rattle.job_words.specs.Asks.{AskValue}
-use Rattle.root_workers.specs.Roots.{IsSpentAt, AllFit}
+use Rattle.root_workers.specs.Roots.{IsSpentAt, IsFirstSpentAt, AllFit}
 use Rattle.am_answer.specs.declared.status.FileWord.{FileWord}
 use Rattle.am_answer.specs.declared.status.Status.{Status}
 use Rattle.am_answer.specs.declared.status.Status.TheVariants.{Done, Unread, Spent, Unwritten, Memory}
-use Rattle.am_answer.specs.Answers.{TaskValue, Report, NamedCard, Problem}
+use Rattle.am_answer.specs.declared.root.Root.{Root}
+use Rattle.am_answer.specs.Answers.{TaskValue, Report, NamedCard, Problem, problem_of}
 use Rattle.am_answer.specs.Files.{name_of}
 use Rattle.am_answer.specs.Reports.{IsText, made_moves}
 
 -- ---- how a job ends
 
--- a search in which a root card's tree is too large; this is the first such card
+-- a search that has neither a table nor cuts: each card is searched to its end, and nothing is known before
+abbrev pub IsPlain : Search → Type 0
+IsPlain search = (search.table ≡ false) × (search.cuts ≡ false)
+
+-- a card of the root after which the tree has more nodes than the search may enter; in a plain search the first such card
+pub record IsSpentBy (n : NodeValue) (moves : ℕ) (search : Search) (card : ℕ) : Type 0 where
+  pub spent : IsSpentAt n moves search.nodes card
+  pub first : IsPlain search → IsFirstSpentAt n moves search.nodes card
+
+-- a job whose search is spent at this card
 abbrev pub IsSpentOn : TaskValue → ℕ → Type 0
-IsSpentOn (Report root moves search) card = IsSpentAt root.kept.node moves search.nodes card
-IsSpentOn (NamedCard root moves search) card = IsSpentAt root.kept.node moves search.nodes card
-IsSpentOn (Problem number root search) card = IsSpentAt root.kept.node made_moves search.nodes card
+IsSpentOn (Report root moves search) card = IsSpentBy root.kept.node moves search card
+IsSpentOn (NamedCard root moves search) card = IsSpentBy root.kept.node moves search card
+IsSpentOn (Problem number root search) card = IsSpentBy root.kept.node made_moves search card
 IsSpentOn _ card = ⊥
 
 -- a job in which no root card's tree is too large, where there is a search at all
@@ -28,14 +40,34 @@ IsWithinNodes (NamedCard root moves search) = AllFit root.kept.node moves search
 IsWithinNodes (Problem number root search) = AllFit root.kept.node made_moves search.nodes
 IsWithinNodes _ = ⊤
 
+-- what is known of the trees where a job has its text: a plain search has met no tree that is too large
+abbrev pub IsWithinIfPlain : TaskValue → Type 0
+IsWithinIfPlain (Report root moves search) = IsPlain search → AllFit root.kept.node moves search.nodes
+IsWithinIfPlain (NamedCard root moves search) = IsPlain search → AllFit root.kept.node moves search.nodes
+IsWithinIfPlain (Problem number root search) = IsPlain search → AllFit root.kept.node made_moves search.nodes
+IsWithinIfPlain _ = ⊤
+
 -- the status is the answer's, where it isn't one that depends on reading, writing or memory
 abbrev pub IsStatusFor : Result TaskValue Status → Status → Type 0
-IsStatusFor answer Done = (task : TaskValue) × (answer ≡ Ok task) × IsWithinNodes task
+IsStatusFor answer Done = (task : TaskValue) × (answer ≡ Ok task) × IsWithinIfPlain task
 IsStatusFor answer (Unread file) = ⊤
 IsStatusFor answer (Spent card) = (task : TaskValue) × (answer ≡ Ok task) × IsSpentOn task card
-IsStatusFor answer Unwritten = (task : TaskValue) × (answer ≡ Ok task) × IsWithinNodes task
+IsStatusFor answer Unwritten = (task : TaskValue) × (answer ≡ Ok task) × IsWithinIfPlain task
 IsStatusFor answer Memory = ⊤
 IsStatusFor answer status = answer ≡ Err status
+
+-- how a run on the problem of a number ends, whatever files there are: with its text, or spent by the numbers alone, or
+-- with a fault of the output, or out of memory
+abbrev pub IsMadeStatus : TaskValue → Status → Type 0
+IsMadeStatus task Done = IsWithinIfPlain task
+IsMadeStatus task (Spent card) = IsSpentOn task card
+IsMadeStatus task Unwritten = IsWithinIfPlain task
+IsMadeStatus task Memory = ⊤
+IsMadeStatus task _ = ⊥
+
+-- the number leads to a root, and the run ends as its problem may end
+abbrev pub IsMadeRun : ℕ → Search → Status → Type 0
+IsMadeRun number search status = (root : Root) × (problem_of number search ≡ Ok (Problem number root search)) × IsMadeStatus (Problem number root search) status
 
 -- ---- what is written
 
@@ -46,6 +78,10 @@ IsReported answer before now = (task : TaskValue) × (text : List ℕ) × (answe
 -- the same, but a proper prefix of the text came
 abbrev pub IsReportedInPart : Result TaskValue Status → Option (List ℕ) → Option (List ℕ) → Type 0
 IsReportedInPart answer before now = (task : TaskValue) × (text : List ℕ) × (answer ≡ Ok task) × IsText task text × AppendsPart before text now
+
+-- where it is told, what was written before stands in front of what is written now
+abbrev pub IsKeptInFront : Option (List ℕ) → Option (List ℕ) → Type 0
+IsKeptInFront before now = IfSome before (λ bytes. IsSomeAnd now (λ all. (more : List ℕ) × (all ≡ bytes ++ more)))
 
 -- done, or out of memory
 abbrev pub IsDoneOrMemory : Status → Type 0

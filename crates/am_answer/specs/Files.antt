@@ -72,15 +72,15 @@ name_of _ _ = None
 
 -- ---- what is read keeps limits
 
--- a search keeps to the moves that it may have, and a report to its limit
+-- a search keeps to its limits and to the moves that it may have, and a report to its limit
 abbrev pub IsWithin : Work → Type 0
-IsWithin (works.Solve moves search) = asks.IsMoves moves
-IsWithin (works.Card moves search) = asks.IsMoves moves
+IsWithin (works.Solve moves search) = asks.IsMoves moves × asks.IsSearchWithinLimits search
+IsWithin (works.Card moves search) = asks.IsMoves moves × asks.IsSearchWithinLimits search
 IsWithin works.Fusion = ⊤
 IsWithin (works.Check report) = length report ≤ limit_of Report
 
--- each file keeps to its limit
+-- each file and each search keeps to its limits
 abbrev pub AreWithin : Inputs → Type 0
 AreWithin (inputs.OnLayouts deal layouts work) = (length deal ≤ limit_of Deal) × (length layouts ≤ limit_of Layouts) × IsWithin work
 AreWithin (inputs.List deal) = length deal ≤ limit_of Deal
-AreWithin (inputs.Made number search) = number < 2 ^ 64
+AreWithin (inputs.Made number search) = (number < 2 ^ 64) × asks.IsSearchWithinLimits search

@@ -4,7 +4,7 @@ use Rattle.am_answer.specs.declared.status.Status.{Status}
 use Rattle.am_answer.specs.declared.status.Status.TheVariants.{Done, BadWords, Unread, Spent, Unwritten, Memory, TooLong}
 use Rattle.am_answer.specs.Answers.{TaskValue}
 use Rattle.am_answer.specs.Reports.{IsText}
-use Rattle.am_answer.specs.Endings.{IsSpentOn, IsWithinNodes}
+use Rattle.am_answer.specs.Endings.{IsSpentOn, IsWithinIfPlain}
 
 -- a status of reading a file
 abbrev pub IsOfFiles : Status → Type 0
@@ -42,12 +42,12 @@ abbrev pub IsTaskRefusal : Result TaskValue Status → Status → Type 0
 IsTaskRefusal answer (Spent card) = (task : TaskValue) × (answer ≡ Ok task) × IsSpentOn task card
 IsTaskRefusal answer status = IsFileRefusal answer status
 
--- the answer is a job without too large a search, and this is its text
+-- the answer is a job, and this is its text; a plain search has met no tree that is too large
 pub record IsTextFor (answer : Result TaskValue Status) (text : List ℕ) : Type 0 where
   pub task : TaskValue
   pub accepted : answer ≡ Ok task
   pub is_text : IsText task text
-  pub fits : IsWithinNodes task
+  pub fits : IsWithinIfPlain task
 
 -- the status of a run that wrote nothing
 abbrev pub IsRefusal : Result TaskValue Status → Status → Type 0

@@ -2,7 +2,9 @@
 ghost use Rattle.std.specs.Prelude.{◌≡◌, ◌≢◌, ◌≤◌, ◌⊎◌, ℕ, List, Ok, Err, Some, None, length, IfOk};
 ghost use Rattle.std.specs.Prelude.{IfErr, IfSome, IsErrOf, IsSomeAnd};
 ghost use Rattle.am_outside.specs.Faults.{Rose};
-ghost use Rattle.job_words.specs.Asks.{ask_of, job_of, texts_of, IsWithinLimits, IsJobWithinLimits};
+ghost use Rattle.job_words.specs.declared.asks.Search.{Search};
+ghost use Rattle.job_words.specs.Asks.{Made, ask_of, job_of, texts_of};
+ghost use Rattle.job_words.specs.Asks.{IsWithinLimits, IsJobWithinLimits};
 ghost use Rattle.job_words.specs.Words.{words_read};
 ghost use Rattle.am_answer.specs.Files.{file_read, inputs_read, limit_of, name_of, named_read};
 ghost use Rattle.am_answer.specs.Files.{report_named, work_read, AreWithin, IsWithin};
@@ -93,6 +95,8 @@ fn read_named<S: Shelf>(alloc: Global, shelf: &mut S, ask: Ask<'_>) -> Result<In
     ensures unread { (file : FileWord) → IsErrOf result (Status.Unread file)
         → IsSomeAnd (name_of (ask_of ask.entry) file) (λ name.
         Rose (S.faults shelf.old name) (S.faults shelf.new name)) }
+    ensures made { (number : ℕ) (search : Search) → ask_of ask.entry ≡ Made number search
+        → result ≡ Ok (Inputs.Made number search) }
     ensures same_files { S.told shelf.new ≡ S.told shelf.old }
 {
     match ask {
@@ -127,7 +131,8 @@ fn read_ask(alloc: Global, words: &[String]) -> Result<Ask<'_>, Status>
     }
 }
 
-/// Reads the words, then the files that they name: the deal, then the layouts, then the report.
+/// Reads the words, then the files that they name: the deal, then the layouts, then the report. The
+/// problem of a number needs no file.
 #[tactic(auto, unfolding(am_answer::specs::Files::inputs_read))]
 pub fn read_inputs<S: Shelf>(
     alloc: Global,
@@ -146,6 +151,9 @@ pub fn read_inputs<S: Shelf>(
     ensures only { IfErr result IsOfReading }
     ensures unread { (file : FileWord) → IsErrOf result (Status.Unread file)
         → IsUnread (texts_of words.now) (S.faults shelf.old) (S.faults shelf.new) file }
+    ensures made { (number : ℕ) (search : Search)
+        → words_read (texts_of words.now) ≡ Some (Made number search)
+        → (result ≡ Ok (Inputs.Made number search)) ⊎ (result ≡ Err Status.Memory) }
     ensures same_files { S.told shelf.new ≡ S.told shelf.old }
 {
     let ask = read_ask(alloc, words)?;

@@ -9,6 +9,7 @@ use byte_text::{line_at, read_number, text_after};
 use card_letters::read_card;
 use card_sets::Card;
 use layout_list::MOST_LISTED;
+use trick_rules::MOST_MOVES;
 use win_vectors::WinVector;
 
 #[tactic(auto, unfolding(crate::specs::ReportLines::front_said))]
@@ -22,7 +23,7 @@ fn read_front(text: &[u8]) -> Option<u32>
 pub(crate) fn read_moves(text: &[u8]) -> Option<u8>
     ensures { result ≡ moves_said text.now }
 {
-    let moves = read_number(text_after(text, b"moves ")?, 1, 26)?;
+    let moves = read_number(text_after(text, b"moves ")?, 1, u32::from(MOST_MOVES))?;
     Some(moves as u8)
 }
 

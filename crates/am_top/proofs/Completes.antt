@@ -1,19 +1,22 @@
 -- A run that is accepted, and meets no fault, is done or out of memory.
-use Rattle.std.proofs.Common.{◌≡◌, inr, ℕ, List, Option, Some, None, Result, Ok, Err, refl, sym, subst, ◌∙◌, rules}
+use Rattle.std.proofs.Common.{◌≡◌, ◌⊎◌, inr, ⊎_elim, ℕ, List, Option, Some, None, Result, Ok, Err, refl, sym, subst, ◌∙◌, rules}
 use Rattle.std.specs.Prelude.{IfSome, IsSomeAnd}
 use Rattle.am_outside.specs.Faults.{Rose}
 use Rattle.am_outside.specs.Shelf.{Files}
+use Rattle.job_words.specs.declared.asks.Search.{Search}
 use Rattle.job_words.specs.Asks.{AskValue}
 use Rattle.job_words.specs.Words.{words_read}
 use Rattle.am_answer.specs.declared.status.FileWord.{FileWord}
 use Rattle.am_answer.specs.declared.status.Status.{Status}
 use Rattle.am_answer.specs.declared.status.Status.TheVariants.{Done, Refuted, BadWords, Unread, BadPbn, BadLayouts, NoTurn, Spent, Unwritten, Memory, TooLong, BadReport, BadMake}
-use Rattle.am_answer.specs.Answers.{TaskValue, answer}
+use Rattle.am_answer.specs.declared.root.Root.{Root}
+use Rattle.am_answer.specs.Answers.{TaskValue, Problem, answer, problem_of}
 use Rattle.am_answer.specs.Files.{name_of}
 use Rattle.am_answer.specs.Refusals.{IsUnread}
-use Rattle.am_answer.specs.Endings.{IsSpentOn, IsWithinNodes, HasNoFault, IsDoneOrMemory}
-use Rattle.am_answer.specs.Stages.{IsRefusal}
+use Rattle.am_answer.specs.Endings.{IsSpentOn, IsWithinNodes, IsWithinIfPlain, IsMadeStatus, IsMadeRun, HasNoFault, IsDoneOrMemory}
+use Rattle.am_answer.specs.Stages.{IsRefusal, IsTaskRefusal, IsTextFor}
 use Rattle.am_answer.proofs.Endings.{not_spent}
+use Rattle.am_top.proofs.MadeAccepted.{made-problem}
 
 ok-err : {A : Type 0} (result : Result A Status) (value : A) (status : Status) → result ≡ Ok value → result ≡ Err status → ⊥
 ok-err result value status ok err = search (rules, sym ok ∙ err)
@@ -57,3 +60,54 @@ pub told_complete : (told : Option Files) (words : List (List ℕ)) (status : St
     → IfSome told (λ files. (ask : AskValue) (task : TaskValue) → words_read words ≡ Some ask → answer words files ≡ Ok task → IsWithinNodes task → HasNoFault ask before now → (written → ⊥) → IsDoneOrMemory status)
 told_complete None words status before now written is unread = tt
 told_complete (Some files) words status before now written is unread = λ ask task asked accepted fits none _. complete words files before now ask task asked accepted fits none status is unread
+
+-- ---- the problem of a number
+
+-- a run on the problem of a number that wrote nothing
+module _ (number : ℕ) (search' : Search) where
+  made_refused : (root : Root) (status : Status) → problem_of number search' ≡ Ok (Problem number root search') → IsTaskRefusal (problem_of number search') status → IsMadeStatus (Problem number root search') status
+  made_refused root Done is refused = absurd refused
+  made_refused root (Refuted plan place) is refused = absurd (ok-err (problem_of number search') (Problem number root search') (Refuted plan place) is refused)
+  made_refused root BadWords is refused = absurd refused
+  made_refused root (Unread file) is refused = absurd refused
+  made_refused root (BadPbn line kind) is refused = absurd (ok-err (problem_of number search') (Problem number root search') (BadPbn line kind) is refused)
+  made_refused root (BadLayouts fault) is refused = absurd (ok-err (problem_of number search') (Problem number root search') (BadLayouts fault) is refused)
+  made_refused root NoTurn is refused = absurd (ok-err (problem_of number search') (Problem number root search') NoTurn is refused)
+  made_refused root (Spent card) is (other, also, spent) =
+      subst (λ t. IsSpentOn t card) (ok-same (problem_of number search') other (Problem number root search') also is) spent
+  made_refused root Unwritten is refused = absurd refused
+  made_refused root Memory is refused = tt
+  made_refused root (TooLong file) is refused = absurd refused
+  made_refused root (BadReport line kind) is refused = absurd (ok-err (problem_of number search') (Problem number root search') (BadReport line kind) is refused)
+  made_refused root (BadMake fault) is refused = absurd (ok-err (problem_of number search') (Problem number root search') (BadMake fault) is refused)
+
+  pub made_run_refused : (status : Status) → IsTaskRefusal (problem_of number search') status → IsMadeRun number search' status
+  made_run_refused status refused = let made = made-problem number search' in (made.0, made.1, made_refused made.0 status made.1 refused)
+
+  -- a run that has the text of the job
+  made_within : (root : Root) (text : List ℕ) → problem_of number search' ≡ Ok (Problem number root search') → IsTextFor (problem_of number search') text → IsWithinIfPlain (Problem number root search')
+  made_within root text is written = subst (λ t. IsWithinIfPlain t) (ok-same (problem_of number search') written.task (Problem number root search') written.accepted is) written.fits
+
+  pub made_run_written : (text : List ℕ) (status : Status) → IsTextFor (problem_of number search') text → (status ≡ Done) ⊎ (status ≡ Unwritten) → IsMadeRun number search' status
+  made_run_written text status written ends =
+      let made = made-problem number search' in
+      let fits = made_within made.0 text made.1 written in
+      ⊎_elim
+      (λ (e : status ≡ Done). subst (λ s. IsMadeRun number search' s) (sym e) (made.0, made.1, fits))
+      (λ (e : status ≡ Unwritten). subst (λ s. IsMadeRun number search' s) (sym e) (made.0, made.1, fits))
+      ends
+
+  pub made_complete : (task : TaskValue) (status : Status) → problem_of number search' ≡ Ok task → IsWithinNodes task → IsTaskRefusal (problem_of number search') status → IsDoneOrMemory status
+  made_complete task Done is fits refused = absurd refused
+  made_complete task (Refuted plan place) is fits refused = absurd (ok-err (problem_of number search') task (Refuted plan place) is refused)
+  made_complete task BadWords is fits refused = absurd refused
+  made_complete task (Unread file) is fits refused = absurd refused
+  made_complete task (BadPbn line kind) is fits refused = absurd (ok-err (problem_of number search') task (BadPbn line kind) is refused)
+  made_complete task (BadLayouts fault) is fits refused = absurd (ok-err (problem_of number search') task (BadLayouts fault) is refused)
+  made_complete task NoTurn is fits refused = absurd (ok-err (problem_of number search') task NoTurn is refused)
+  made_complete task (Spent card) is fits (other, also, spent) = absurd (not_spent task card fits (subst (λ t. IsSpentOn t card) (ok-same (problem_of number search') other task also is) spent))
+  made_complete task Unwritten is fits refused = absurd refused
+  made_complete task Memory is fits refused = inr refl
+  made_complete task (TooLong file) is fits refused = absurd refused
+  made_complete task (BadReport line kind) is fits refused = absurd (ok-err (problem_of number search') task (BadReport line kind) is refused)
+  made_complete task (BadMake fault) is fits refused = absurd (ok-err (problem_of number search') task (BadMake fault) is refused)

@@ -1,4 +1,5 @@
 pub mod Completes
+pub mod InFront
 pub mod MadeAccepted
 pub mod Reporting
 pub mod SolvedGood

@@ -1,5 +1,5 @@
 -- Words that ask for the problem of a number are accepted.
-use Rattle.std.proofs.Common.{◌≡◌, ℕ, List, Some, Ok, refl}
+use Rattle.std.proofs.Common.{◌≡◌, ◌∙◌, ℕ, List, Some, Ok, refl}
 use Rattle.am_outside.specs.Shelf.{Files}
 use Rattle.job_words.specs.declared.asks.Search.{Search}
 use Rattle.job_words.specs.Asks.{Made}
@@ -21,8 +21,13 @@ answer-made : (words : List (List ℕ)) (files : Files) (number : ℕ) (search :
 unfolding answer inputs_read named_read task_in
 answer-made words files number search asked = rw asked refl
 
+-- the number leads to a root
+pub made-problem : (number : ℕ) (search : Search) → (root : Root) × (problem_of number search ≡ Ok (Problem number root search))
+unfolding problem_of
+made-problem number search = (root_made number (accepted number), rw (root-made number (accepted number)) refl)
+
 pub made-accepted : (words : List (List ℕ)) (files : Files) (number : ℕ) (search : Search) → words_read words ≡ Some (Made number search)
     → (root : Root) × (answer words files ≡ Ok (Problem number root search))
-unfolding problem_of
 made-accepted words files number search asked =
-    (root_made number (accepted number), rw (answer-made words files number search asked, root-made number (accepted number)) refl)
+    let made = made-problem number search in
+    (made.0, answer-made words files number search asked ∙ made.1)

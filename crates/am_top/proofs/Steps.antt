@@ -1,8 +1,9 @@
 -- How the stages of a run come together to the answer.
-use Rattle.std.proofs.Common.{◌≡◌, subst, ℕ, List, Option, Some, None, Result, Ok, Err, refl, sym, ap₂, ◌∙◌}
+use Rattle.std.proofs.Common.{◌≡◌, ◌⊎◌, inl, inr, subst, ℕ, List, Option, Some, None, Result, Ok, Err, refl, sym, ap₂, ◌∙◌, rules}
 use Rattle.std.specs.Prelude.{IfSome, IfOk, IfErr}
 use Rattle.am_outside.specs.Shelf.{Files}
 use Rattle.am_answer.specs.declared.inputs.Inputs.{Inputs}
+use Rattle.am_answer.specs.declared.inputs.Inputs.TheVariants.{Made}
 use Rattle.am_answer.specs.declared.status.Status.{Status}
 use Rattle.am_answer.specs.declared.status.Status.TheVariants.{Done, Refuted, BadWords, Unread, BadPbn, BadLayouts, NoTurn, Spent, Unwritten, Memory, TooLong, BadReport, BadMake}
 use Rattle.job_words.specs.declared.asks.Search.{Search}
@@ -82,3 +83,31 @@ told_refused (Some files) words inputs result same is = rw (answer-in words file
 
 pub reading-not_done : (status : Status) → IsOfReading status → (status ≡ Done → ⊥) × (status ≡ Unwritten → ⊥)
 reading-not_done status is = (λ same. subst IsOfReading same is, λ same. subst IsOfReading same is)
+
+-- ---- the problem of a number
+
+made-task : (number : ℕ) (search' : Search) → task_in (Made number search') ≡ problem_of number search'
+unfolding task_in
+made-task number search' = refl
+
+ok_inputs : {A E : Type 0} (result : Result A E) (inputs made : A) (memory : E) → result ≡ Ok inputs → (result ≡ Ok made) ⊎ (result ≡ Err memory) → inputs ≡ made
+ok_inputs result inputs made memory ok (inl is) = search (rules, sym ok ∙ is)
+ok_inputs result inputs made memory ok (inr is) = absurd (search (rules, sym ok ∙ is))
+
+err_inputs : {A E : Type 0} (result : Result A E) (status memory : E) (made : A) → result ≡ Err status → (result ≡ Ok made) ⊎ (result ≡ Err memory) → status ≡ memory
+err_inputs result status memory made err (inl is) = absurd (search (rules, sym err ∙ is))
+err_inputs result status memory made err (inr is) = search (rules, sym err ∙ is)
+
+module _ (read : Result Inputs Status) (number : ℕ) (search' : Search) (only : (read ≡ Ok (Made number search')) ⊎ (read ≡ Err Memory)) where
+  pub made_text : (inputs : Inputs) (result : Result (List ℕ) Status) → read ≡ Ok inputs → IfOk result (IsTextFor (task_in inputs)) → IfOk result (IsTextFor (problem_of number search'))
+  made_text inputs result ok is =
+      let same = ok_inputs read inputs (Made number search') Memory ok only in
+      subst (λ found. IfOk result (IsTextFor found)) (made-task number search') (subst (λ inputs. IfOk result (IsTextFor (task_in inputs))) same is)
+
+  pub made_refused : (inputs : Inputs) (result : Result (List ℕ) Status) → read ≡ Ok inputs → IfErr result (IsTaskRefusal (task_in inputs)) → IfErr result (IsTaskRefusal (problem_of number search'))
+  made_refused inputs result ok is =
+      let same = ok_inputs read inputs (Made number search') Memory ok only in
+      subst (λ found. IfErr result (IsTaskRefusal found)) (made-task number search') (subst (λ inputs. IfErr result (IsTaskRefusal (task_in inputs))) same is)
+
+  pub made_unread : (status : Status) → read ≡ Err status → IsTaskRefusal (problem_of number search') status
+  made_unread status err = subst (λ s. IsTaskRefusal (problem_of number search') s) (sym (err_inputs read status Memory (Made number search') err only)) tt

@@ -1,5 +1,6 @@
 //! The work of each job, by what was read.
 ghost use Rattle.std.specs.Prelude.{◌≡◌, ◌<◌, ◌-◌, ◌^◌, true, length, IfOk, IfErr};
+ghost use Rattle.job_words.specs.Asks.{IsSearchWithinLimits};
 ghost use Rattle.am_answer.specs.Answers.{has_choice, listed_in, problem_of, task_at, task_in};
 ghost use Rattle.am_answer.specs.Files.{AreWithin, IsWithin};
 ghost use Rattle.am_answer.specs.Stages.{IsFileRefusal, IsTaskRefusal, IsTextFor};
@@ -46,6 +47,7 @@ fn list(alloc: Global, deal: &Text) -> Result<Text, Status>
 // Makes a problem from a number, reads it as files are read, and solves it.
 #[tactic(auto, unfolding(am_answer::specs::Answers::problem_of))]
 fn solve_made(alloc: Global, number: u64, search: &Search) -> Result<Text, Status>
+    requires { IsSearchWithinLimits search.now }
     ensures text { IfOk result (IsTextFor (problem_of number search.now)) }
     ensures refused { IfErr result (IsTaskRefusal (problem_of number search.now)) }
 {

@@ -1,17 +1,18 @@
 //! The call that the program makes.
-ghost use Rattle.std.specs.Prelude.{◌≡◌, ◌≢◌, ◌≤◌, ◌⊎◌, Ok, None, Some, IfOk, IfErr, IfSome};
+ghost use Rattle.std.specs.Prelude.{◌≡◌, ◌≢◌, ◌≤◌, ◌⊎◌, ℕ, Ok, None, Some, IfOk, IfErr, IfSome};
 ghost use Rattle.std.specs.Prelude.{IsErrOf};
 ghost use Rattle.std.specs.Io.KnownBytes.{append_known};
 ghost use Rattle.am_outside.specs.Faults.{Rose};
 ghost use Rattle.am_outside.specs.Sink.{AppendsPart};
-ghost use Rattle.job_words.specs.Asks.{AskValue, texts_of};
+ghost use Rattle.job_words.specs.declared.asks.Search.{Search};
+ghost use Rattle.job_words.specs.Asks.{AskValue, Made, texts_of};
 ghost use Rattle.job_words.specs.Words.{words_read};
-ghost use Rattle.am_answer.specs.Answers.{TaskValue, answer};
-ghost use Rattle.am_answer.specs.Stages.{IsRefusal, IsTextFor};
+ghost use Rattle.am_answer.specs.Answers.{TaskValue, answer, problem_of};
+ghost use Rattle.am_answer.specs.Stages.{IsRefusal, IsTaskRefusal, IsTextFor};
 ghost use Rattle.am_line.specs.Lines.{status_line, IsSaid};
 ghost use Rattle.am_answer.specs.Refusals.{IsUnread};
 ghost use Rattle.am_answer.specs.Endings.{IsStatusFor, IsReported, IsReportedInPart, IsWithinNodes};
-ghost use Rattle.am_answer.specs.Endings.{IsDoneOrMemory, HasNoFault};
+ghost use Rattle.am_answer.specs.Endings.{IsDoneOrMemory, IsKeptInFront, IsMadeRun, HasNoFault};
 
 use crate::jobs::text_in;
 use am_answer::{FileWord, Status};
@@ -41,6 +42,12 @@ fn text_for<R: Threads + Sync, S: Shelf>(
         → IsUnread (texts_of words.now) (S.faults shelf.old) (S.faults shelf.new) file }
     ensures nothing_written { IfErr result (λ status.
         (status ≢ Status.Done) × (status ≢ Status.Unwritten)) }
+    ensures made_text { (number : ℕ) (search : Search)
+        → words_read (texts_of words.now) ≡ Some (Made number search)
+        → IfOk result (IsTextFor (problem_of number search)) }
+    ensures made_refused { (number : ℕ) (search : Search)
+        → words_read (texts_of words.now) ≡ Some (Made number search)
+        → IfErr result (IsTaskRefusal (problem_of number search)) }
     ensures same_files { S.told shelf.new ≡ S.told shelf.old }
 {
     match read_inputs(alloc, words, shelf) {
@@ -94,6 +101,18 @@ pub fn run<R: Threads + Sync, S: Shelf, O: Sink, E: Sink, G: Gate>(
         → IsWithinNodes task → HasNoFault ask (S.faults shelf.old) (S.faults shelf.new)
         → ¬ (Rose (O.faults out.old) (O.faults out.new)) → IsDoneOrMemory result) }
 
+    // The problem of a number needs no file: what is said of it holds over every shelf.
+    ensures made_report { (number : ℕ) (search : Search)
+        → words_read (texts_of words.now) ≡ Some (Made number search) → result ≡ Status.Done
+        → IsReported (problem_of number search) (O.told out.old) (O.told out.new) }
+    ensures made_status { (number : ℕ) (search : Search)
+        → words_read (texts_of words.now) ≡ Some (Made number search)
+        → IsMadeRun number search result }
+    ensures made_complete { (number : ℕ) (search : Search) (task : TaskValue)
+        → words_read (texts_of words.now) ≡ Some (Made number search)
+        → problem_of number search ≡ Ok task → IsWithinNodes task
+        → ¬ (Rose (O.faults out.old) (O.faults out.new)) → IsDoneOrMemory result }
+
     // What shows each cause.
     ensures bad_words { result ≡ Status.BadWords → words_read (texts_of words.now) ≡ None }
     ensures only_bad_words { words_read (texts_of words.now) ≡ None
@@ -101,6 +120,9 @@ pub fn run<R: Threads + Sync, S: Shelf, O: Sink, E: Sink, G: Gate>(
     ensures unread { (file : FileWord) → result ≡ Status.Unread file
         → IsUnread (texts_of words.now) (S.faults shelf.old) (S.faults shelf.new) file }
     ensures unwritten { result ≡ Status.Unwritten → Rose (O.faults out.old) (O.faults out.new) }
+
+    // What was written before stays in front of what is written.
+    ensures in_front { IsKeptInFront (O.told out.old) (O.told out.new) }
 
     // What a refused run has written.
     ensures untouched { (result ≢ Status.Done) → (result ≢ Status.Unwritten) → out.new ≡ out.old }

@@ -6,6 +6,7 @@ use std::alloc::{AllocError, Global};
 use std::thread::Threads;
 
 mod jobs;
+mod options;
 mod refusals;
 mod reports;
 

@@ -2,7 +2,7 @@
 use card_sets::{Card, CardSet, Seat, Suit};
 use dd_solver::{Solver, makes_plain};
 use std::alloc::Global;
-use trick_rules::{Position, Trump};
+use trick_rules::{Position, Trump, play};
 
 /// Which trumps the endings have.
 #[derive(Clone, Copy)]
@@ -12,12 +12,108 @@ pub enum Strain {
     Suit,
 }
 
-/// How many tricks an ending has, who answers, and which trumps there are.
+/// What is asked of an ending.
+#[derive(Clone, Copy)]
+pub enum Question {
+    /// Whether declarer's side takes a random need.
+    Need,
+    /// The same of plain minimax.
+    Plain,
+    /// How many tricks declarer's side takes.
+    Tricks,
+    /// How many of declarer's cards keep the tricks of the first of 20 layouts, summed over the
+    /// layouts.
+    Sampling,
+}
+
+/// How many tricks an ending has, what is asked of it, and which trumps there are.
 #[derive(Clone, Copy)]
 pub struct Workload {
     pub tricks: u8,
-    pub plain: bool,
+    pub question: Question,
     pub strain: Strain,
+}
+
+/// How many layouts are sampled.
+const LAYOUTS: usize = 20;
+
+/// The cards of an ending in which declarer leads.
+#[derive(Drop)]
+struct Ending {
+    declarer: CardSet,
+    dummy: CardSet,
+    unseen: CardSet,
+    trump: Trump,
+}
+
+impl Ending {
+    // Whether declarer's side takes a need where Left holds these cards.
+    fn makes(&self, solver: &mut Solver, left: CardSet, need: u8) -> bool {
+        match self.position(need) {
+            Some(position) if position.fits(left) => solver.makes(&position, left),
+            _ => false,
+        }
+    }
+
+    // The same of plain minimax.
+    fn makes_plain(&self, left: CardSet, need: u8) -> bool {
+        match self.position(need) {
+            Some(position) if position.fits(left) => makes_plain(&position, left),
+            _ => false,
+        }
+    }
+
+    fn position(&self, need: u8) -> Option<Position> {
+        Position::between_tricks(
+            self.declarer,
+            self.dummy,
+            self.unseen,
+            Seat::Declarer,
+            need,
+            self.trump,
+        )
+    }
+
+    // How many tricks declarer's side takes where Left holds these cards.
+    fn tricks(&self, solver: &mut Solver, left: CardSet) -> u8 {
+        let mut tricks = 0;
+        for need in 1..=self.declarer.count().min(13) {
+            if self.makes(solver, left, need) {
+                tricks = need;
+            } else {
+                break;
+            }
+        }
+        tricks
+    }
+
+    // In how many of the layouts declarer's side takes the need after a card.
+    fn layouts_made(&self, solver: &mut Solver, lefts: &[CardSet], need: u8, card: Card) -> u64 {
+        let mut made: u64 = 0;
+        let Some(position) = self.position(need) else {
+            return 0;
+        };
+        if !position.held_by(position.to_play()).has(card) {
+            return 0;
+        }
+        let after = play(&position, card);
+        for left in lefts {
+            if after.fits(*left) && solver.makes(&after, *left) {
+                made = made.saturating_add(1);
+            }
+        }
+        made
+    }
+
+    // How many cards keep the tricks of the first layout, summed over the layouts.
+    fn sampled(&self, solver: &mut Solver, lefts: &[CardSet; LAYOUTS]) -> u64 {
+        let need = self.tricks(solver, lefts[0]).max(1);
+        let mut made: u64 = 0;
+        for card in self.declarer {
+            made = made.saturating_add(self.layouts_made(solver, lefts.as_slice(), need, card));
+        }
+        made
+    }
 }
 
 /// Numbers that follow one another without an order that shows.
@@ -71,8 +167,18 @@ impl Draws {
         hand
     }
 
-    // Whether declarer's side makes an ending.
-    fn makes_next(&mut self, alloc: Global, work: Workload) -> bool {
+    // Left's hands in so many layouts, the first of them given.
+    fn lefts(&mut self, unseen: CardSet, first: CardSet) -> [CardSet; LAYOUTS] {
+        let mut lefts = [first; LAYOUTS];
+        for place in 1..LAYOUTS {
+            let mut used = CardSet::pack().minus(unseen);
+            lefts[place] = self.hand(first.count(), &mut used);
+        }
+        lefts
+    }
+
+    // The cards of the next ending, Left's hand, and a need.
+    fn ending(&mut self, work: Workload) -> (Ending, CardSet, u8) {
         let mut used = CardSet::empty();
         let declarer = self.hand(work.tricks, &mut used);
         let left = self.hand(work.tricks, &mut used);
@@ -80,29 +186,44 @@ impl Draws {
         let right = self.hand(work.tricks, &mut used);
         let trump = self.trump(work.strain);
         let need = 1 + (self.next(u64::from(work.tricks)) % 13) as u8;
-        let unseen = left.either(right);
-        match Position::between_tricks(declarer, dummy, unseen, Seat::Declarer, need, trump) {
-            Some(position) if position.fits(left) => {
-                if work.plain {
-                    makes_plain(&position, left)
-                } else {
-                    Solver::new(alloc).makes(&position, left)
-                }
+        let ending = Ending {
+            declarer,
+            dummy,
+            unseen: left.either(right),
+            trump,
+        };
+        (ending, left, need)
+    }
+
+    // The answer of the next ending: a number, or 1 for yes and 0 for no.
+    fn answer_next(&mut self, alloc: Global, work: Workload) -> u64 {
+        let (ending, left, need) = self.ending(work);
+        let mut solver = Solver::new(alloc);
+        match work.question {
+            Question::Need => u64::from(ending.makes(&mut solver, left, need)),
+            Question::Plain => u64::from(ending.makes_plain(left, need)),
+            Question::Tricks => u64::from(ending.tricks(&mut solver, left)),
+            Question::Sampling => {
+                let lefts = self.lefts(ending.unseen, left);
+                ending.sampled(&mut solver, &lefts)
             }
-            _ => false,
         }
     }
 }
 
-/// How many of so many endings are made. Each is answered by a solver of its own.
-/// No clause pins the count: the script compares it with what the programs in C++ count.
-pub fn made_of(alloc: Global, work: Workload, endings: u64) -> u64 {
+/// A number that the answers for so many endings give, each by a solver of its own, after `first`
+/// endings that nothing is asked of. No clause pins it: the script compares it with that of the
+/// programs in C++.
+pub fn answers_of(alloc: Global, work: Workload, first: u64, endings: u64) -> u64 {
     let mut draws = Draws { state: 20_191_118 };
-    let mut made: u64 = 0;
-    for _ in 0..endings {
-        if draws.makes_next(alloc, work) {
-            made = made.saturating_add(1);
-        }
+    for _ in 0..first {
+        let _ = draws.ending(work);
     }
-    made
+    let mut answers: u64 = 0;
+    for _ in 0..endings {
+        answers = answers
+            .wrapping_mul(31)
+            .wrapping_add(draws.answer_next(alloc, work));
+    }
+    answers
 }

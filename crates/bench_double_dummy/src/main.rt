@@ -5,33 +5,38 @@
 
 mod endings;
 
-use endings::{Strain, Workload, made_of};
+use endings::{Question, Strain, Workload, answers_of};
 use std::env;
 
-/// The arguments: how many tricks an ending has, and how many endings. Then, in any order, `plain`
-/// for plain minimax in place of the solver, and `notrump` or `suit` for endings without or with
-/// trumps alone.
+/// The arguments: how many tricks an ending has, how many endings are passed over, and how many are
+/// answered. Then, in any order, `plain` for plain minimax in place of the solver, `tricks` or
+/// `sampling` for another question, and `notrump` or `suit` for endings without or with trumps
+/// alone. Other words say nothing.
 fn main(rt: HostRuntime) -> anyhow::Result<()> {
-    let mut numbers = [0u64; 2];
-    let mut plain = false;
+    let mut numbers = [0u64; 3];
+    let mut question = Question::Need;
     let mut strain = Strain::Any;
     for (place, word) in env::args(&rt)?.skip(1).enumerate() {
         let text = word.as_str();
-        if place < 2 {
+        if place < 3 {
             numbers[place] = text.parse()?;
         } else if text == "plain" {
-            plain = true;
+            question = Question::Plain;
+        } else if text == "tricks" {
+            question = Question::Tricks;
+        } else if text == "sampling" {
+            question = Question::Sampling;
         } else if text == "notrump" {
             strain = Strain::NoTrump;
-        } else {
+        } else if text == "suit" {
             strain = Strain::Suit;
         }
     }
     let work = Workload {
         tricks: numbers[0].min(13) as u8,
-        plain,
+        question,
         strain,
     };
-    println!(rt; "{}", made_of(rt.alloc(), work, numbers[1]))?;
+    println!(rt; "{}", answers_of(rt.alloc(), work, numbers[1], numbers[2]))?;
     Ok(())
 }

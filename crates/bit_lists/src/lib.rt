@@ -1,4 +1,5 @@
 //! What a machine word means: a set of places, or a list of bits.
 //! It stands on the standard library alone.
-//! Definitions and lemmas alone: `card_sets` reads a word as a set of cards, `win_vectors` as a list of bits.
+//! Definitions and lemmas alone: `card_sets` reads a word as a set of cards, `win_vectors` as a
+//! list of bits.
 #![tactic(auto)]

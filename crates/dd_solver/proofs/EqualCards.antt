@@ -53,7 +53,7 @@ all_renamed a b p q old new r same =
 -- ---- one state and the other, card after card
 
 module _ (a b : ℕ) (suit : suit_of a ≡ suit_of b) (order : a < b) (low : b < 52) where
-  makes-mirrored : (n : ℕ) (s m : State) → IsState s → IsState m → Mirrored a b s m → Follows a b s → cards_left s.position < n → makes m ≡ makes s
+  pub makes-mirrored : (n : ℕ) (s m : State) → IsState s → IsState m → Mirrored a b s m → Follows a b s → cards_left s.position < n → makes m ≡ makes s
   makes-mirrored zero s m ok mok r f few = absurd (omega arith)
   makes-mirrored (suc n) s m ok mok r f few =
       let over : is_over m.position ≡ is_over s.position = ap {B = Bool} (λ k. eqb k 0) r.tricks in
@@ -163,7 +163,7 @@ module _ (s : State) (ok : IsState s) (a b : ℕ) (eq : AreEqual s a b) where
   one_start : has_card (with_card s.position a) b ≡ false
   one_start = with_card-absent s.position a b (not_in_trick s ok (to_play s.position) b held_b) (λ e. let o = eq.order in omega arith)
 
-  follows-start : Follows a b (after s a)
+  pub follows-start : Follows a b (after s a)
   follows-start = record {
     gone = hand-gone s a;
     none = λ d low high. absent-after s.position a d (legal_can_play s ok a eq.low_legal) (eq.between d low high);
@@ -176,7 +176,7 @@ module _ (s : State) (ok : IsState s) (a b : ℕ) (eq : AreEqual s a b) where
         (λ _ h. absurd (false≢true h));
   }
 
-  mirrored-start : b < 52 → Mirrored a b (after s a) (after s b)
+  pub mirrored-start : b < 52 → Mirrored a b (after s a) (after s b)
   mirrored-start low =
       let can_a = legal_can_play s ok a eq.low_legal in
       let can_b = legal_can_play s ok b eq.high_legal in

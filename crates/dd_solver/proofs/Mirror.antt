@@ -127,7 +127,7 @@ in_play-unseen : (t : PositionValue) (d : ℕ) → has_card t.unseen d ≡ true 
 in_play-unseen t d h =
     or_left (has_card t.declarer d || has_card t.dummy d || has_card t.unseen d) (has_card t.trick.cards d) (or_right (has_card t.declarer d || has_card t.dummy d) (has_card t.unseen d) h)
 
-in_play-held : (t : PositionValue) (seat : Seat) (d : ℕ) → has_card (held_by t seat) d ≡ true → in_play t d ≡ true
+pub in_play-held : (t : PositionValue) (seat : Seat) (d : ℕ) → has_card (held_by t seat) d ≡ true → in_play t d ≡ true
 in_play-held t Declarer d h = rw h refl
 in_play-held t Left d h = in_play-unseen t d h
 in_play-held t Right d h = in_play-unseen t d h

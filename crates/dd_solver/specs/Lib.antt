@@ -1,3 +1,4 @@
 pub mod Keys
 pub mod Choices
 pub mod Equals
+pub mod Needs

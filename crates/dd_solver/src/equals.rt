@@ -20,8 +20,8 @@ fn cards_of(trick: &Trick) -> CardSet
     cards
 }
 
-// The cards of all hands and of the present trick.
-fn cards_in_play(position: &Position) -> CardSet
+/// The cards of all hands and of the present trick.
+pub fn cards_in_play(position: &Position) -> CardSet
     ensures { result ≡ cards_where (in_play position.now) }
 {
     let ours = position.declarer.either(position.dummy);

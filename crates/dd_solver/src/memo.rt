@@ -1,12 +1,12 @@
 //! What is known already of positions between two tricks.
-ghost use Rattle.std.specs.Prelude.{◌≡◌, ◌<◌, ◌≤◌, [], IfSome, IsTrue, vec_len};
-ghost use Rattle.dd_solver.specs.Keys.{key_state};
+ghost use Rattle.std.specs.Prelude.{◌≡◌, ℕ, ◌+◌, ◌<◌, ◌≤◌, IfSome, true, false, vec_len};
+ghost use Rattle.dd_solver.specs.Keys.{key_state, IsAnswer};
 ghost use Rattle.trick_rules.specs.Play.{makes};
 
-use card_sets::{CardSet, Seat};
+use crate::key::Key;
+use crate::order::TURNS;
+use card_sets::Card;
 use std::alloc::Global;
-use std::hash::{FoldHasher, Hash, Hasher};
-use trick_rules::{Position, Trump};
 
 /// The most entries of a memo.
 const MOST_ENTRIES: usize = 262_144;
@@ -14,86 +14,108 @@ const MOST_ENTRIES: usize = 262_144;
 /// The entries of the first table. Each later table has four times as many.
 const FIRST_ENTRIES: usize = 256;
 
-/// A position between two tricks, and Left's hand.
-#[derive(Clone, Copy, Debug)]
-struct Key {
-    declarer: CardSet,
-    dummy: CardSet,
-    unseen: CardSet,
-    left: CardSet,
-    leader: Seat,
-    need: u8,
-    trump: Trump,
-}
-
-impl Key {
-    fn of(position: &Position, left: CardSet) -> Key
-        requires { position.now.trick.cards ≡ [] }
-        ensures { key_state result ≡ record { position = position.now; left = left } }
-    {
-        Key {
-            declarer: position.declarer,
-            dummy: position.dummy,
-            unseen: position.unseen,
-            left,
-            leader: position.trick.leader,
-            need: position.need,
-            trump: position.trump,
-        }
-    }
-
-    fn equals(&self, other: &Key) -> bool
-        ensures { IsTrue result → self.now ≡ other.now }
-    {
-        let same_cards = self.left == other.left
-            && self.unseen == other.unseen
-            && self.declarer == other.declarer
-            && self.dummy == other.dummy;
-        same_cards
-            && self.need == other.need
-            && self.leader == other.leader
-            && self.trump == other.trump
-    }
-
-    // A number that differs between most keys.
-    fn code(&self) -> u64 {
-        let mut hasher = FoldHasher::default();
-        self.declarer.hash(&mut hasher);
-        self.dummy.hash(&mut hasher);
-        self.unseen.hash(&mut hasher);
-        self.left.hash(&mut hasher);
-        let turn = match self.leader {
-            Seat::Declarer => 0,
-            Seat::Left => 16,
-            Seat::Dummy => 32,
-            Seat::Right => 48,
-        };
-        hasher.finish() ^ turn ^ u64::from(self.need)
-    }
-}
-
-/// A position between two tricks and Left's hand, with what double dummy answers there.
+/// A position between two tricks and Left's hand, with what double dummy answers there. What makes
+/// with a need makes with each lower one, so two bounds say it of many needs.
 #[derive(Clone, Copy, Debug)]
 struct Entry {
     key: Key,
-    made: bool,
-    ghost known: { makes (key_state key) ≡ made },
+    // Each need below this one is known to make.
+    sure: u8,
+    // Each need from this one on is known to fail.
+    failed: u8,
+    ghost makes_below: { (need : ℕ) → need < sure → makes (key_state key need) ≡ true },
+    ghost fails_from: { (need : ℕ) → failed ≤ need → need ≤ 13
+        → makes (key_state key need) ≡ false },
 }
 
-// The slot of a number, among so many.
+impl Entry {
+    // An entry that knows nothing.
+    fn new(key: Key) -> Entry
+        ensures { result.key ≡ key }
+    {
+        Entry {
+            key,
+            sure: 0,
+            failed: 14,
+        }
+    }
+
+    // The answer for a need, where the entry knows it.
+    fn answer(&self, need: u8) -> Option<bool>
+        requires { need ≤ 13 }
+        ensures { IfSome result (λ made. makes (key_state self.now.key need) ≡ made) }
+    {
+        if need < self.sure {
+            Some(true)
+        } else if self.failed <= need {
+            Some(false)
+        } else {
+            None
+        }
+    }
+
+    // The entry that knows this answer too.
+    fn with(self, need: u8, made: bool) -> Entry
+        requires fits { need ≤ 13 }
+        requires known { IsAnswer self.key need made }
+    {
+        if made && self.sure <= need {
+            Entry {
+                key: self.key,
+                sure: need + 1,
+                failed: self.failed,
+            }
+        } else if !made && need < self.failed {
+            Entry {
+                key: self.key,
+                sure: self.sure,
+                failed: need,
+            }
+        } else {
+            self
+        }
+    }
+}
+
+// The first of the two slots of a number, among so many.
 #[tactic(auto, using(std::proofs::lemmas::Nat::and_le_r))]
 fn slot_of(number: u64, slots: usize) -> usize
-    requires { 0 < slots }
-    ensures { result < slots }
+    requires { 2 ≤ slots }
+    ensures { result + 1 < slots }
 {
-    (number & (slots - 1) as u64) as usize
+    (number & (slots / 2 - 1) as u64) as usize * 2
 }
 
-// Puts the entry in its slot, in place of what is there.
+// What stands in a slot, where it is of this key.
+fn entry_in(slot: &Option<Entry>, key: &Key) -> Option<Entry>
+    ensures { IfSome result (λ entry. entry.key ≡ key.now) }
+{
+    let entry = (*slot)?;
+    if entry.key.equals(key) {
+        Some(entry)
+    } else {
+        None
+    }
+}
+
+// Whether what stands in a slot is to stay there: another position with more tricks left, whose
+// answer took longer to find.
+fn outlasts(slot: &Option<Entry>, entry: &Entry) -> bool {
+    match slot {
+        Some(there) => entry.key.tricks() < there.key.tricks() && !there.key.equals(&entry.key),
+        None => false,
+    }
+}
+
+// Puts the entry in the first of its slots, or where what is there stays in the second.
 fn put(slots: &mut [Option<Entry>], entry: Entry) {
-    if !slots.is_empty() {
+    if slots.len() >= 2 {
         let slot = slot_of(entry.key.code(), slots.len());
-        slots[slot] = Some(entry);
+        if outlasts(&slots[slot], &entry) {
+            slots[slot + 1] = Some(entry);
+        } else {
+            slots[slot] = Some(entry);
+        }
     }
 }
 
@@ -115,12 +137,14 @@ fn wider_size(slots: usize) -> usize
     }
 }
 
-/// Answers between two tricks. What finds its slot taken by another position takes its place.
+/// Answers between two tricks. A position has two slots, and takes the place of another one there.
+/// With them the leads that settled a result last, by the turn.
 #[derive(Debug, Drop)]
 pub(crate) struct Memo {
     alloc: Global,
     slots: Vec<Option<Entry>>,
     stored: usize,
+    favourites: [Option<Card>; TURNS],
     ghost few: { vec_len slots ≤ 262144 },
 }
 
@@ -131,37 +155,59 @@ impl Memo {
             alloc,
             slots: Vec::new(alloc),
             stored: 0,
+            favourites: [None; TURNS],
         }
     }
 
-    /// What double dummy answers, where the memo holds it.
-    pub(crate) fn look(&self, position: &Position, left: CardSet) -> Option<bool>
-        requires { position.now.trick.cards ≡ [] }
-        ensures { IfSome result
-            (λ made. makes (record { position = position.now; left = left }) ≡ made) }
+    /// The lead that settled a result last at this turn.
+    pub(crate) fn favourite(&self, turn: Option<usize>) -> Option<Card> {
+        *self.favourites.get(turn?)?
+    }
+
+    /// Notes a lead that settled a result.
+    pub(crate) fn favour(&mut self, turn: Option<usize>, card: Card) {
+        if let Some(place) = turn {
+            if place < TURNS {
+                self.favourites[place] = Some(card);
+            }
+        }
+    }
+
+    // What stands in the slots of a key, where it is of that key.
+    fn entry(&self, key: &Key) -> Option<Entry>
+        ensures { IfSome result (λ entry. entry.key ≡ key.now) }
     {
-        if self.slots.is_empty() {
+        if self.slots.len() < 2 {
             return None;
         }
-        let key = Key::of(position, left);
-        let entry = self.slots[slot_of(key.code(), self.slots.len())]?;
-        if entry.key.equals(&key) {
-            Some(entry.made)
-        } else {
-            None
+        let slot = slot_of(key.code(), self.slots.len());
+        match entry_in(&self.slots[slot], key) {
+            Some(entry) => Some(entry),
+            None => entry_in(&self.slots[slot + 1], key),
         }
+    }
+
+    /// What double dummy answers for a need, where the memo knows it.
+    pub(crate) fn look(&self, key: &Key, need: u8) -> Option<bool>
+        requires { need ≤ 13 }
+        ensures { IfSome result (λ made. makes (key_state key.now need) ≡ made) }
+    {
+        self.entry(key)?.answer(need)
     }
 
     /// Puts an answer in. Where there is no memory for it, nothing is put in.
-    pub(crate) fn keep(&mut self, position: &Position, left: CardSet, made: bool)
-        requires between { position.now.trick.cards ≡ [] }
-        requires known { makes (record { position = position.now; left = left }) ≡ made }
+    pub(crate) fn keep(&mut self, key: &Key, need: u8, made: bool)
+        requires fits { need ≤ 13 }
+        requires known { IsAnswer key.now need made }
     {
         if self.stored >= self.slots.len() / 2 && self.slots.len() < MOST_ENTRIES {
             self.grow();
         }
-        let key = Key::of(position, left);
-        put(self.slots.as_mut_slice(), Entry { key, made });
+        let entry = match self.entry(key) {
+            Some(entry) => entry,
+            None => Entry::new(*key),
+        };
+        put(self.slots.as_mut_slice(), entry.with(need, made));
         self.stored = self.stored.saturating_add(1);
     }
 

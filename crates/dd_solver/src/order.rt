@@ -4,6 +4,24 @@ ghost use Rattle.card_sets.specs.SetWords.{IsSubset};
 use card_sets::{Card, CardSet, Seat, Suit};
 use trick_rules::{Position, Trump};
 
+/// How many turns to lead are told apart.
+pub(crate) const TURNS: usize = 56;
+
+/// A number of a turn to lead, by the seat and the tricks left, from 0: `None` to a trick that has
+/// a card.
+pub(crate) fn turn_of(position: &Position) -> Option<usize> {
+    if !position.trick.cards.is_empty() {
+        return None;
+    }
+    let seat = match position.trick.leader {
+        Seat::Declarer => 0,
+        Seat::Left => 1,
+        Seat::Dummy => 2,
+        Seat::Right => 3,
+    };
+    Some(usize::from(position.declarer.count()) * 4 + seat)
+}
+
 /// The suit led to a trick, and trumps.
 #[derive(Clone, Copy)]
 struct Strain {

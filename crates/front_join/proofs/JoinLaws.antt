@@ -4,12 +4,12 @@ use Rattle.std.proofs.lemmas.List.{length-replicate}
 use Rattle.std.proofs.lemmas.List.Elements.{Contains-get_or, All-contains, All-cons, All-nil, All-head, All-tail}
 use Rattle.std.proofs.lemmas.List.Sorted.{All-permutation, IsPermutation-sym}
 use Rattle.win_vectors.specs.Vectors.{ones_of, meet_of, spread_of, restrict_of}
-use Rattle.win_vectors.specs.Fronts.{Vector, Dominates, Covers, HaveWidth, meets}
+use Rattle.win_vectors.specs.Fronts.{Vector, Dominates, Covers, HaveWidth, meets, spreads}
 use Rattle.win_vectors.proofs.VectorLemmas.{length-meet_of}
 use Rattle.win_vectors.proofs.Orders.{Dominates-trans, Dominates-of, Dominates-by, Dominates-length, Dominates-meet_left, Dominates-meet_right, meet_of-greatest, length-spread_of, Dominates-spread_of}
 use Rattle.win_vectors.proofs.Members.{Contains-first}
 use Rattle.win_vectors.proofs.Reduction.{meets-member, Contains-map, Contains-mapped, reduced-same_cover}
-use Rattle.front_join.specs.Joins.{Child, IsChildOf, spread_vectors, joined, JoinedCovers, JoinedInAnyOrder}
+use Rattle.front_join.specs.Joins.{Child, IsChildOf, joined, JoinedCovers, JoinedInAnyOrder}
 
 -- the vector of all ones dominates each vector of its width
 Dominates-ones : (width : ℕ) (t : Vector) → length t ≡ width → Dominates (replicate width true) t
@@ -39,15 +39,15 @@ meets-cover width f g t f_width g_width = (both, meet) where
   )
 
 -- the spread vectors of a child cover a vector where the child covers its part of it
-spread_vectors-cover : (width : ℕ) (c : Child) (t : Vector) → IsChildOf width c → length t ≡ width → Covers (spread_vectors c.vectors c.mask) t ↔ Covers c.vectors (restrict_of t c.mask)
-spread_vectors-cover width c t child e = (part, whole) where
-  part : Covers (spread_vectors c.vectors c.mask) t → Covers c.vectors (restrict_of t c.mask)
+spreads-cover : (width : ℕ) (c : Child) (t : Vector) → IsChildOf width c → length t ≡ width → Covers (spreads c.mask c.vectors) t ↔ Covers c.vectors (restrict_of t c.mask)
+spreads-cover width c t child e = (part, whole) where
+  part : Covers (spreads c.mask c.vectors) t → Covers c.vectors (restrict_of t c.mask)
   part (w, member, above) =
       let (v, in_child, is) = Contains-map (λ v. spread_of v c.mask) c.vectors w member in
       let long = All-contains (λ v. length v ≡ ones_of c.mask) c.vectors v child.for_child in_child in
       (v, in_child, (Dominates-spread_of v t c.mask long (e ∙ sym child.for_node)).0 (Dominates-by w (spread_of v c.mask) t (sym is) above))
 
-  whole : Covers c.vectors (restrict_of t c.mask) → Covers (spread_vectors c.vectors c.mask) t
+  whole : Covers c.vectors (restrict_of t c.mask) → Covers (spreads c.mask c.vectors) t
   whole (v, in_child, above) =
       let long = All-contains (λ v. length v ≡ ones_of c.mask) c.vectors v child.for_child in_child in
       (spread_of v c.mask, Contains-mapped (λ v. spread_of v c.mask) c.vectors v in_child, (Dominates-spread_of v t c.mask long (e ∙ sym child.for_node)).1 above)
@@ -57,8 +57,8 @@ spread_vectors-cover width c t child e = (part, whole) where
 HaveWidth-members : (width : ℕ) (vs : List Vector) → ((v : Vector) → Contains vs v → length v ≡ width) → HaveWidth width vs
 HaveWidth-members width vs h k d within = h (get_or vs k d) (Contains-get_or vs k d within)
 
-spread_vectors-width : (width : ℕ) (c : Child) → IsChildOf width c → HaveWidth width (spread_vectors c.vectors c.mask)
-spread_vectors-width width c child = HaveWidth-members width (spread_vectors c.vectors c.mask) (λ w member.
+spreads-width : (width : ℕ) (c : Child) → IsChildOf width c → HaveWidth width (spreads c.mask c.vectors)
+spreads-width width c child = HaveWidth-members width (spreads c.mask c.vectors) (λ w member.
     let (v, in_child, is) = Contains-map (λ v. spread_of v c.mask) c.vectors w member in
     let long = All-contains (λ v. length v ≡ ones_of c.mask) c.vectors v child.for_child in_child in
     ap length (sym is) ∙ length-spread_of v c.mask long ∙ child.for_node)
@@ -68,11 +68,11 @@ joined-width width [] children =
     All-cons (λ v. length v ≡ width) (replicate width true) [] (length-replicate width true) (All-nil (λ v. length v ≡ width))
 joined-width width (c ∷ cs) children =
     let before = joined-width width cs (All-tail (IsChildOf width) c cs children) in
-    let spread = spread_vectors-width width c (All-head (IsChildOf width) c cs children) in
+    let spread = spreads-width width c (All-head (IsChildOf width) c cs children) in
     HaveWidth-members width (joined width (c ∷ cs)) (λ w member.
-    let h = (meets-member (joined width cs) (spread_vectors c.vectors c.mask) w).0 member in
+    let h = (meets-member (joined width cs) (spreads c.mask c.vectors) w).0 member in
     let first = All-contains (λ v. length v ≡ width) (joined width cs) h.first before h.in_first in
-    let second = All-contains (λ v. length v ≡ width) (spread_vectors c.vectors c.mask) h.second spread h.in_second in
+    let second = All-contains (λ v. length v ≡ width) (spreads c.mask c.vectors) h.second spread h.in_second in
     ap length (sym h.is) ∙ length-meet_of h.first h.second (first ∙ sym second) ∙ first)
 
 -- ---- the laws
@@ -86,8 +86,8 @@ joined-covers width (c ∷ cs) t children e =
     let child = All-head (IsChildOf width) c cs children in
     let others = All-tail (IsChildOf width) c cs children in
     let rest = joined-covers width cs t others e in
-    let spread = spread_vectors-cover width c t child e in
-    let meet = meets-cover width (joined width cs) (spread_vectors c.vectors c.mask) t (joined-width width cs others) (spread_vectors-width width c child) in (
+    let spread = spreads-cover width c t child e in
+    let meet = meets-cover width (joined width cs) (spreads c.mask c.vectors) t (joined-width width cs others) (spreads-width width c child) in (
       λ above. let both = meet.0 above in All-cons (λ x. Covers x.vectors (restrict_of t x.mask)) c cs (spread.0 both.1) (rest.0 both.0),
       λ every. meet.1 (rest.1 (All-tail (λ x. Covers x.vectors (restrict_of t x.mask)) c cs every), spread.1 (All-head (λ x. Covers x.vectors (restrict_of t x.mask)) c cs every)),
     )

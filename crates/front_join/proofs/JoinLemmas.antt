@@ -2,10 +2,9 @@
 use Rattle.std.proofs.Common.{◌≡◌, ℕ, ◌+◌, ◌<◌, List, [], ◌∷◌, ◌++◌, length, map, ap, ◌∙◌, get_or, take}
 use Rattle.std.proofs.lemmas.List.{take_more, append_assoc, map-append}
 use Rattle.win_vectors.specs.Vectors.{meet_of, spread_of}
-use Rattle.win_vectors.specs.Fronts.{Vector, HaveWidth, IsReduced, meets}
+use Rattle.win_vectors.specs.Fronts.{Vector, HaveWidth, IsReduced, meets, spreads}
 use Rattle.win_vectors.proofs.Reduction.{reduced-push, reduced-of_part, reduced-ignores_order, reduced-nil, meets-push}
 use Rattle.pareto_fronts.specs.FrontValue.{FrontValue, IsSoundFront}
-use Rattle.front_join.specs.Joins.{spread_vectors}
 
 -- the images of one more
 map-take_more : (h : Vector → Vector) (us : List Vector) (i : ℕ) (u : Vector) → i < length us → u ≡ get_or us i u → map h (take (i + 1) us) ≡ map h (take i us) ++ h u ∷ []
@@ -31,14 +30,14 @@ Gathers-more old vectors vector done u new next within is h front width reduced 
 pub record Joins (front child : List Vector) (mask : Vector) (done layouts : ℕ) (best : FrontValue) : Type 0 where
   pub sound : IsSoundFront best
   pub width : best.width ≡ layouts
-  pub reduced : IsReduced (meets front (spread_vectors (take done child) mask)) best.vectors
+  pub reduced : IsReduced (meets front (spreads mask (take done child))) best.vectors
 
 pub Joins-more : (front child : List Vector) (mask : Vector) (done width : ℕ) (v : Vector) (best next : FrontValue) → done < length child → v ≡ get_or child done v
     → Joins front child mask done width best → IsSoundFront next → next.width ≡ best.width → IsReduced (best.vectors ++ map (λ u. meet_of u (spread_of v mask)) front) next.vectors
     → Joins front child mask (done + 1) width next
 Joins-more front child mask done width v best next within is h sound same reduced =
     let spread = spread_of v mask in
-    let before = spread_vectors (take done child) mask in
+    let before = spreads mask (take done child) in
     let whole = (reduced-of_part (meets front before) best.vectors (map (λ u. meet_of u spread) front) next.vectors h.reduced).0 reduced in
     record {
       sound = sound;

@@ -1,7 +1,7 @@
 -- What the fronts of a node's children come to, where a defender chooses among the children.
 use Rattle.std.specs.Prelude.{◌≡◌, ◌↔◌, ℕ, true, List, [], ◌∷◌, length, map, replicate, All, IsPermutation}
-use Rattle.win_vectors.specs.Vectors.{ones_of, spread_of, restrict_of}
-use Rattle.win_vectors.specs.Fronts.{Vector, HaveWidth, Covers, IsReduced, meets}
+use Rattle.win_vectors.specs.Vectors.{ones_of, restrict_of}
+use Rattle.win_vectors.specs.Fronts.{Vector, HaveWidth, Covers, IsReduced, meets, spreads}
 
 -- a child: its front, and a 1 for each layout that it has
 pub record Child : Type 0 where
@@ -13,14 +13,10 @@ pub record IsChildOf (width : ℕ) (c : Child) : Type 0 where
   pub for_node : length c.mask ≡ width
   pub for_child : HaveWidth (ones_of c.mask) c.vectors
 
--- each vector put at the layouts of the mask, with 1 at the other layouts
-abbrev pub spread_vectors : List Vector → Vector → List Vector
-spread_vectors vectors mask = map (λ v. spread_of v mask) vectors
-
 -- all meets of one spread vector of each child: a layout that no child has counts as 1
 abbrev pub joined : ℕ → List Child → List Vector
 joined width [] = replicate width true ∷ []
-joined width (c ∷ cs) = meets (joined width cs) (spread_vectors c.vectors c.mask)
+joined width (c ∷ cs) = meets (joined width cs) (spreads c.mask c.vectors)
 
 -- what is covered: a vector, where each child's front covers the part of it that the child has
 abbrev pub JoinedCovers : Type 0

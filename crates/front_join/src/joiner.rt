@@ -2,9 +2,9 @@
 
 ghost use Rattle.std.specs.Prelude.{◌≡◌, ◌≤◌, ◌∷◌, ◌++◌, [], List, true, false, OnOk, OnErr, IfOk, length, map, replicate};
 ghost use Rattle.front_join.specs.JoinerValue.{IsJoiner};
-ghost use Rattle.front_join.specs.Joins.{Child, joined, spread_vectors};
+ghost use Rattle.front_join.specs.Joins.{Child, joined};
 ghost use Rattle.pareto_fronts.specs.FrontValue.{IsSoundFront};
-ghost use Rattle.win_vectors.specs.Fronts.{HaveWidth, IsReduced, meets};
+ghost use Rattle.win_vectors.specs.Fronts.{HaveWidth, IsReduced, meets, spreads};
 ghost use Rattle.win_vectors.specs.Vectors.{either_of, meet_of, most_layouts, ones_of};
 
 use pareto_fronts::Front;
@@ -58,7 +58,7 @@ impl Joiner {
         requires not_empty { 1 ≤ length child.now.vectors }
         ensures width { self.new.optimistic.width ≡ self.old.optimistic.width }
         ensures front { OnOk result (IsReduced
-            (meets self.old.optimistic.vectors (spread_vectors child.now.vectors mask.now))
+            (meets self.old.optimistic.vectors (spreads mask.now child.now.vectors))
             self.new.optimistic.vectors) }
         ensures covered { OnOk result (self.new.covered ≡ either_of self.old.covered mask.now) }
         ensures err { OnErr result (self.new ≡ self.old) }
@@ -114,7 +114,7 @@ pub fn joined_front(
     ensures front { IfOk result IsSoundFront }
     ensures width { IfOk result (λ f. f.width ≡ front.now.width) }
     ensures reduced { IfOk result (λ f.
-        IsReduced (meets front.now.vectors (spread_vectors child.now.vectors mask)) f.vectors) }
+        IsReduced (meets front.now.vectors (spreads mask child.now.vectors)) f.vectors) }
 {
     let mut best = Front::new(alloc, front.width());
     for vector in child.as_slice().iter() {

@@ -1,2 +1,9 @@
 pub mod Proven
 pub mod Stores
+pub mod Entries
+pub mod LocalStores
+pub mod StoredVectors
+pub mod Digests
+pub mod Buckets
+pub mod BucketsInside
+pub mod EntriesInside

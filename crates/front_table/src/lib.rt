@@ -3,8 +3,17 @@
 //! A hit is the definition's front of that node with those moves; what is put into a store is proved to be one.
 #![tactic(auto)]
 
+mod buckets;
+mod digest;
+mod entries;
+mod local;
 mod proven;
 mod store;
+mod stored_front;
+mod stored_vectors;
 
+pub use entries::Entries;
+pub use local::LocalStore;
 pub use proven::ProvenFront;
 pub use store::{FrontStore, Look, NoStore, Put};
+pub use stored_front::{MOST_ENTRY_VECTORS, StoredFront};

@@ -1,5 +1,6 @@
 //! A front that is proved to be the front of its node.
 ghost use Rattle.std.specs.Prelude.{◌≡◌};
+ghost use Rattle.pareto_fronts.specs.FrontValue.{IsSoundFront};
 ghost use Rattle.front_table.specs.Proven.{IsFrontAt};
 
 use pareto_fronts::Front;
@@ -55,5 +56,16 @@ impl ProvenFront {
         ensures proven { IsFrontAt self.now.node self.now.moves self.now.front }
     {
         &self.front
+    }
+
+    /// The node and the moves.
+    pub(crate) fn into_key(self) -> (Node, u8)
+        ensures node { result.0 ≡ self.node }
+        ensures moves { result.1 ≡ self.moves }
+        ensures proven { IsFrontAt self.node self.moves self.front }
+        ensures front { IsSoundFront self.front }
+    {
+        let _ = self.front.len();
+        (self.node, self.moves)
     }
 }

@@ -2,6 +2,7 @@
 ghost use Rattle.std.specs.Prelude.{◌≡◌, ◌≢◌, ◌≤◌, ⊤, Bool, true, length, IsTrue};
 ghost use Rattle.front_table.specs.Proven.{IsFrontAt};
 ghost use Rattle.front_table.specs.Stores.{HandsBack};
+ghost use Rattle.front_table.specs.Entries.{most_entry_vectors};
 
 use crate::ProvenFront;
 use pareto_fronts::Front;
@@ -44,7 +45,7 @@ pub trait FrontStore {
     /// answer leaves `out` as it was.
     fn look(&mut self, node: &Node, moves: u8, out: &mut Front) -> Look
         requires width { out.old.width ≡ length node.now.lefts }
-        requires room { 64 ≤ out.old.room }
+        requires room { most_entry_vectors ≤ out.old.room }
         ensures hit { result ≡ Look.Hit → IsFrontAt node.now moves out.new }
         ensures width { out.new.width ≡ out.old.width }
         ensures room { out.old.room ≤ out.new.room }

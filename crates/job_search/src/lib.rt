@@ -6,6 +6,7 @@
 mod card;
 mod made;
 mod report;
+mod table;
 
 pub use card::name_card;
 pub use made::summarize;

@@ -1,116 +1,154 @@
 //! The report of a root: the front with a plan for each vector, the named card and the best count.
-ghost use Rattle.std.specs.Prelude.{◌≡◌, true, map, All, Contains, Ok, IfOk, IfErr};
+ghost use Rattle.std.specs.Prelude.{◌≡◌, ℕ, true, false, map, All, Ok, IfOk, IfErr, IsErrOf};
 ghost use Rattle.strategy_games.specs.Choosing.{IsChosenPlan, IsBestCount, IsNamedCard};
 ghost use Rattle.strategy_tree.specs.Bridge.{bridge};
-ghost use Rattle.strategy_tree.specs.PlanMeaning.{plan_of};
 ghost use Rattle.front_table.specs.Proven.{IsFrontAt};
-ghost use Rattle.root_workers.specs.Roots.{AllFit};
-ghost use Rattle.job_words.specs.Asks.{IsMoves};
+ghost use Rattle.root_workers.specs.Roots.{IsSpentAt, AllFit};
+ghost use Rattle.job_words.specs.Asks.{IsMoves, IsSearchWithinLimits};
 ghost use Rattle.am_answer.specs.Answers.{has_choice, Report};
+ghost use Rattle.am_answer.specs.Endings.{IsPlain};
 ghost use Rattle.am_answer.specs.Reports.{IsSolveText};
 ghost use Rattle.am_answer.specs.Stages.{IsTaskRefusal, IsTextFor};
 
+use crate::table::table_of;
 use alphamu_core::RootFault;
 use am_answer::{Root, Status, root_status};
 use am_report::{Entry, SolveAnswer, solve_text};
 use byte_text::Text;
 use dd_solver::Solver;
-use front_table::NoStore;
+use front_table::{FrontStore, NoStore};
 use job_words::Search;
 use pareto_fronts::Front;
 use plan_finder::plan_for;
 use root_workers::{RootFront, root_front};
-use std::alloc::{AllocError, Global};
-use strategy_tree::Plan;
+use shared_table::SharedStore;
+use std::alloc::Global;
 use trick_rules::Node;
-use win_vectors::WinVector;
 
-// The plan for a vector of the front.
-fn plan_of_vector(
+// Each vector of the front, with the plan for it.
+fn entries<S: FrontStore>(
     alloc: Global,
+    store: &mut S,
     solver: &mut Solver,
     node: &Node,
     moves: u8,
-    nodes: u64,
+    search: &Search,
     front: &Front,
-    vector: &WinVector,
-) -> Result<Plan, AllocError>
+) -> Result<Vec<Entry>, RootFault>
     requires turn { has_choice node.now ≡ true }
     requires moves { IsMoves moves }
     requires front { IsFrontAt node.now moves front.now }
-    requires fits { AllFit node.now moves nodes }
-    requires vector { Contains front.now.vectors vector.now }
-    ensures { IfOk result (λ plan. IsChosenPlan bridge (plan_of plan) node.now moves vector.now) }
-{
-    match plan_for(alloc, &mut NoStore, solver, node, moves, vector, nodes) {
-        Ok(plan) => Ok(plan),
-        Err(RootFault::Memory) => Err(AllocError),
-        Err(RootFault::Spent(_)) => unreachable!(),
-    }
-}
-
-// Each vector of the front, with the plan for it.
-fn entries(
-    alloc: Global,
-    node: &Node,
-    moves: u8,
-    nodes: u64,
-    front: &Front,
-) -> Result<Vec<Entry>, AllocError>
-    requires turn { has_choice node.now ≡ true }
-    requires moves { IsMoves moves }
-    requires front { IsFrontAt node.now moves front.now }
-    requires fits { AllFit node.now moves nodes }
     ensures vectors { IfOk result (λ entries.
         map (λ e. e.vector) entries.items ≡ front.now.vectors) }
     ensures plans { IfOk result (λ entries.
         All (λ e. IsChosenPlan bridge e.plan node.now moves e.vector) entries.items) }
+    ensures spent { (card : ℕ) → IsErrOf result (RootFault.Spent card)
+        → IsSpentAt node.now moves search.now.nodes card }
 {
-    let mut solver = Solver::new(alloc);
     let mut entries = Vec::new(alloc);
     for place in 0..front.len() {
         let vector = front.get(place);
-        let plan = plan_of_vector(alloc, &mut solver, node, moves, nodes, front, &vector)?;
+        let plan = plan_for(
+            alloc,
+            store,
+            solver,
+            node,
+            moves,
+            &vector,
+            search.nodes,
+            search.cuts,
+        )?;
         entries.push(Entry { vector, plan })?;
     }
     Ok(entries)
 }
 
 // The report of what was found at a root.
-fn report(
+fn report<S: FrontStore>(
     alloc: Global,
+    store: &mut S,
+    solver: &mut Solver,
     root: &Root,
     moves: u8,
-    nodes: u64,
+    search: &Search,
     found: RootFront,
-) -> Result<Text, AllocError>
+) -> Result<Text, RootFault>
     requires turn { has_choice root.now.kept.node ≡ true }
     requires moves { IsMoves moves }
     requires front { IsFrontAt root.now.kept.node moves found.front }
     requires card { IsNamedCard bridge root.now.kept.node moves found.card }
     requires count { IsBestCount bridge root.now.kept.node moves found.count }
-    requires fits { AllFit root.now.kept.node moves nodes }
-    ensures { IfOk result (IsSolveText root.now moves) }
+    ensures text { IfOk result (IsSolveText root.now moves) }
+    ensures spent { (card : ℕ) → IsErrOf result (RootFault.Spent card)
+        → IsSpentAt root.now.kept.node moves search.now.nodes card }
 {
-    let entries = entries(alloc, &root.kept.node, moves, nodes, &found.front)?;
+    let entries = entries(
+        alloc,
+        store,
+        solver,
+        &root.kept.node,
+        moves,
+        search,
+        &found.front,
+    )?;
     let answer = SolveAnswer {
         entries,
         card: found.card,
         count: found.count,
     };
-    solve_text(alloc, &root.board, &root.kept, moves, &answer)
+    let text = solve_text(alloc, &root.board, &root.kept, moves, &answer)?;
+    Ok(text)
 }
 
-/// The report of a root, by so many moves of declarer's side. Refused with `Spent` at the first
-/// root card whose tree has more nodes than a search may enter, or with `Memory`.
-pub fn solve(alloc: Global, root: &Root, moves: u8, search: &Search) -> Result<Text, Status>
+// The report over a store, which is blind where the search has no table. The plans are found over
+// the same store.
+fn solve_over<S: FrontStore>(
+    alloc: Global,
+    store: &mut S,
+    root: &Root,
+    moves: u8,
+    search: &Search,
+) -> Result<Text, Status>
     requires turn { has_choice root.now.kept.node ≡ true }
     requires moves { IsMoves moves }
+    requires blind { search.now.table ≡ false → S.blind ≡ true }
     ensures text { IfOk result (IsTextFor (Ok (Report root.now moves search.now))) }
     ensures refused { IfErr result (IsTaskRefusal (Ok (Report root.now moves search.now))) }
 {
-    match root_front(alloc, &root.kept.node, moves, search.nodes) {
-        Ok(found) => Ok(report(alloc, root, moves, search.nodes, found)?),
+    let mut solver = Solver::new(alloc);
+    let found = match root_front(
+        alloc,
+        store,
+        &mut solver,
+        &root.kept.node,
+        moves,
+        search.nodes,
+        search.cuts,
+    ) {
+        Ok(found) => found,
+        Err(fault) => return Err(root_status(fault)),
+    };
+    match report(alloc, store, &mut solver, root, moves, search, found) {
+        Ok(text) => Ok(text),
         Err(fault) => Err(root_status(fault)),
+    }
+}
+
+/// The report of a root, by so many moves of declarer's side. Refused with `Spent` at a root card
+/// whose tree has more nodes than a search may enter, in a plain search the first such card, or with
+/// `Memory`.
+pub fn solve(alloc: Global, root: &Root, moves: u8, search: &Search) -> Result<Text, Status>
+    requires turn { has_choice root.now.kept.node ≡ true }
+    requires moves { IsMoves moves }
+    requires limits { IsSearchWithinLimits search.now }
+    ensures text { IfOk result (IsTextFor (Ok (Report root.now moves search.now))) }
+    ensures refused { IfErr result (IsTaskRefusal (Ok (Report root.now moves search.now))) }
+{
+    if search.table {
+        let (table, mut pass) = table_of(alloc, search)?;
+        let mut store = SharedStore::new(&table, &mut pass);
+        solve_over(alloc, &mut store, root, moves, search)
+    } else {
+        solve_over(alloc, &mut NoStore, root, moves, search)
     }
 }

@@ -11,6 +11,7 @@ use Rattle.clap.specs.Faults.{fault_of, turn_fault, walk_fault}
 use Rattle.clap.specs.declared.parser.matches.ValueSource.TheVariants.{CommandLine}
 use Rattle.clap.specs.declared.builder.value_parser.Reading.TheVariants.{AsWritten}
 use Rattle.clap.proofs.OnLiterals.{clap_on_literals}
+use Rattle.trick_rules.specs.Nodes.{most_moves}
 use Rattle.job_words.specs.Command.{option_command}
 use Rattle.job_words.specs.Options.{OptionValues, options_at, options_read}
 use Rattle.job_words.specs.Values.{file_named, is_value, job_named, number_in, number_read, number_or}
@@ -353,11 +354,11 @@ is_value-number_in least most (d ∷ ds) number is = go (all_ascii_digits (d ∷
         cc
 
 -- the plain words of each job
-pub solve_asks : (deal layouts moves : List ℕ) (number : ℕ) → is_value deal ≡ true → is_value layouts ≡ true → number_in 1 26 moves ≡ Some number
+pub solve_asks : (deal layouts moves : List ℕ) (number : ℕ) → is_value deal ≡ true → is_value layouts ≡ true → number_in 1 most_moves moves ≡ Some number
     → words_read (solve_words deal layouts moves) ≡ Some (OnLayouts deal layouts (Solve number plain_search))
 unfolding words_read ask_in job_in on_layouts solve_in moves_in search_in table_in job_named keeps_to file_named number_or
 solve_asks deal layouts moves number deal_is layouts_is number_is =
-    let moves_is = is_value-number_in 1 26 moves number number_is in
+    let moves_is = is_value-number_in 1 most_moves moves number number_is in
     rw (
       (plain_word deal deal_is).dashes,
       (plain_word layouts layouts_is).dashes,
@@ -368,11 +369,11 @@ solve_asks deal layouts moves number deal_is layouts_is number_is =
       layouts_is,
     ) refl
 
-pub card_asks : (deal layouts moves : List ℕ) (number : ℕ) → is_value deal ≡ true → is_value layouts ≡ true → number_in 1 26 moves ≡ Some number
+pub card_asks : (deal layouts moves : List ℕ) (number : ℕ) → is_value deal ≡ true → is_value layouts ≡ true → number_in 1 most_moves moves ≡ Some number
     → words_read (card_words deal layouts moves) ≡ Some (OnLayouts deal layouts (Card number plain_search))
 unfolding words_read ask_in job_in on_layouts card_in moves_in search_in table_in job_named keeps_to file_named number_or
 card_asks deal layouts moves number deal_is layouts_is number_is =
-    let moves_is = is_value-number_in 1 26 moves number number_is in
+    let moves_is = is_value-number_in 1 most_moves moves number number_is in
     rw (
       (plain_word deal deal_is).dashes,
       (plain_word layouts layouts_is).dashes,

@@ -1,6 +1,7 @@
 -- The words and what they ask for, without where they lie in memory.
 use Rattle.std.specs.Prelude.{◌≡◌, ◌≤◌, ◌<◌, ◌*◌, ◌^◌, ℕ, ⊤, List, true, map, String, string_bytes}
 use Rattle.std.specs.declared.alloc.Global.{Global}
+use Rattle.trick_rules.specs.Nodes.{most_moves}
 use Rattle.job_words.specs.declared.asks.Ask as asks
 use Rattle.job_words.specs.declared.asks.LayoutsJob as jobs
 use Rattle.job_words.specs.declared.asks.Search.{Search}
@@ -39,7 +40,7 @@ ask_of (asks.TheVariants.Made number search) = Made number search
 
 -- how many cards of declarer's side a search can go through
 abbrev pub IsMoves : ℕ → Type 0
-IsMoves moves = (1 ≤ moves) × (moves ≤ 26)
+IsMoves moves = (1 ≤ moves) × (moves ≤ most_moves)
 
 -- the limits that a search keeps
 pub record IsSearchWithinLimits (search : Search) : Type 0 where

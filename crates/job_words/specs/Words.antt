@@ -2,6 +2,7 @@
 use Rattle.std.specs.Prelude.{◌*◌, ◌-◌, ◌^◌, ℕ, Bool, not, List, Option, Some, None, codes, nat_le, option_and_then, if◌then◌else◌}
 use Rattle.std.specs.List.{list_any}
 use Rattle.std.specs.Str.{bytes_eq}
+use Rattle.trick_rules.specs.Nodes.{most_moves}
 use Rattle.job_words.specs.declared.asks.Search.{Search}
 use Rattle.job_words.specs.declared.table.Job as jobs
 use Rattle.job_words.specs.Asks.{AskValue, Card, Check, Fusion, LayoutsJobValue, ListOf, Made, OnLayouts, Solve}
@@ -45,7 +46,7 @@ search_in o = do
 
 -- how many cards of declarer's side a search goes through
 unfoldable pub moves_in : OptionValues → Option ℕ
-moves_in o = o.moves >>= number_in 1 26
+moves_in o = o.moves >>= number_in 1 most_moves
 
 -- every best trade-off, by a search
 unfoldable pub solve_in : OptionValues → Option LayoutsJobValue

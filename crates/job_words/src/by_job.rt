@@ -8,6 +8,7 @@ use crate::asks::{Ask, LayoutsJob, Search};
 use crate::options::Options;
 use crate::table::{Job, uses_by};
 use crate::values::{file_named, job_named, number_in, number_or};
+use trick_rules::MOST_MOVES;
 
 /// What the options ask for, or None where they aren't those of a job, or a value of theirs is
 /// refused.
@@ -76,7 +77,7 @@ fn moves_in(options: &Options<'_>) -> Option<u8>
     ensures moves { result ≡ moves_in (options_of options.now) }
     ensures limits { IfSome result IsMoves }
 {
-    let moves = number_in(1, 26, options.moves?)?;
+    let moves = number_in(1, u64::from(MOST_MOVES), options.moves?)?;
     Some(moves as u8)
 }
 

@@ -1,9 +1,11 @@
 //! What the words of the command line ask for: one of six jobs, with just what that job needs.
 //! It stands on clap, which reads the options as one simple command.
-//! Its contract promises the one ask that the grammar of the words gives, or the refusal of all other words.
+//! Its contract promises the one ask that the grammar of the words gives, or the refusal of all
+//! other words.
 #![tactic(auto)]
 
 ghost use Rattle.std.specs.Prelude.{◌≡◌, ◌-◌, ◌^◌, ℕ, List, Some, IfOk, IfSome, option_map, true};
+ghost use Rattle.trick_rules.specs.Nodes.{most_moves};
 ghost use Rattle.job_words.specs.Asks.{Card, Check, Fusion, IsWithinLimits, ListOf, Made, OnLayouts, Solve, ask_of, texts_of};
 ghost use Rattle.job_words.specs.Plain.{card_words, check_words, fusion_words, list_words, made_words, plain_search, solve_words};
 ghost use Rattle.job_words.specs.Values.{is_value, number_in};
@@ -41,12 +43,12 @@ pub fn read_words<'a>(alloc: Global, words: &'a [String]) -> Result<Option<Ask<'
 pub fn plain_words_are_read()
     ensures solve { (deal layouts moves : List ℕ) (number : ℕ) → is_value deal ≡ true
         → is_value layouts ≡ true
-        → number_in 1 26 moves ≡ Some number
+        → number_in 1 most_moves moves ≡ Some number
         → words_read (solve_words deal layouts moves)
         ≡ Some (OnLayouts deal layouts (Solve number plain_search)) }
     ensures card { (deal layouts moves : List ℕ) (number : ℕ) → is_value deal ≡ true
         → is_value layouts ≡ true
-        → number_in 1 26 moves ≡ Some number
+        → number_in 1 most_moves moves ≡ Some number
         → words_read (card_words deal layouts moves)
         ≡ Some (OnLayouts deal layouts (Card number plain_search)) }
     ensures fusion { (deal layouts : List ℕ) → is_value deal ≡ true → is_value layouts ≡ true

@@ -8,33 +8,18 @@ use Rattle.card_sets.specs.SetWords.{has_card, Apart}
 use Rattle.card_sets.proofs.SetCounts.{take_out-absent}
 use Rattle.card_sets.proofs.Sets.{Apart-sym}
 use Rattle.trick_rules.specs.declared.trump.Trump.{Trump}
-use Rattle.trick_rules.specs.Positions.{TrickValue, PositionValue, State, IsSound, IsState, to_play}
-use Rattle.trick_rules.specs.Play.{legal_cards, take_out, put_card, end_trick, after_card, after, held_by, hand_of, legal_in, CanPlay}
-use Rattle.trick_rules.proofs.States.{after_card-declarer, after_card-dummy}
+use Rattle.trick_rules.specs.Positions.{PositionValue, State, IsSound, IsState, to_play}
+use Rattle.trick_rules.specs.Play.{legal_cards, take_out, next_trick, after_card, after, held_by, hand_of, legal_in, CanPlay}
+use Rattle.trick_rules.proofs.States.{after_card-declarer, after_card-dummy, after_card-trump, after_card-trick}
 use Rattle.trick_rules.proofs.PlayLaws.{a_legal_card_leads_to_a_state, a_legal_card_can_be_played}
 use Rattle.pbn_deal.specs.declared.board.Played.{Played}
 use Rattle.pbn_deal.specs.declared.course.Course.{Course}
-use Rattle.pbn_deal.specs.Boards.{next_trick, turn_in, declarer_without, dummy_without, next_course, IsFair, IsCourse}
+use Rattle.pbn_deal.specs.Boards.{turn_in, declarer_without, dummy_without, next_course, IsFair, IsCourse}
 use Rattle.layout_list.specs.declared.kept.Cause.{Cause}
 use Rattle.layout_list.specs.declared.kept.Cause.TheVariants.{NotHeld, Revoke}
 use Rattle.layout_list.specs.Verdicts.{cause_of, or_later, contradiction, position_after, hand_after, course_of}
 
 -- ---- a position and the course of play after a card
-
-after_card-trump : (t : PositionValue) (card : ℕ) → (after_card t card).trump ≡ t.trump
-after_card-trump t card = by_end (length t.trick.cards == 3) where
-  by_end : (b : Bool) → (cond b (end_trick (put_card t card)) (put_card t card)).trump ≡ t.trump
-  by_end true = refl
-  by_end false = refl
-
-after_card-trick : (t : PositionValue) (card : ℕ) → (after_card t card).trick ≡ next_trick t.trump t.trick card
-after_card-trick t card = by_end (length t.trick.cards == 3) where
-  longer : TrickValue
-  longer = record { leader = t.trick.leader; cards = t.trick.cards ++ card ∷ [] }
-
-  by_end : (b : Bool) → (cond b (end_trick (put_card t card)) (put_card t card)).trick ≡ cond b (end_trick (put_card t card)).trick (put_card t card).trick
-  by_end true = refl
-  by_end false = refl
 
 declarer_after : (t : PositionValue) (card : ℕ) → IsSound t → (seat : Seat) → has_card (held_by t seat) card ≡ true → declarer_without seat card t.declarer ≡ take_out card t.declarer
 declarer_after t card sound Declarer holds = refl

@@ -9,11 +9,11 @@ use Rattle.card_sets.specs.Cards.{suit_of, same_suit}
 use Rattle.card_sets.specs.SetWords.{has_card, IsCardSet, IsSubset}
 use Rattle.card_sets.proofs.Sets.{has_card-filter, filter-none, fails-filter_nil}
 use Rattle.trick_rules.specs.Positions.{PositionValue, State}
-use Rattle.trick_rules.specs.Play.{of_suit, or_whole, legal_cards, suit_led, take_out, put_card, end_trick, after_card, after}
+use Rattle.trick_rules.specs.Play.{of_suit, or_whole, legal_cards, suit_led, take_out, next_trick, after_card, after}
 use Rattle.trick_rules.proofs.CardLists.{has_card-take_out, take_out-gone, list_all-from_cards, cards_from_list_all}
-use Rattle.trick_rules.proofs.States.{legal_cards-low, after_card-unseen}
+use Rattle.trick_rules.proofs.States.{legal_cards-low, after_card-unseen, after_card-trump, after_card-trick}
 use Rattle.pbn_deal.specs.declared.board.Played.{Played}
-use Rattle.pbn_deal.specs.Boards.{BoardValue, next_trick, first_trick, tricks_of}
+use Rattle.pbn_deal.specs.Boards.{BoardValue, first_trick, tricks_of}
 use Rattle.layout_list.specs.declared.kept.Cause.{Cause}
 use Rattle.layout_list.specs.declared.kept.Cause.TheVariants.{NotHeld, Revoke}
 use Rattle.layout_list.specs.declared.verdict.Contradiction.{Contradiction}
@@ -231,18 +231,6 @@ right_from trick hand unseen held hidden card may now in_hidden narrow =
     )
 
 -- ---- the whole play
-
-after_card-trump : (t : PositionValue) (card : ℕ) → (after_card t card).trump ≡ t.trump
-after_card-trump t card = by_end (length t.trick.cards == 3) where
-  by_end : (b : Bool) → (cond b (end_trick (put_card t card)) (put_card t card)).trump ≡ t.trump
-  by_end true = refl
-  by_end false = refl
-
-after_card-trick : (t : PositionValue) (card : ℕ) → (after_card t card).trick ≡ next_trick t.trump t.trick card
-after_card-trick t card = by_end (length t.trick.cards == 3) where
-  by_end : (b : Bool) → (cond b (end_trick (put_card t card)) (put_card t card)).trick ≡ cond b (end_trick (put_card t card)).trick (put_card t card).trick
-  by_end true = refl
-  by_end false = refl
 
 -- what is known after the plays of a position
 abbrev told : PositionValue → MayHold → List Played → Option MayHold

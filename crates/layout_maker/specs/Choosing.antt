@@ -7,9 +7,8 @@ use Rattle.card_sets.specs.Cards.{suit_of, same_suit}
 use Rattle.card_sets.specs.SetWords.{has_card}
 use Rattle.trick_rules.specs.declared.trump.Trump.{Trump}
 use Rattle.trick_rules.specs.Positions.{TrickValue}
-use Rattle.trick_rules.specs.Play.{is_declarers, take_out}
+use Rattle.trick_rules.specs.Play.{is_declarers, take_out, next_trick}
 use Rattle.pbn_deal.specs.declared.board.Played.{Played}
-use Rattle.pbn_deal.specs.Boards.{next_trick}
 use Rattle.layout_maker.specs.declared.allowed.MayHold.{MayHold}
 use Rattle.layout_maker.specs.Divisions.{hands_of_size}
 

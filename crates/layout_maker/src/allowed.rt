@@ -7,7 +7,7 @@ ghost use Rattle.pbn_deal.specs.Boards.{first_trick};
 ghost use Rattle.layout_maker.specs.Choosing.{shows_void, narrowed, after_plays};
 
 use card_sets::{Card, CardSet, Seat, Suit};
-use pbn_deal::{Board, add_card};
+use pbn_deal::Board;
 use trick_rules::Trick;
 
 /// The unseen cards that Left may hold before the first card, and those that Right may.
@@ -81,7 +81,7 @@ pub fn may_hold(board: &Board, unseen: CardSet) -> Option<MayHold>
         }
         may = narrow(&may, play.seat, &trick, hidden, play.card);
         hidden = hidden.without(play.card);
-        add_card(&mut trick, trump, play.card);
+        trick.add(trump, play.card);
     }
     Some(may)
 }

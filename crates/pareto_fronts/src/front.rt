@@ -176,6 +176,19 @@ impl Front {
         Ok(())
     }
 
+    /// Puts a vector at the end, where the vectors with it are their own reduced list.
+    pub fn append(&mut self, vector: WinVector)
+        requires width { length vector ≡ self.old.width }
+        requires reduced { IsReduced (self.old.vectors ++ vector ∷ [])
+            (self.old.vectors ++ vector ∷ []) }
+        requires spare { HasSpareRoom self.old 1 }
+        ensures width { self.new.width ≡ self.old.width }
+        ensures vectors { self.new.vectors ≡ self.old.vectors ++ vector ∷ [] }
+        ensures room { self.new.room ≡ self.old.room }
+    {
+        self.vectors.push_reserved(vector);
+    }
+
     /// An equal front.
     pub fn copy(&self) -> Result<Front, AllocError>
         ensures same { IfOk result (HaveSameVectors self.now) }
@@ -195,6 +208,19 @@ impl Front {
         ensures room { self.old.room ≤ self.new.room }
     {
         self.vectors.clear();
+    }
+
+    /// Takes every vector out, keeps the room, and takes another width.
+    pub fn reset(&mut self, width: u16)
+        requires low { 1 ≤ width }
+        requires high { width ≤ most_layouts }
+        ensures width { self.new.width ≡ width }
+        ensures empty { self.new.vectors ≡ [] }
+        ensures room { self.old.room ≤ self.new.room }
+        ensures front { IsSoundFront self.new }
+    {
+        self.vectors.clear();
+        self.width = width;
     }
 
     // Puts in a vector at its place, and takes out those that it dominates: they stand behind it.

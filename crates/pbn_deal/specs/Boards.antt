@@ -7,7 +7,7 @@ use Rattle.card_sets.specs.Seats.{next_compass}
 use Rattle.card_sets.specs.SetWords.{has_card, IsCardSet, Apart}
 use Rattle.trick_rules.specs.declared.trump.Trump.{Trump}
 use Rattle.trick_rules.specs.Positions.{TrickValue, seat_after}
-use Rattle.trick_rules.specs.Play.{legal_cards, take_out, winner_of}
+use Rattle.trick_rules.specs.Play.{legal_cards, take_out, next_trick}
 use Rattle.pbn_deal.specs.declared.board.Played.{Played}
 use Rattle.pbn_deal.specs.declared.course.Course.{Course}
 use Rattle.pbn_deal.specs.Deal.{compass_place}
@@ -60,12 +60,6 @@ dealt_board declarer trump need leader declarer_hand dummy_hand unseen = record 
 }
 
 -- ---- the course of play
-
--- a trick with one card more; after the fourth card its winner leads to the next
-abbrev pub next_trick : Trump → TrickValue → ℕ → TrickValue
-next_trick trump trick card =
-    let longer : TrickValue = record { leader = trick.leader; cards = trick.cards ++ card ∷ [] } in
-    if length trick.cards == 3 then record { leader = winner_of trump longer; cards = [] } else longer
 
 -- clockwise from the trick's leader, past its cards
 abbrev pub turn_in : TrickValue → Seat

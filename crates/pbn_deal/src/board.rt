@@ -2,7 +2,6 @@
 ghost use Rattle.std.specs.Prelude.{◌≡◌};
 ghost use Rattle.pbn_deal.specs.Boards.{compass_of, seat_of, dealt_board, IsDealt, IsBoard, turn_of};
 
-use crate::course::add_card;
 use card_sets::{Card, CardSet, Compass, Seat};
 use std::alloc::Global;
 use std::marker::Model;
@@ -200,7 +199,7 @@ impl Board {
         }
         let mut trick = Trick::led_by(self.leader);
         for play in &self.plays {
-            add_card(&mut trick, self.trump, play.card);
+            trick.add(self.trump, play.card);
         }
         Some(trick.to_play())
     }

@@ -1,9 +1,9 @@
 //! The course of play, as far as the hands of declarer's side tell it.
 ghost use Rattle.std.specs.Prelude.{◌≡◌, ◌<◌, length};
-ghost use Rattle.pbn_deal.specs.Boards.{next_trick, next_course};
+ghost use Rattle.pbn_deal.specs.Boards.{next_course};
 
 use card_sets::{Card, CardSet, Seat};
-use trick_rules::{Trick, Trump, winner};
+use trick_rules::{Trick, Trump};
 
 /// The hands of declarer's side at some moment, and the present trick.
 #[derive(Debug, Drop)]
@@ -11,19 +11,6 @@ pub struct Course {
     pub declarer: CardSet,
     pub dummy: CardSet,
     pub trick: Trick,
-}
-
-/// Adds a card to a trick that has fewer than four. After the fourth card its winner leads to the
-/// next trick.
-pub fn add_card(trick: &mut Trick, trump: Trump, card: Card)
-    requires { length trick.old.cards < 4 }
-    ensures value { trick.new ≡ next_trick trump trick.old card }
-    ensures short { length trick.new.cards < 4 }
-{
-    trick.cards.push(card);
-    if trick.cards.len() == 4 {
-        *trick = Trick::led_by(winner(trick, trump));
-    }
 }
 
 impl Course {
@@ -38,6 +25,6 @@ impl Course {
             Seat::Dummy => self.dummy = self.dummy.without(card),
             Seat::Left | Seat::Right => {}
         }
-        add_card(&mut self.trick, trump, card);
+        self.trick.add(trump, card);
     }
 }

@@ -3,13 +3,13 @@ use Rattle.std.proofs.Common.{◌≡◌, ℕ, zero, suc, ◌+◌, ◌-◌, true,
 use Rattle.std.proofs.lemmas.Bool.{false≢true}
 use Rattle.card_sets.specs.SetWords.{has_card}
 use Rattle.win_vectors.specs.Vectors.{ones_of}
-use Rattle.win_vectors.specs.Fronts.{Vector, IsFrontOf, IsReduced, meets}
+use Rattle.win_vectors.specs.Fronts.{Vector, IsFrontOf, IsReduced, meets, spreads}
 use Rattle.trick_rules.specs.Positions.{to_play}
 use Rattle.trick_rules.specs.Play.{is_declarers, decided, cards_left, makes}
 use Rattle.trick_rules.specs.Nodes.{NodeValue, IsNode, states, stops, choices, child, child_mask}
 use Rattle.strategy_games.specs.Plans as plans
 use Rattle.strategy_games.specs.Plans.{IsFront}
-use Rattle.strategy_games.specs.Joins.{spreads, WinsByCard, WinsByReply}
+use Rattle.strategy_games.specs.Joins.{WinsByCard, WinsByReply}
 use Rattle.strategy_games.proofs.Lists.{Contains-here, Contains-append_second}
 use Rattle.strategy_tree.specs.Bridge.{bridge}
 use Rattle.strategy_tree.proofs.CardLists.{has_card-from_Contains}

@@ -1,3 +1,4 @@
+pub mod Missed
 pub mod Picks
 pub mod Passed
 pub mod Replied

@@ -3,21 +3,18 @@ use Rattle.std.proofs.Common.{◌≡◌, ◌∙◌, ◌-◌, ◌<◌, ◌≤◌,
 use Rattle.std.proofs.lemmas.List.{append-nil}
 use Rattle.card_sets.specs.SetWords.{IsCardSet}
 use Rattle.card_sets.proofs.Sets.{tail-after}
-use Rattle.win_vectors.specs.Fronts.{Vector, Covers, IsFirstAbove}
-use Rattle.pareto_fronts.specs.FrontValue.{FrontValue}
+use Rattle.win_vectors.specs.Fronts.{Vector}
 use Rattle.trick_rules.specs.Nodes.{NodeValue, IsNode, choices, child}
-use Rattle.strategy_games.specs.Plans.{stops, tree_size, CanWin}
+use Rattle.strategy_games.specs.Plans.{stops, tree_size}
 use Rattle.strategy_games.specs.Choosing.{Keeps, IsFirstOf, IsPick}
-use Rattle.strategy_games.proofs.Fronts.{front_unique}
 use Rattle.strategy_games.proofs.Lists.{Contains-here, Contains-nil, Contains-cons, Contains-append, Contains-append_second, first_is_member}
 use Rattle.strategy_tree.specs.Bridge.{bridge}
 use Rattle.strategy_tree.proofs.CardLists.{has_card-from_Contains}
 use Rattle.strategy_tree.proofs.BridgeLaws.{chosen_plan}
-use Rattle.front_table.specs.Proven.{IsFrontAt}
 use Rattle.alphamu_core.proofs.OpenNodes.{some_moves, is_open, length-our_child}
 use Rattle.plan_finder.specs.Targets.{IsOfFront}
-use Rattle.plan_finder.specs.Choices.{IsChoiceSpentAt}
-use Rattle.plan_finder.proofs.Picks.{length-of_front, picked}
+use Rattle.plan_finder.specs.Choices.{IsChoiceSpentAt, KeepsNone}
+use Rattle.plan_finder.proofs.Picks.{length-of_front}
 
 -- after none of the cards that were passed some vector of the front dominates this one
 pub record NoneKeeps (n : NodeValue) (moves : ℕ) (vector : Vector) (cards : List ℕ) : Type 0 where
@@ -67,31 +64,28 @@ module _ (n : NodeValue) (moves : ℕ) (vector : Vector) where
           not_after = not_before set;
         }
 
-        pub same_width : (found : FrontValue) → bridge.is_ours n ≡ true → IsOfFront n moves vector → IsFrontAt m (moves - 1) found → length vector ≡ found.width
-        same_width found ours of front =
-            length-of_front n moves vector of ∙ sym (length-our_child n card ours (has_card-from_Contains (choices n) card next_choice)) ∙ ap (λ (m : NodeValue). length m.lefts) (sym is_child) ∙ sym front.width
+        pub same_width : bridge.is_ours n ≡ true → IsOfFront n moves vector → length vector ≡ length m.lefts
+        same_width ours of =
+            length-of_front n moves vector of ∙ sym (length-our_child n card ours (has_card-from_Contains (choices n) card next_choice)) ∙ ap (λ (m : NodeValue). length m.lefts) (sym is_child)
 
-        module _ (found : FrontValue) (front : IsFrontAt m (moves - 1) found) where
-          here : IsFrontAt (child n card) (moves - 1) found
-          here = subst (λ m. IsFrontAt m (moves - 1) found) is_child front
+        -- the card, where a vector of the front after it dominates this one
+        pub first_found : (above : Vector) → IsPick bridge m (moves - 1) vector above → IsFirstOf (Keeps bridge n (moves - 1) vector) (choices n) card × IsPick bridge (child n card) (moves - 1) vector above
+        first_found above pick =
+            let here : IsPick bridge (child n card) (moves - 1) vector above = subst (λ (m : NodeValue). IsPick bridge m (moves - 1) vector above) is_child pick in
+            ((so.passed, rest, parts, so.none, (here.0, here.1, (above, here.2.member, here.2.above))), here)
 
-          pub first_found : Covers found.vectors vector → IsFirstOf (Keeps bridge n (moves - 1) vector) (choices n) card
-          first_found covers = (so.passed, rest, parts, so.none, (found.vectors, here.front, covers))
-
-          pub first_pick : (above : Vector) → IsFirstAbove found.vectors vector above → IsPick bridge (child n card) (moves - 1) vector above
-          first_pick above first = picked (child n card) (moves - 1) found vector above here first
-
-          pub none_more : (Covers found.vectors vector → ⊥) → NoneKeeps n moves vector rest
-          none_more not_here = record {
-            passed = so.passed ++ card ∷ [];
-            split = parts ∙ sym (append_assoc so.passed (card ∷ []) rest);
-            none = λ c among keeps. ⊎_elim
-                (λ (before : Contains so.passed c). so.none c before keeps)
-                (λ (last : Contains (card ∷ []) c). ⊎_elim
-                (λ (same : card ≡ c).
-                let at : Keeps bridge n (moves - 1) vector card = subst (λ c. Keeps bridge n (moves - 1) vector c) (sym same) keeps in
-                not_here (subst (λ vectors. Covers vectors vector) (front_unique (CanWin bridge (child n card) (moves - 1)) at.0 found.vectors at.1 here.front) at.2))
-                (λ (never : Contains [] c). Contains-nil c never)
-                (Contains-cons card [] c last))
-                (Contains-append so.passed (card ∷ []) c among);
-          }
+        pub none_more : KeepsNone m (moves - 1) vector → NoneKeeps n moves vector rest
+        none_more not_here =
+            let never : KeepsNone (child n card) (moves - 1) vector = subst (λ (m : NodeValue). KeepsNone m (moves - 1) vector) is_child not_here in record {
+              passed = so.passed ++ card ∷ [];
+              split = parts ∙ sym (append_assoc so.passed (card ∷ []) rest);
+              none = λ c among keeps. ⊎_elim
+                  (λ (before : Contains so.passed c). so.none c before keeps)
+                  (λ (last : Contains (card ∷ []) c). ⊎_elim
+                  (λ (same : card ≡ c).
+                  let at : Keeps bridge n (moves - 1) vector card = subst (λ c. Keeps bridge n (moves - 1) vector c) (sym same) keeps in
+                  never at.0 at.1 at.2)
+                  (λ (none : Contains [] c). Contains-nil c none)
+                  (Contains-cons card [] c last))
+                  (Contains-append so.passed (card ∷ []) c among);
+            }

@@ -1,8 +1,8 @@
 -- The card that a plan takes.
-use Rattle.std.specs.Prelude.{◌≡◌, ◌-◌, ◌<◌, ◌≤◌, ℕ, Contains}
-use Rattle.win_vectors.specs.Fronts.{Vector}
+use Rattle.std.specs.Prelude.{◌≡◌, ◌-◌, ◌<◌, ◌≤◌, ℕ, List, Contains}
+use Rattle.win_vectors.specs.Fronts.{Vector, Dominates, Covers}
 use Rattle.trick_rules.specs.Nodes.{NodeValue, choices, child}
-use Rattle.strategy_games.specs.Plans.{tree_size}
+use Rattle.strategy_games.specs.Plans.{IsFront, tree_size}
 use Rattle.strategy_games.specs.Choosing.{Keeps, IsFirstOf, IsPick}
 use Rattle.strategy_tree.specs.Bridge.{bridge}
 use Rattle.plan_finder.specs.declared.choice.Choice.{Choice}
@@ -18,3 +18,11 @@ pub record IsChoiceSpentAt (n : NodeValue) (moves : ℕ) (vector : Vector) (node
   pub choice : Contains (choices n) card
   pub larger : nodes < tree_size bridge (child n card) (moves - 1)
   pub not_after : (first : ℕ) → IsFirstOf (Keeps bridge n (moves - 1) vector) (choices n) first → card ≤ first
+
+-- no vector of the list dominates this one: what the list covers doesn't keep the vector
+abbrev pub AreMisses : Vector → List Vector → Type 0
+AreMisses vector misses = (above : Vector) → Contains misses above → Dominates above vector → ⊥
+
+-- no vector of the front dominates this one
+abbrev pub KeepsNone : NodeValue → ℕ → Vector → Type 0
+KeepsNone n moves vector = (front : List Vector) → IsFront bridge n moves front → Covers front vector → ⊥

@@ -6,7 +6,9 @@ ghost use Rattle.strategy_tree.specs.Bridge.{bridge};
 ghost use Rattle.plan_finder.specs.Choices.{IsFirstChoice, IsChoiceSpentAt};
 ghost use Rattle.plan_finder.specs.Targets.{IsOfFront};
 
-use alphamu_core::{RootFault, SearchFault, exact_front};
+use crate::misses::misses;
+use crate::searches::pick_of;
+use alphamu_core::{RootFault, SearchFault};
 use card_sets::Card;
 use dd_solver::Solver;
 use front_table::FrontStore;
@@ -31,6 +33,7 @@ pub fn first_choice<S: FrontStore>(
     moves: u8,
     vector: &WinVector,
     nodes: u64,
+    cuts: bool,
 ) -> Result<Choice, RootFault>
     requires few_moves { moves ≤ most_moves }
     requires a_node { IsNode node.now }
@@ -42,19 +45,30 @@ pub fn first_choice<S: FrontStore>(
         → IsChoiceSpentAt node.now moves vector.now nodes card }
     ensures grown { S.grown store.old store.new }
 {
+    let misses = misses(alloc, vector, cuts)?;
     let mut cards = node.choices();
     'cards: while let Some(card) = cards.pop_first() {
         let (child, _) = node.child(alloc, card)?;
-        let front = match exact_front(alloc, store, solver, &child, moves - 1, nodes) {
-            Ok(front) => front,
+        match pick_of(
+            alloc,
+            store,
+            solver,
+            &child,
+            moves - 1,
+            vector,
+            nodes,
+            &misses,
+            cuts,
+        ) {
+            Ok(Some(above)) => {
+                return Ok(Choice {
+                    card,
+                    child,
+                    vector: above,
+                });
+            }
+            Ok(None) => {}
             Err(fault) => return Err(at_card(fault, card)),
-        };
-        if let Some(above) = front.pick(vector) {
-            return Ok(Choice {
-                card,
-                child,
-                vector: above,
-            });
         }
     }
     unreachable!()

@@ -9,7 +9,8 @@ ghost use Rattle.plan_finder.specs.Targets.{IsOfFront};
 ghost use Rattle.plan_finder.specs.SpentPlans.{IsPlanSpentAt};
 
 use crate::choice::{at_card, first_choice, without_card};
-use alphamu_core::{RootFault, SearchFault, exact_front};
+use crate::searches::whole_front;
+use alphamu_core::{RootFault, SearchFault};
 use dd_solver::Solver;
 use front_table::FrontStore;
 use std::alloc::Global;
@@ -23,7 +24,7 @@ use win_vectors::WinVector;
 /// At declarer's side it takes the first card after which some vector of the front dominates the
 /// target. At a defender it goes on, after each card, with the first vector of the front there that
 /// dominates the target's part. Each child that it has to judge is searched once, with a budget of
-/// so many nodes for itself.
+/// so many nodes for itself, and with each cut or none.
 ///
 /// `Spent` names a card of the node after which the tree is larger than the budget. It doesn't come
 /// after the plan's first card.
@@ -36,6 +37,7 @@ pub fn plan_for<S: FrontStore>(
     moves: u8,
     target: &WinVector,
     nodes: u64,
+    cuts: bool,
 ) -> Result<Plan, RootFault>
     requires ours { bridge.is_ours node.now ≡ true }
     requires a_move { 1 ≤ moves }
@@ -51,7 +53,7 @@ pub fn plan_for<S: FrontStore>(
         return Ok(Plan::Stop);
     }
     prove!(target.width() == node.width());
-    let first = first_choice(alloc, store, solver, node, moves, target, nodes)?;
+    let first = first_choice(alloc, store, solver, node, moves, target, nodes, cuts)?;
     match plan_below(
         alloc,
         store,
@@ -60,6 +62,7 @@ pub fn plan_for<S: FrontStore>(
         moves - 1,
         &first.vector,
         nodes,
+        cuts,
     ) {
         Ok(rest) => Ok(Plan::Play(first.card, Box::new(alloc, rest)?)),
         Err(fault) => Err(at_card(fault, first.card)),
@@ -76,6 +79,7 @@ fn plan_below<S: FrontStore>(
     moves: u8,
     vector: &WinVector,
     nodes: u64,
+    cuts: bool,
 ) -> Result<Plan, SearchFault>
     requires few_moves { moves ≤ most_moves }
     requires a_node { IsNode node.now }
@@ -88,12 +92,13 @@ fn plan_below<S: FrontStore>(
     if node.stops(moves) {
         Ok(Plan::Stop)
     } else if node.is_ours() {
-        match plan_for(alloc, store, solver, node, moves, vector, nodes) {
+        match plan_for(alloc, store, solver, node, moves, vector, nodes, cuts) {
             Ok(plan) => Ok(plan),
             Err(fault) => Err(without_card(fault)),
         }
     } else {
-        Ok(Plan::Hear(replies(alloc, store, solver, node, moves, vector, nodes)?))
+        let replies = replies(alloc, store, solver, node, moves, vector, nodes, cuts)?;
+        Ok(Plan::Hear(replies))
     }
 }
 
@@ -107,6 +112,7 @@ fn replies<S: FrontStore>(
     moves: u8,
     vector: &WinVector,
     nodes: u64,
+    cuts: bool,
 ) -> Result<Vec<Reply>, SearchFault>
     requires few_moves { moves ≤ most_moves }
     requires a_node { IsNode node.now }
@@ -124,10 +130,10 @@ fn replies<S: FrontStore>(
     let mut cards = node.choices();
     'cards: while let Some(card) = cards.pop_first() {
         let (child, mask) = node.child(alloc, card)?;
-        let front = exact_front(alloc, store, solver, &child, moves, nodes)?;
+        let front = whole_front(alloc, store, solver, &child, moves, nodes, cuts)?;
         let part = vector.restrict(mask);
         let above = front.pick(&part).unwrap();
-        let plan = plan_below(alloc, store, solver, &child, moves, &above, nodes)?;
+        let plan = plan_below(alloc, store, solver, &child, moves, &above, nodes, cuts)?;
         replies.push(Reply { card, plan })?;
     }
     Ok(replies)

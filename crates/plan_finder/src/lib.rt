@@ -5,5 +5,7 @@
 
 mod choice;
 mod finder;
+mod misses;
+mod searches;
 
 pub use finder::plan_for;

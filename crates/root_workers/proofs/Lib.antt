@@ -1,1 +1,2 @@
 pub mod RootSoFar
+pub mod Stops

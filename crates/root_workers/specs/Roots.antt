@@ -9,9 +9,13 @@ use Rattle.strategy_tree.specs.Bridge.{bridge}
 abbrev pub IsTooLarge : NodeValue → ℕ → ℕ → ℕ → Type 0
 IsTooLarge n moves nodes card = nodes < tree_size bridge (child n card) (moves - 1)
 
--- the first root card whose tree is too large
+-- a root card whose tree is too large
 abbrev pub IsSpentAt : NodeValue → ℕ → ℕ → ℕ → Type 0
-IsSpentAt n moves nodes card = IsFirstOf (IsTooLarge n moves nodes) (choices n) card
+IsSpentAt n moves nodes card = Contains (choices n) card × IsTooLarge n moves nodes card
+
+-- the first root card whose tree is too large
+abbrev pub IsFirstSpentAt : NodeValue → ℕ → ℕ → ℕ → Type 0
+IsFirstSpentAt n moves nodes card = IsFirstOf (IsTooLarge n moves nodes) (choices n) card
 
 -- no root card's tree is too large
 abbrev pub AllFit : NodeValue → ℕ → ℕ → Type 0

@@ -1,18 +1,18 @@
-//! The loop over root cards.
-ghost use Rattle.std.specs.Prelude.{◌≡◌, ◌≤◌, ◌∷◌, ℕ, List, true, false, length, IfOk, IsErrOf};
-ghost use Rattle.win_vectors.specs.Vectors.{ones_of};
-ghost use Rattle.win_vectors.specs.Fronts.{Vector};
+//! What is found at a root: over all its cards, or no more than the card to play.
+ghost use Rattle.std.specs.Prelude.{◌≡◌, ◌≢◌, ◌≤◌, ℕ, true, false, IfOk, IsErrOf};
+ghost use Rattle.trick_rules.specs.Nodes.{most_moves};
 ghost use Rattle.strategy_games.specs.Choosing.{IsBestCount, IsNamedCard};
 ghost use Rattle.strategy_tree.specs.Bridge.{bridge};
 ghost use Rattle.front_table.specs.Proven.{IsFrontAt};
-ghost use Rattle.root_workers.specs.Roots.{IsSpentAt, AllFit};
-ghost use Rattle.root_workers.specs.Leaders.{leader};
-ghost use Rattle.trick_rules.specs.Nodes.{most_moves};
+ghost use Rattle.root_workers.specs.Roots.{IsSpentAt, IsFirstSpentAt, AllFit};
 
-use alphamu_core::{RootFault, SearchFault, exact_front};
+use crate::round::round;
+use crate::searches::double_dummy;
+use alphamu_core::RootFault;
 use card_sets::Card;
+use cut_rules::{CutRules, Stop};
 use dd_solver::Solver;
-use front_table::NoStore;
+use front_table::FrontStore;
 use pareto_fronts::Front;
 use std::alloc::Global;
 use trick_rules::Node;
@@ -25,44 +25,94 @@ pub struct RootFront {
     pub count: u16,
 }
 
-// How many layouts the first vector of a front wins.
-fn best_of(front: &Front) -> u16
-    requires { 1 ≤ length front.now.vectors }
-    ensures { (first : Vector) × (later : List Vector) × (front.now.vectors ≡ first ∷ later)
-        × (result ≡ ones_of first) }
-{
-    front.get(0).count()
+/// The card to play at a root, and how many layouts it wins.
+#[derive(Clone, Copy, Debug, PartialEq, Eq)]
+pub struct RootCard {
+    pub card: Card,
+    pub count: u16,
 }
 
-// The card that leads, with one card more.
-fn leader(best: Option<(Card, u16)>, card: Card, count: u16) -> Option<(Card, u16)>
-    ensures { result ≡ leader best card count }
+// The front by rounds: with no moves it is double dummy, and each round has a move more.
+fn deepened<S: FrontStore>(
+    alloc: Global,
+    store: &mut S,
+    solver: &mut Solver,
+    node: &Node,
+    moves: u8,
+    nodes: u64,
+) -> Result<Front, RootFault>
+    requires ours { bridge.is_ours node.now ≡ true }
+    requires goes_on { bridge.is_over node.now ≡ false }
+    requires few_moves { moves ≤ most_moves }
+    ensures front { IfOk result (IsFrontAt node.now moves) }
+    ensures spent { (card : ℕ) → IsErrOf result (RootFault.Spent card)
+        → IsSpentAt node.now moves nodes card }
+    ensures grown { S.grown store.old store.new }
 {
-    match best {
-        Some((_, most)) if count <= most => best,
-        _ => Some((card, count)),
+    let rules = CutRules::all(Stop::SameFront);
+    let mut front = double_dummy(alloc, store, solver, node)?;
+    for fewer in 0..moves {
+        front = round(alloc, store, solver, node, fewer + 1, nodes, rules, &front)?.front;
     }
+    Ok(front)
 }
 
-// What was found at the root.
-fn found(front: Front, best: (Card, u16)) -> RootFront
-    ensures front { result.front ≡ front }
-    ensures card { result.card ≡ best.0 }
-    ensures count { result.count ≡ best.1 }
+// The last round, after those with fewer moves; or, without cuts, the only one.
+fn last_round<S: FrontStore>(
+    alloc: Global,
+    store: &mut S,
+    solver: &mut Solver,
+    node: &Node,
+    moves: u8,
+    nodes: u64,
+    cuts: bool,
+    stop: Stop,
+) -> Result<RootFront, RootFault>
+    requires ours { bridge.is_ours node.now ≡ true }
+    requires goes_on { bridge.is_over node.now ≡ false }
+    requires some_moves { 1 ≤ moves }
+    requires few_moves { moves ≤ most_moves }
+    ensures front { stop ≢ Stop.SameCount
+        → IfOk result (λ root. IsFrontAt node.now moves root.front) }
+    ensures card { IfOk result (λ root. IsNamedCard bridge node.now moves root.card) }
+    ensures count { IfOk result (λ root. IsBestCount bridge node.now moves root.count) }
+    ensures fits { cuts ≡ false → S.blind ≡ true → IfOk result (λ _. AllFit node.now moves nodes) }
+    ensures spent { (card : ℕ) → IsErrOf result (RootFault.Spent card)
+        → IsSpentAt node.now moves nodes card }
+    ensures first_spent { cuts ≡ false → S.blind ≡ true → (card : ℕ)
+        → IsErrOf result (RootFault.Spent card)
+        → IsFirstSpentAt node.now moves nodes card }
+    ensures grown { S.grown store.old store.new }
 {
-    RootFront {
-        front,
-        card: best.0,
-        count: best.1,
+    if cuts {
+        let less = deepened(alloc, store, solver, node, moves - 1, nodes)?;
+        let rules = CutRules::all(stop);
+        round(alloc, store, solver, node, moves, nodes, rules, &less)
+    } else {
+        let less = Front::new(alloc, node.width());
+        let rules = CutRules::none();
+        round(alloc, store, solver, node, moves, nodes, rules, &less)
     }
 }
 
 /// The front of a node where declarer's side is to play, with 1 to 26 moves; the first card after
-/// which the best count is kept; and that count. Each root card is searched to its end, within so
-/// many nodes.
+/// which the best count is kept; and that count.
 ///
-/// It is spent at the first root card whose tree has more nodes.
-pub fn root_front(alloc: Global, node: &Node, moves: u8, nodes: u64) -> Result<RootFront, RootFault>
+/// Each search of a root card has a budget of so many nodes for itself. With cuts the loop goes
+/// over the cards in rounds with 1, 2, .. moves, and a card that the cards before it cover is left.
+/// Without them each card is searched to its end.
+///
+/// `Spent` names a root card whose tree has more nodes; without cuts, and where the store finds
+/// nothing, the first such card, and exactly where there is one.
+pub fn root_front<S: FrontStore>(
+    alloc: Global,
+    store: &mut S,
+    solver: &mut Solver,
+    node: &Node,
+    moves: u8,
+    nodes: u64,
+    cuts: bool,
+) -> Result<RootFront, RootFault>
     requires ours { bridge.is_ours node.now ≡ true }
     requires goes_on { bridge.is_over node.now ≡ false }
     requires some_moves { 1 ≤ moves }
@@ -70,26 +120,47 @@ pub fn root_front(alloc: Global, node: &Node, moves: u8, nodes: u64) -> Result<R
     ensures front { IfOk result (λ root. IsFrontAt node.now moves root.front) }
     ensures card { IfOk result (λ root. IsNamedCard bridge node.now moves root.card) }
     ensures count { IfOk result (λ root. IsBestCount bridge node.now moves root.count) }
-    ensures fits { IfOk result (λ _. AllFit node.now moves nodes) }
+    ensures fits { cuts ≡ false → S.blind ≡ true → IfOk result (λ _. AllFit node.now moves nodes) }
     ensures spent { (card : ℕ) → IsErrOf result (RootFault.Spent card)
         → IsSpentAt node.now moves nodes card }
+    ensures first_spent { cuts ≡ false → S.blind ≡ true → (card : ℕ)
+        → IsErrOf result (RootFault.Spent card)
+        → IsFirstSpentAt node.now moves nodes card }
+    ensures grown { S.grown store.old store.new }
 {
-    let mut solver = Solver::new(alloc);
-    let mut front = Front::new(alloc, node.width());
-    let mut best = None;
-    let mut cards = node.choices();
-    'cards: while let Some(card) = cards.pop_first() {
-        let (child, _) = node.child(alloc, card)?;
-        let won = match exact_front(alloc, &mut NoStore, &mut solver, &child, moves - 1, nodes) {
-            Ok(won) => won,
-            Err(SearchFault::Spent) => return Err(RootFault::Spent(card)),
-            Err(SearchFault::Memory) => return Err(RootFault::Memory),
-        };
-        front.union(&won)?;
-        best = leader(best, card, best_of(&won));
-    }
-    match best {
-        Some(best) => Ok(found(front, best)),
-        None => unreachable!(),
-    }
+    let stop = Stop::SameFront;
+    last_round(alloc, store, solver, node, moves, nodes, cuts, stop)
+}
+
+/// The card to play at a root, and its count, as `root_front` names them. It may end earlier, since
+/// the front need not be whole.
+pub fn root_card<S: FrontStore>(
+    alloc: Global,
+    store: &mut S,
+    solver: &mut Solver,
+    node: &Node,
+    moves: u8,
+    nodes: u64,
+    cuts: bool,
+) -> Result<RootCard, RootFault>
+    requires ours { bridge.is_ours node.now ≡ true }
+    requires goes_on { bridge.is_over node.now ≡ false }
+    requires some_moves { 1 ≤ moves }
+    requires few_moves { moves ≤ most_moves }
+    ensures card { IfOk result (λ root. IsNamedCard bridge node.now moves root.card) }
+    ensures count { IfOk result (λ root. IsBestCount bridge node.now moves root.count) }
+    ensures fits { cuts ≡ false → S.blind ≡ true → IfOk result (λ _. AllFit node.now moves nodes) }
+    ensures spent { (card : ℕ) → IsErrOf result (RootFault.Spent card)
+        → IsSpentAt node.now moves nodes card }
+    ensures first_spent { cuts ≡ false → S.blind ≡ true → (card : ℕ)
+        → IsErrOf result (RootFault.Spent card)
+        → IsFirstSpentAt node.now moves nodes card }
+    ensures grown { S.grown store.old store.new }
+{
+    let stop = Stop::SameCount;
+    let found = last_round(alloc, store, solver, node, moves, nodes, cuts, stop)?;
+    Ok(RootCard {
+        card: found.card,
+        count: found.count,
+    })
 }

@@ -65,7 +65,7 @@ module _ {N S C : Type 0} (g : Game N S C) where
       subst (IsFirstAbove f t) is first
 
   -- the reply to one of the cards
-  reply_for : (rs : Replies C) (n : N) (m : ℕ) (c : C) → Contains (cards_of rs) c → FitEach g rs n m → (q : Plan C) × Fits g q (g.child n c) m × ((s : S) → wins g (Hear rs) s ≡ true → lets g c q s ≡ true)
+  pub reply_for : (rs : Replies C) (n : N) (m : ℕ) (c : C) → Contains (cards_of rs) c → FitEach g rs n m → (q : Plan C) × Fits g q (g.child n c) m × ((s : S) → wins g (Hear rs) s ≡ true → lets g c q s ≡ true)
   reply_for NoReply n m c mem fit = absurd (Contains-nil c mem)
   reply_for (Reply d q rs) n m c mem fit = go (reply_for rs n m c) (Contains-cons d (cards_of rs) c mem)
     where

@@ -89,6 +89,27 @@ module _ (A : Vector → Type 0) where
     ordered = b.ordered;
   }
 
+-- Two sets have the same front where each dominates the other.
+pub front_level : (A B : Vector → Type 0) (f : List Vector)
+    → ((v : Vector) → A v → (u : Vector) × B u × Dominates u v)
+    → ((v : Vector) → B v → (u : Vector) × A u × Dominates u v) → IsFrontOf A f → IsFrontOf B f
+front_level A B f to back a = record {
+  reached = λ v m.
+      let b = to v (a.reached v m) in
+      let c = back b.0 b.1 in
+      let w = a.covered c.0 c.1 in
+      let same : w.0 ≡ v = a.apart w.0 v w.1 m
+      (Dominates-trans w.0 c.0 v w.2 (Dominates-trans c.0 b.0 v c.2 b.2)) in
+      subst B (Dominates-antisym b.0 v b.2
+      (subst (λ z. Dominates z b.0) same (Dominates-trans w.0 c.0 b.0 w.2 c.2))) b.1;
+  covered = λ v b.
+      let u = back v b in
+      let w = a.covered u.0 u.1 in
+      (w.0, w.1, Dominates-trans w.0 u.0 v w.2 u.2);
+  apart = a.apart;
+  ordered = a.ordered;
+}
+
 -- the same set, said in two ways
 pub front_same : (A B : Vector → Type 0) (f : List Vector) → ((v : Vector) → A v → B v) → ((v : Vector) → B v → A v) → IsFrontOf A f → IsFrontOf B f
 front_same A B f to back a = front_grows A B f to (λ v b. (v, back v b, Dominates-refl v)) a

@@ -6,6 +6,12 @@ pub mod Wins
 pub mod Recursion
 pub mod Nodes
 pub mod Moves
+pub mod Replying
+pub mod Alike
+pub mod Enough
+pub mod Leaders
+pub mod Misses
+pub mod Complete
 pub mod Sizes
 pub mod Measures
 pub mod Counts

@@ -93,13 +93,20 @@ module _ {X : Type 0} where
   cons_parts : (x y : X) (xs ys : List X) → x ∷ xs ≡ y ∷ ys → (x ≡ y) × (xs ≡ ys)
   cons_parts x y xs ys e = (cc, cc)
 
-  split_cases : (e f : List X) (x y : X) (l m : List X) → e ++ x ∷ l ≡ f ++ y ∷ m → (x ≡ y) ⊎ (Contains f x ⊎ Contains e y)
+  pub split_cases : (e f : List X) (x y : X) (l m : List X) → e ++ x ∷ l ≡ f ++ y ∷ m → (x ≡ y) ⊎ (Contains f x ⊎ Contains e y)
   split_cases [] [] x y l m h = inl (cons_parts x y l m h).0
   split_cases [] (b ∷ f) x y l m h = inr (inl (subst (λ z. Contains (b ∷ f) z) (sym (cons_parts x b l (f ++ y ∷ m) h).0) (Contains-here b f)))
   split_cases (a ∷ e) [] x y l m h = inr (inr (subst (λ z. Contains (a ∷ e) z) (cons_parts a y (e ++ x ∷ l) m h).0 (Contains-here a e)))
   split_cases (a ∷ e) (b ∷ f) x y l m h = ⊎_elim (λ (s : x ≡ y). inl s)
       (⊎_elim (λ (k : Contains f x). inr (inl (Contains-there b f x k))) (λ (k : Contains e y). inr (inr (Contains-there a e y k))))
       (split_cases e f x y l m (cons_parts a b (e ++ x ∷ l) (f ++ y ∷ m) h).1)
+
+  -- a member, with what stands before it and after it
+  pub split_at : (xs : List X) (x : X) → Contains xs x → (before after : List X) × (xs ≡ before ++ x ∷ after)
+  split_at [] x m = absurd (Contains-nil x m)
+  split_at (y ∷ ys) x m = ⊎_elim (λ (e : y ≡ x). ([], ys, ap (λ (z : X). z ∷ ys) e))
+      (λ (k : Contains ys x). let r = split_at ys x k in (y ∷ r.0, r.1, ap (λ (l : List X). y ∷ l) r.2))
+      (Contains-cons y ys x m)
 
   pub first_unique : (P : X → Type 0) (xs : List X) (x y : X) → IsFirstOf P xs x → IsFirstOf P xs y → x ≡ y
   first_unique P xs x y f h = ⊎_elim (λ (e : x ≡ y). e)

@@ -23,6 +23,13 @@ module _ {S : Type 0} where
   Dominates-of_map F G [] d s m e = absurd (Contains-nil s m)
   Dominates-of_map F G (x ∷ ss) d s m e = each_cons (λ z. G z ≡ true → F z ≡ true) x ss (at_least_gives (F x) (G x) d.0) (λ z k. Dominates-of_map F G ss d.1 z k) s m e
 
+  -- 1 at each place dominates every vector of this length
+  pub Dominates-all : (ss : List S) (v : Vector) → length ss ≡ length v → Dominates (map (λ s. true) ss) v
+  Dominates-all [] [] e = tt
+  Dominates-all [] (b ∷ v) e = absurd cc
+  Dominates-all (s ∷ ss) [] e = absurd cc
+  Dominates-all (s ∷ ss) (b ∷ v) e = (tt, Dominates-all ss v cc)
+
   pub meet-map : (F G : S → Bool) (ss : List S) → meet_of (map F ss) (map G ss) ≡ map (λ s. F s && G s) ss
   meet-map F G [] = refl
   meet-map F G (s ∷ ss) = ap (λ (l : Vector). (F s && G s) ∷ l) (meet-map F G ss)

@@ -115,7 +115,7 @@ module _ {N S C : Type 0} (g : Game N S C) (measure : Vector → ℕ) where
               (filled_or_nil f.0)
 
       module _ (monotone : IsMonotone measure) where
-        some_keeps : (n : N) (m b : ℕ) → Sound n → g.is_over n ≡ false → g.is_ours n ≡ true → IsBestBy g measure n (suc m) b → (c : C) × Contains (g.choices n) c × HasMeasure g measure (g.child n c) m b
+        pub some_keeps : (n : N) (m b : ℕ) → Sound n → g.is_over n ≡ false → g.is_ours n ≡ true → IsBestBy g measure n (suc m) b → (c : C) × Contains (g.choices n) c × HasMeasure g measure (g.child n c) m b
         some_keeps n m b sound on ours h = go (cases_Bool (g.is_decided n)) (filled_or_nil (g.choices n))
           where
             go : (g.is_decided n ≡ true) ⊎ (g.is_decided n ≡ false) → (g.choices n ≡ []) ⊎ ((c : C) × Contains (g.choices n) c) → (c : C) × Contains (g.choices n) c × HasMeasure g measure (g.child n c) m b

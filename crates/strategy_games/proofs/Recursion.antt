@@ -1,10 +1,10 @@
 -- The recursion on fronts, and that each node has a front.
 use Rattle.std.proofs.Common.{◌≡◌, ◌++◌, ◌∙◌, ◌↔◌, ℕ, zero, suc, true, List, [], ◌∷◌, length, map, replicate, Contains, refl, sym, ap, ap₂, subst, true≢false, ⊎_elim}
 use Rattle.win_vectors.specs.Vectors.{meet_of, spread_of}
-use Rattle.win_vectors.specs.Fronts.{Vector, Dominates, Covers, IsFrontOf, IsReduced, meets}
+use Rattle.win_vectors.specs.Fronts.{Vector, Dominates, Covers, IsFrontOf, IsReduced, meets, spreads}
 use Rattle.strategy_games.specs.Games.{Game, mask, IsLawful}
 use Rattle.strategy_games.specs.Plans.{Plan, Replies, Stop, Play, Hear, NoReply, Reply, cards_of, stops, Fits, FitEach, wins_vector, CanWin, IsFront, IsBelow}
-use Rattle.strategy_games.specs.Joins.{unions, spreads, joins, AreFronts, WinsByCard, WinsByReply}
+use Rattle.strategy_games.specs.Joins.{unions, joins, AreFronts, WinsByCard, WinsByReply}
 use Rattle.strategy_games.proofs.Lists.{Contains-here, Contains-there, Contains-nil, Contains-cons, Contains-single, Contains-append, Contains-append_first, Contains-append_second, Contains-map, Contains-of_map, AllZip-at, AllZip-of}
 use Rattle.strategy_games.proofs.Vectors.{Dominates-refl, Dominates-meet, Dominates-spread}
 use Rattle.strategy_games.proofs.Fronts.{front_single, front_grows, front_same, reduced_nil, Contains-meets, Contains-of_meets}

@@ -1,5 +1,5 @@
 -- Vectors: dominance, order and meets.
-use Rattle.std.proofs.Common.{◌≡◌, ◌⊎◌, ◌<◌, ◌≤◌, ◌&&◌, ◌∙◌, Bool, true, false, cond, [], ◌∷◌, refl, sym, ap, inl, inr, ⊎_elim, arith, lt-ltb, le-ltb, ltb-true, ltb-false, ltb}
+use Rattle.std.proofs.Common.{◌≡◌, ◌⊎◌, ◌<◌, ◌≤◌, ◌&&◌, ◌∙◌, Bool, true, false, cond, [], ◌∷◌, refl, sym, ap, subst, inl, inr, ⊎_elim, arith, lt-ltb, le-ltb, ltb-true, ltb-false, ltb}
 use Rattle.std.specs.declared.cmp.Ordering.TheVariants.{Less, Greater}
 use Rattle.std.proofs.lemmas.Bool.{cases_lt, cond-true, cond-false}
 use Rattle.win_vectors.specs.Vectors.{ones_of, meet_of, spread_of, earlier_one}
@@ -143,6 +143,15 @@ Dominates-meet (a ∷ u) (a' ∷ u') [] [] h k = tt
 Dominates-meet (a ∷ u) (a' ∷ u') [] (b ∷ v') h k = elim k [ ]
 Dominates-meet (a ∷ u) (a' ∷ u') (b ∷ v) [] h k = elim k [ ]
 Dominates-meet (a ∷ u) (a' ∷ u') (b ∷ v) (b' ∷ v') h k = (at_least_and a a' b b' h.0 k.0, Dominates-meet u u' v v' h.1 k.1)
+
+meet-same : (v : Vector) → meet_of v v ≡ v
+meet-same [] = refl
+meet-same (true ∷ v) = ap (λ (l : Vector). true ∷ l) (meet-same v)
+meet-same (false ∷ v) = ap (λ (l : Vector). false ∷ l) (meet-same v)
+
+-- two that dominate a vector meet in one that does
+pub Dominates-both : (a b v : Vector) → Dominates a v → Dominates b v → Dominates (meet_of a b) v
+Dominates-both a b v h k = subst (Dominates (meet_of a b)) (meet-same v) (Dominates-meet a v b v h k)
 
 pub Dominates-spread : (u v mask : Vector) → Dominates u v → Dominates (spread_of u mask) (spread_of v mask)
 Dominates-spread u v [] h = tt

@@ -1,5 +1,5 @@
 -- Which strategy is printed for a vector, and which card is named.
-use Rattle.std.specs.Prelude.{◌≡◌, ◌≤◌, ℕ, zero, suc, true, false, ⊤, List, ◌∷◌, ◌++◌, Contains}
+use Rattle.std.specs.Prelude.{◌≡◌, ◌≤◌, ℕ, zero, suc, true, false, ⊤, List, [], ◌∷◌, ◌++◌, map, replicate, length, Contains}
 use Rattle.win_vectors.specs.Vectors.{ones_of, restrict_of}
 use Rattle.win_vectors.specs.Fronts.{Vector, Covers, IsFirstAbove}
 use Rattle.win_vectors.specs.Weights.{weight_of}
@@ -9,6 +9,12 @@ use Rattle.strategy_games.specs.Plans.{Plan, Replies, Stop, Play, Hear, NoReply,
 -- x is the first of the list of which P holds
 abbrev pub IsFirstOf : {X : Type 0} → (X → Type 0) → List X → X → Type 0
 IsFirstOf {X} P xs x = (earlier later : List X) × (xs ≡ earlier ++ x ∷ later) × ((y : X) → Contains earlier y → P y → ⊥) × P x
+
+-- for each 1 of u, the vector of all ones but there
+abbrev pub misses : Vector → List Vector
+misses [] = []
+misses (true ∷ u) = (false ∷ replicate (length u) true) ∷ map (λ v. true ∷ v) (misses u)
+misses (false ∷ u) = map (λ v. true ∷ v) (misses u)
 
 module _ {N S C : Type 0} (g : Game N S C) where
   -- u is the first vector of the front that dominates t
@@ -48,6 +54,13 @@ module _ {N S C : Type 0} (g : Game N S C) where
   IsNamedBy measure n zero c = ⊥
   IsNamedBy measure n (suc m) c = (b : ℕ) × IsBestBy measure n (suc m) b
       × IsFirstOf (λ d. HasMeasure measure (g.child n d) m b) (g.choices n) c
+
+  -- no vector of these cards' children measures more than b, and c is the first whose child has one
+  -- that measures b
+  abbrev pub IsLeader : (Vector → ℕ) → N → ℕ → List C → ℕ → C → Type 0
+  IsLeader measure n m cs b c = ((d : C) (k : ℕ) → Contains cs d
+      → HasMeasure measure (g.child n d) m k → k ≤ b)
+      × IsFirstOf (λ d. HasMeasure measure (g.child n d) m b) cs c
 
   -- some vector of the node's front has this many ones
   abbrev pub HasCount : N → ℕ → ℕ → Type 0

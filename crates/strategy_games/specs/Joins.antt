@@ -1,8 +1,7 @@
 -- How the fronts of a node's children come together.
-use Rattle.std.specs.Prelude.{◌≡◌, ℕ, true, List, [], ◌∷◌, ◌++◌, map, replicate, Contains}
+use Rattle.std.specs.Prelude.{◌≡◌, ℕ, true, List, [], ◌∷◌, ◌++◌, replicate, Contains}
 use Rattle.std.specs.List.{AllZip}
-use Rattle.win_vectors.specs.Vectors.{spread_of}
-use Rattle.win_vectors.specs.Fronts.{Vector, meets}
+use Rattle.win_vectors.specs.Fronts.{Vector, meets, spreads}
 use Rattle.strategy_games.specs.Games.{Game}
 use Rattle.strategy_games.specs.Plans.{Replies, Hear, cards_of, FitEach, wins_vector, CanWin, IsFront}
 
@@ -10,10 +9,6 @@ use Rattle.strategy_games.specs.Plans.{Replies, Hear, cards_of, FitEach, wins_ve
 abbrev pub unions : List (List Vector) → List Vector
 unions [] = []
 unions (f ∷ fs) = f ++ unions fs
-
--- a child's front as vectors of its node: 1 where the child's card isn't legal
-abbrev pub spreads : Vector → List Vector → List Vector
-spreads mask f = map (λ v. spread_of v mask) f
 
 -- at a defender: all meets of one spread vector of each child's front
 abbrev pub joins : ℕ → List Vector → List (List Vector) → List Vector

@@ -1,11 +1,11 @@
 -- The laws of strategies and fronts, for any game whose rules hold at sound nodes.
 use Rattle.std.specs.Prelude.{◌≡◌, ◌⊎◌, ◌↔◌, ◌+◌, ◌<◌, ◌≤◌, ℕ, suc, Bool, true, false, List, [], ◌∷◌, ◌++◌, map, replicate, length, Contains, None, Some, sum, sum_by}
 use Rattle.win_vectors.specs.Vectors.{ones_of, restrict_of}
-use Rattle.win_vectors.specs.Fronts.{Vector, HaveWidth, Covers, CoversAll, IsFrontOf, IsFirstAbove, IsReduced, meets}
+use Rattle.win_vectors.specs.Fronts.{Vector, HaveWidth, Covers, CoversAll, IsFrontOf, IsFirstAbove, IsReduced, meets, spreads}
 use Rattle.win_vectors.specs.Weights.{weight_of, IsMonotone}
 use Rattle.strategy_games.specs.Games.{Game, mask}
 use Rattle.strategy_games.specs.Plans.{Plan, Play, stops, Fits, ends, wins_vector, IsFront, IsBelow, tree_size}
-use Rattle.strategy_games.specs.Joins.{unions, spreads, joins, AreFronts, WinsByCard, WinsByReply}
+use Rattle.strategy_games.specs.Joins.{unions, joins, AreFronts, WinsByCard, WinsByReply}
 use Rattle.strategy_games.specs.Choosing.{Keeps, IsChosenPlan, IsBestBy, IsNamedBy}
 use Rattle.strategy_games.specs.Choosing.{IsBestCount, IsNamedCard, IsBestWeight, IsNamedByWeight}
 use Rattle.strategy_games.specs.Misfits.{node_count, first_misfit}
@@ -57,6 +57,12 @@ module _ {N S C : Type 0} (g : Game N S C) (Sound : N → Type 0) where
     pub vectors : (n : N) (m : ℕ) (more less : List Vector) → Sound n → IsFront g n (suc m) more → IsFront g n m less → CoversAll less more
     pub best : (measure : Vector → ℕ) → IsMonotone measure → NeverRises measure
     pub counts : NeverRises ones_of
+    -- nor with any number of moves more
+    pub fewer : (n : N) (m extra : ℕ) (more less : List Vector) → Sound n
+        → IsFront g n (m + extra) more → IsFront g n m less → CoversAll less more
+    pub fewer_best : (measure : Vector → ℕ) → IsMonotone measure
+        → (n : N) (m extra more less : ℕ) → Sound n → IsBestBy g measure n (m + extra) more
+        → IsBestBy g measure n m less → more ≤ less
 
   -- a vector that the front dominates has exactly one chosen plan; it is a strategy, and wins the first vector above the target
   pub record HasChosenPlan : Type 0 where
@@ -140,6 +146,11 @@ module _ {N S C : Type 0} (g : Game N S C) (Sound : N → Type 0) where
       → WinsByCard g n m cs v → measure v ≡ b
       → IsBestBy g measure n m b → IsBestBy g measure n (suc m) b
 
+  -- nodes in this relation have the same front
+  abbrev pub HaveOneFront : (N → N → Type 0) → Type 0
+  HaveOneFront R = (n p : N) (m : ℕ) (f : List Vector) → Sound n → Sound p → R n p
+      → IsFront g n m f ↔ IsFront g p m f
+
   -- where a search may stop early
   pub record HasCuts : Type 0 where
     -- a list that covers the front covers what every strategy wins,
@@ -148,12 +159,25 @@ module _ {N S C : Type 0} (g : Game N S C) (Sound : N → Type 0) where
     pub wider : (n : N) (m : ℕ) (alpha beta : List Vector) → IsBelow g n m alpha → CoversAll beta alpha → IsBelow g n m beta
     -- and one that covers the front with a move less.
     pub deeper : (n : N) (m : ℕ) (less alpha : List Vector) → Sound n → IsFront g n m less → CoversAll alpha less → IsBelow g n (suc m) alpha
+    -- or the front with any number of moves less;
+    pub deeper_by : (n : N) (m extra : ℕ) (less alpha : List Vector) → Sound n → IsFront g n m less
+        → CoversAll alpha less → IsBelow g n (m + extra) alpha
+    -- and what covers with these moves covers with more.
+    pub below_deeper : (n : N) (m extra : ℕ) (alpha : List Vector) → Sound n
+        → IsBelow g n m alpha → IsBelow g n (m + extra) alpha
+    -- Where no layout is won with these moves, none is with more.
+    pub lost : (n : N) (m extra : ℕ) → Sound n
+        → IsFront g n m (replicate (length (g.states n)) false ∷ [])
+        → IsFront g n (m + extra) (replicate (length (g.states n)) false ∷ [])
     -- An empty list covers nothing.
     pub never : (n : N) (m : ℕ) → Sound n → IsBelow g n m [] → ⊥
     -- At declarer's side it is enough that each child is covered,
     pub at_declarer : (n : N) (m : ℕ) (alpha : List Vector) → Sound n → g.is_decided n ≡ false → g.is_ours n ≡ true → ((c : C) → Contains (g.choices n) c → IsBelow g (g.child n c) m alpha) → IsBelow g n (suc m) alpha
-    -- and at a defender that the replies to the first of the cards are: their vectors have 1 at each layout that no card of theirs is legal in.
-    pub at_defender : (n : N) (m : ℕ) (cs later : List C) (f alpha : List Vector) → Sound n → g.is_decided n ≡ false → g.is_ours n ≡ false → g.choices n ≡ cs ++ later
+    -- and at a defender that the replies to some of the cards are: their vectors have 1 at each
+    -- layout that no card of theirs is legal in.
+    pub at_defender : (n : N) (m : ℕ) (cs : List C) (f alpha : List Vector) → Sound n
+        → g.is_decided n ≡ false → g.is_ours n ≡ false
+        → ((c : C) → Contains cs c → Contains (g.choices n) c)
         → IsFrontOf (WinsByReply g n (suc m) cs) f → CoversAll alpha f → IsBelow g n (suc m) alpha
     -- Some cards of declarer's side are enough where what they win covers the front with a move less,
     pub same_front : (n : N) (m : ℕ) (cs : List C) (f less : List Vector) → Sound n → g.is_over n ≡ false → g.is_ours n ≡ true → ((c : C) → Contains cs c → Contains (g.choices n) c)

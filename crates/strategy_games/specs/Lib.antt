@@ -1,7 +1,9 @@
 pub mod Games
 pub mod Plans
 pub mod Joins
+pub mod Alike
 pub mod Choosing
 pub mod Misfits
 pub mod Laws
+pub mod SearchLaws
 pub mod Finesse

@@ -59,6 +59,18 @@ module _ {N S C : Type 0} (g : Game N S C) where
   abbrev pub wins_vector : Plan C → N → Vector
   wins_vector p n = map (λ s. wins p s) (g.states n)
 
+  abbrev mutual
+    -- the plan stops only where the result is decided
+    pub IsComplete : Plan C → N → Type 0
+    IsComplete Stop n = g.is_decided n ≡ true
+    IsComplete (Play c q) n = IsComplete q (g.child n c)
+    IsComplete (Hear rs) n = AreComplete rs n
+
+    -- so does each reply's plan
+    pub AreComplete : Replies C → N → Type 0
+    AreComplete NoReply n = ⊤
+    AreComplete (Reply c q rs) n = IsComplete q (g.child n c) × AreComplete rs n
+
   -- some strategy with m moves wins exactly this vector
   abbrev pub CanWin : N → ℕ → Vector → Type 0
   CanWin n m v = (p : Plan C) × Fits p n m × (wins_vector p n ≡ v)

@@ -7,7 +7,9 @@ ghost use Rattle.std.specs.Prelude.{Bool, Decides, ◌≡◌, ℕ};
 ghost use Rattle.win_vectors.specs.Fronts.{Vector};
 ghost use Rattle.win_vectors.specs.Weights.{IsMonotone};
 ghost use Rattle.strategy_games.specs.Games.{Game, IsLawful, IsDoubleDummy, IsSettled};
-ghost use Rattle.strategy_games.specs.Laws.{EndsSomewhere, HasOneFront, HasRecursion, HasSteps, HasMoreMoves, HasChosenPlan, HasSizes, HasBestBy, HasNamedBy, HasBestCount, HasNamedCard, HasBestWeight, HasCuts, HasFirstMisfit};
+ghost use Rattle.strategy_games.specs.Laws.{EndsSomewhere, HasOneFront, HasRecursion, HasSteps, HasMoreMoves, HasChosenPlan, HasSizes, HasBestBy, HasNamedBy, HasBestCount, HasNamedCard, HasBestWeight, HasCuts, HasFirstMisfit, HaveOneFront};
+ghost use Rattle.strategy_games.specs.SearchLaws.{HasEnoughCards, HasLeaders, HasMisses, HasExactness};
+ghost use Rattle.strategy_games.specs.Alike.{IsKeptByPlay};
 
 /// A game of hidden layouts: a node is what everybody sees, with the layouts that are still
 /// possible.
@@ -36,6 +38,25 @@ pub trait HiddenGame {
     ghost settled: { IsSettled game Sound };
 
     ghost tells_cards: { (c d : Card) → Decides (same c d) (c ≡ d) };
+}
+
+/// A game of hidden layouts with a relation between its nodes that play keeps.
+pub trait AlikeNodes {
+    ghost Node: { Type 0 };
+
+    ghost State: { Type 0 };
+
+    ghost Card: { Type 0 };
+
+    ghost game: { Game Node State Card };
+
+    ghost Sound: { Node → Type 0 };
+
+    ghost alike: { Node → Node → Type 0 };
+
+    ghost lawful: { IsLawful game Sound };
+
+    ghost kept: { IsKeptByPlay game Sound alike };
 }
 
 /// A strategy ends somewhere in each layout, so that a layout isn't won because nothing was looked
@@ -116,7 +137,37 @@ pub fn cuts_hold<G: HiddenGame>()
     ensures { HasCuts G.game G.Sound }
 {}
 
+/// Some of a node's choices are enough: one reply for a cut, the cards that cover what each other
+/// wins for the front, and one of equal cards.
+pub fn some_cards_are_enough<G: HiddenGame>()
+    ensures { HasEnoughCards G.game G.Sound }
+{}
+
+/// The first of declarer's cards that keeps the greatest measure so far leads; a card that the front
+/// over the earlier ones covers changes nothing, and in the end, or where a loop may stop, the leader
+/// has the best and is named.
+pub fn leader_is_named<G: HiddenGame>()
+    ensures { (measure : Vector → ℕ) → IsMonotone measure → HasLeaders G.game G.Sound measure }
+{}
+
+/// A vector dominates another exactly where none that misses one of its ones dominates it: so a list
+/// of those covers what a child wins exactly where its card doesn't keep the vector.
+pub fn misses_tell<G: HiddenGame>()
+    ensures { HasMisses G.game G.Sound }
+{}
+
+/// Where plans that stop only at a decided result win each vector of the front, the front is the
+/// same with more moves.
+pub fn complete_plans_are_exact<G: HiddenGame>()
+    ensures { HasExactness G.game G.Sound }
+{}
+
 /// A plan has no first misfit exactly where it is a strategy.
 pub fn first_misfit_tells<G: HiddenGame>()
     ensures { HasFirstMisfit G.game G.same }
+{}
+
+/// Nodes in a relation that play keeps have the same front with each number of moves.
+pub fn alike_nodes_have_one_front<G: AlikeNodes>()
+    ensures { HaveOneFront G.game G.Sound G.alike }
 {}

@@ -1,14 +1,23 @@
 -- The laws of strategies and fronts at bridge, for the proofs of searches, finders and checkers to cite.
-use Rattle.std.proofs.Common.{◌==◌}
+use Rattle.std.proofs.Common.{◌==◌, ℕ}
 use Rattle.std.proofs.lemmas.Bool.Decides.{Decides-eqb}
-use Rattle.trick_rules.specs.Nodes.{IsNode}
-use Rattle.strategy_games.specs.Laws.{EndsSomewhere, HasOneFront, HasRecursion, HasSteps, HasMoreMoves, HasChosenPlan, HasSizes, HasBestCount, HasNamedCard, HasCuts, HasFirstMisfit}
+use Rattle.win_vectors.specs.Fronts.{Vector}
+use Rattle.win_vectors.specs.Weights.{IsMonotone}
+use Rattle.trick_rules.specs.Nodes.{NodeValue, IsNode}
+use Rattle.strategy_games.specs.Alike.{IsKeptByPlay}
+use Rattle.strategy_games.specs.Laws.{EndsSomewhere, HasOneFront, HasRecursion, HasSteps, HasMoreMoves, HasChosenPlan, HasSizes, HasBestCount, HasNamedCard, HasCuts, HasFirstMisfit, HaveOneFront}
+use Rattle.strategy_games.specs.SearchLaws.{HasEnoughCards, HasLeaders, HasMisses, HasExactness}
 use Rattle.strategy_games.proofs.Nodes as theory
 use Rattle.strategy_games.proofs.Cuts as theory_of_cuts
 use Rattle.strategy_games.proofs.Chosen as theory_of_choice
 use Rattle.strategy_games.proofs.Sizes as theory_of_sizes
 use Rattle.strategy_games.proofs.Counts as theory_of_counts
 use Rattle.strategy_games.proofs.Faults as theory_of_faults
+use Rattle.strategy_games.proofs.Alike as theory_of_alike
+use Rattle.strategy_games.proofs.Enough as theory_of_enough
+use Rattle.strategy_games.proofs.Leaders as theory_of_leaders
+use Rattle.strategy_games.proofs.Misses as theory_of_misses
+use Rattle.strategy_games.proofs.Complete as theory_of_complete
 use Rattle.strategy_tree.specs.Bridge.{bridge}
 use Rattle.strategy_tree.proofs.Rules.{lawful, double_dummy, settled}
 
@@ -55,3 +64,25 @@ cuts = theory_of_cuts.cuts bridge IsNode lawful double_dummy settled
 -- the first node of a plan that is at fault
 pub first_misfit : HasFirstMisfit bridge ◌==◌
 first_misfit = theory_of_faults.misfits bridge ◌==◌ Decides-eqb
+
+-- nodes in a relation that play keeps
+pub alike : (R : NodeValue → NodeValue → Type 0) → IsKeptByPlay bridge IsNode R
+    → HaveOneFront bridge IsNode R
+alike = theory_of_alike.alike_law bridge IsNode lawful
+
+-- where some cards are enough
+pub enough_cards : HasEnoughCards bridge IsNode
+enough_cards = theory_of_enough.enough_cards bridge IsNode lawful settled
+
+-- the leader of a loop over declarer's cards
+pub leaders : (measure : Vector → ℕ) → IsMonotone measure → HasLeaders bridge IsNode measure
+leaders measure monotone =
+    theory_of_leaders.leaders bridge measure IsNode lawful monotone settled double_dummy
+
+-- the vectors that miss a 1
+pub misses_tell : HasMisses bridge IsNode
+misses_tell = theory_of_misses.misses_tell bridge IsNode lawful
+
+-- plans that end where the result is decided
+pub exactness : HasExactness bridge IsNode
+exactness = theory_of_complete.exactness bridge IsNode lawful double_dummy

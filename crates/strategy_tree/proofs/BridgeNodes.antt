@@ -1,11 +1,11 @@
 -- Nodes of bridge in the forms that a search, a finder or a checker meets them.
-use Rattle.std.proofs.Common.{◌≡◌, ℕ, zero, suc, ◌+◌, ◌≤◌, Bool, true, false, is_some, None, ◌↔◌, ◌==◌, List, [], ◌∷◌, map, filter, length, replicate, Contains, cond, refl, ap, subst, ◌∙◌, arith}
+use Rattle.std.proofs.Common.{◌≡◌, ℕ, zero, suc, ◌+◌, ◌≤◌, Bool, true, false, is_some, None, ◌↔◌, ◌==◌, List, [], ◌∷◌, map, filter, length, replicate, Contains, cond, refl, sym, ap, subst, ◌∙◌, arith}
 use Rattle.std.proofs.lemmas.Bool.{ne_eqb}
 use Rattle.std.proofs.lemmas.List.{length-map}
 use Rattle.card_sets.specs.SetWords.{has_card}
 use Rattle.std.proofs.Math.Path.{fun_ext}
 use Rattle.win_vectors.specs.Vectors.{ones_of}
-use Rattle.win_vectors.specs.Fronts.{Vector, IsReduced}
+use Rattle.win_vectors.specs.Fronts.{Vector, CoversAll, IsFrontOf, IsReduced, spreads}
 use Rattle.trick_rules.specs.Positions.{PositionValue, State, to_play}
 use Rattle.trick_rules.specs.Play.{legal_in, is_declarers, is_over, decided, take_out, cards_left}
 use Rattle.trick_rules.specs.Nodes as nodes
@@ -13,10 +13,11 @@ use Rattle.trick_rules.specs.Nodes.{NodeValue, IsNode, states, is_legal, choices
 use Rattle.trick_rules.proofs.PlayLaws as play
 use Rattle.strategy_games.proofs.Lists.{All-at, Contains-here, Contains-there}
 use Rattle.strategy_games.specs.Games.{mask}
-use Rattle.strategy_games.specs.Plans.{stops, size_within, tree_size, IsFront}
-use Rattle.strategy_games.specs.Joins.{joins, AreFronts}
+use Rattle.strategy_games.specs.Plans.{stops, size_within, tree_size, IsFront, IsBelow}
+use Rattle.strategy_games.specs.Joins.{joins, AreFronts, WinsByReply}
+use Rattle.strategy_games.specs.Choosing.{Keeps, misses}
 use Rattle.strategy_tree.specs.Bridge.{bridge}
-use Rattle.strategy_tree.proofs.BridgeLaws.{recursion}
+use Rattle.strategy_tree.proofs.BridgeLaws.{recursion, cuts, enough_cards, misses_tell}
 use Rattle.strategy_tree.proofs.Rules.{no_result}
 
 -- ---- where a plan stops
@@ -106,3 +107,43 @@ front_at_defender n moves fronts front sound going theirs are =
     subst (λ width. IsFront bridge n (suc moves) front ↔ IsReduced (joins width (map (λ card. child_mask n card) (choices n)) fronts) front) (length-states n)
     (subst (λ (masks : ℕ → Vector). IsFront bridge n (suc moves) front ↔ IsReduced (joins (length (states n)) (map masks (choices n)) fronts) front) (fun_ext (mask-bridge n))
     (recursion.at_defender n moves fronts front sound going theirs are))
+
+-- where no layout is won with some moves, none is with more
+pub lost : (n : NodeValue) (moves extra : ℕ) → IsNode n
+    → IsFront bridge n moves (replicate (length n.lefts) false ∷ [])
+    → IsFront bridge n (moves + extra) (replicate (length n.lefts) false ∷ [])
+lost n moves extra sound = subst
+    (λ width. IsFront bridge n moves (replicate width false ∷ [])
+    → IsFront bridge n (moves + extra) (replicate width false ∷ []))
+    (length-states n) (cuts.lost n moves extra sound)
+
+-- one reply is enough for a cut, with the mask of the node
+pub one_reply : (n : NodeValue) (moves card : ℕ) (beta alpha : List Vector) → IsNode n
+    → is_some (decided n.position) ≡ false → is_declarers (to_play n.position) ≡ false
+    → Contains (choices n) card → IsBelow bridge (child n card) (suc moves) beta
+    → CoversAll alpha (spreads (child_mask n card) beta) → IsBelow bridge n (suc moves) alpha
+one_reply n moves card beta alpha sound open_result theirs choice below covers =
+    enough_cards.one_reply n moves card beta alpha sound open_result theirs choice below
+    (subst (λ (bits : Vector). CoversAll alpha (spreads bits beta)) (sym (mask-bridge n card)) covers)
+
+-- one of equal replies is enough, with the masks of the node
+pub equal_replies : (n : NodeValue) (moves : ℕ) (cards : List ℕ) (front : List Vector) → IsNode n
+    → is_over n.position ≡ false → is_declarers (to_play n.position) ≡ false
+    → ((card : ℕ) → Contains cards card → Contains (choices n) card)
+    → ((card : ℕ) → Contains (choices n) card → (kept : ℕ) × Contains cards kept
+    × (child_mask n card ≡ child_mask n kept)
+    × ((other : List Vector) → IsFront bridge (child n kept) (suc moves) other
+    → IsFront bridge (child n card) (suc moves) other))
+    → IsFrontOf (WinsByReply bridge n (suc moves) cards) front → IsFront bridge n (suc moves) front
+equal_replies n moves cards front sound going theirs within equal =
+    enough_cards.equal_replies n moves cards front sound going theirs within
+    (λ card choice.
+    let kept = equal card choice in
+    (kept.0, kept.1, mask-bridge n card ∙ kept.2 ∙ sym (mask-bridge n kept.0), kept.3))
+
+-- the vectors that miss a 1, with the layouts of the child
+pub misses_below : (n : NodeValue) (moves card : ℕ) (u : Vector) → IsNode (child n card)
+    → length (child n card).lefts ≡ length u
+    → IsBelow bridge (child n card) moves (misses u) ↔ (Keeps bridge n moves u card → ⊥)
+misses_below n moves card u sound wide =
+    misses_tell.below n moves card u sound (length-states (child n card) ∙ wide)

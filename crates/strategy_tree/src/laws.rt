@@ -2,13 +2,15 @@
 //! and every number of moves.
 ghost use Rattle.std.specs.Prelude.{◌≡◌, ◌≢◌, ◌⊎◌, ◌↔◌, ℕ, suc, ◌+◌, ◌<◌, ◌≤◌, ◌==◌, true, false, is_some, Some, None, List, [], ◌∷◌, ◌++◌, map, replicate, length, sum_by, Contains};
 ghost use Rattle.win_vectors.specs.Vectors.{ones_of};
-ghost use Rattle.win_vectors.specs.Fronts.{Vector, Covers, CoversAll, IsFrontOf, IsFirstAbove, IsReduced, meets};
+ghost use Rattle.win_vectors.specs.Fronts.{Vector, Dominates, Covers, CoversAll, IsFrontOf, IsFirstAbove, IsReduced, meets, spreads};
+ghost use Rattle.win_vectors.specs.Weights.{IsMonotone};
 ghost use Rattle.trick_rules.specs.Positions.{State, to_play};
 ghost use Rattle.trick_rules.specs.Play.{is_declarers, is_over, decided, makes};
 ghost use Rattle.trick_rules.specs.Nodes.{NodeValue, IsNode, states, stops, choices, child, child_mask};
-ghost use Rattle.strategy_games.specs.Plans.{Plan, Play, Fits, ends, wins_vector, IsFront, IsBelow, tree_size};
-ghost use Rattle.strategy_games.specs.Joins.{unions, spreads, joins, AreFronts, WinsByCard, WinsByReply};
-ghost use Rattle.strategy_games.specs.Choosing.{IsChosenPlan, IsBestCount, IsNamedCard};
+ghost use Rattle.strategy_games.specs.Plans.{Plan, Play, Fits, ends, wins_vector, IsComplete, IsFront, IsBelow, tree_size};
+ghost use Rattle.strategy_games.specs.Joins.{unions, joins, AreFronts, WinsByCard, WinsByReply};
+ghost use Rattle.strategy_games.specs.Choosing.{Keeps, IsChosenPlan, IsBestCount, IsNamedCard, misses};
+ghost use Rattle.strategy_games.specs.SearchLaws.{HasLeaders};
 ghost use Rattle.strategy_games.specs.Misfits.{node_count, first_misfit};
 ghost use Rattle.strategy_tree.specs.Bridge.{bridge};
 ghost use Rattle.strategy_tree.specs.PlanText.{levels_of, HasReplies, HasCards};
@@ -67,13 +69,19 @@ pub fn front_at_defender()
         (joins (length n.lefts) (map (λ card. child_mask n card) (choices n)) fronts) front }
 {}
 
-/// Each vector of the front with a move more is dominated by one with fewer, and the best count
-/// doesn't rise.
+/// Each vector of the front with a move more, or with any number of moves more, is dominated by one
+/// with fewer, and the best count doesn't rise.
 pub fn front_more_moves()
     ensures vectors { (n : NodeValue) (moves : ℕ) (more less : List Vector) → IsNode n
         → IsFront bridge n (suc moves) more → IsFront bridge n moves less → CoversAll less more }
     ensures counts { (n : NodeValue) (moves more less : ℕ) → IsNode n
         → IsBestCount bridge n (suc moves) more → IsBestCount bridge n moves less → more ≤ less }
+    ensures fewer { (n : NodeValue) (moves extra : ℕ) (more less : List Vector) → IsNode n
+        → IsFront bridge n (moves + extra) more → IsFront bridge n moves less
+        → CoversAll less more }
+    ensures fewer_counts { (n : NodeValue) (moves extra more less : ℕ) → IsNode n
+        → IsBestCount bridge n (moves + extra) more → IsBestCount bridge n moves less
+        → more ≤ less }
 {}
 
 // ---- the plan that is printed, and the card that is named
@@ -164,7 +172,8 @@ pub fn tree_size_child()
 // ---- where a search may stop early
 
 /// A list covers what every strategy wins where it covers the front, where it covers such a list,
-/// and where it covers the front with a move less. An empty list never does.
+/// and where it covers the front with fewer moves; it still does with more moves. An empty list
+/// never does.
 pub fn cuts()
     ensures covered { (n : NodeValue) (moves : ℕ) (front alpha : List Vector)
         → IsFront bridge n moves front
@@ -174,22 +183,34 @@ pub fn cuts()
         → CoversAll beta alpha → IsBelow bridge n moves beta }
     ensures deeper { (n : NodeValue) (moves : ℕ) (less alpha : List Vector) → IsNode n
         → IsFront bridge n moves less → CoversAll alpha less → IsBelow bridge n (suc moves) alpha }
+    ensures deeper_by { (n : NodeValue) (moves extra : ℕ) (less alpha : List Vector) → IsNode n
+        → IsFront bridge n moves less → CoversAll alpha less
+        → IsBelow bridge n (moves + extra) alpha }
+    ensures below_deeper { (n : NodeValue) (moves extra : ℕ) (alpha : List Vector) → IsNode n
+        → IsBelow bridge n moves alpha → IsBelow bridge n (moves + extra) alpha }
     ensures never { (n : NodeValue) (moves : ℕ) → IsNode n → IsBelow bridge n moves [] → ⊥ }
 {}
 
+/// Where no layout is won with some moves, none is with more.
+pub fn lost()
+    ensures { (n : NodeValue) (moves extra : ℕ) → IsNode n
+        → IsFront bridge n moves (replicate (length n.lefts) false ∷ [])
+        → IsFront bridge n (moves + extra) (replicate (length n.lefts) false ∷ []) }
+{}
+
 /// At declarer's side a list covers what every strategy wins where it does so at each child. At a
-/// defender it is enough that it covers the front over the first of the cards, whose vectors have 1
-/// at each layout that is not joined yet.
+/// defender it is enough that it covers the front over some of the cards, whose vectors have 1 at
+/// each layout that is not joined yet.
 pub fn early_cut()
     ensures at_declarer { (n : NodeValue) (moves : ℕ) (alpha : List Vector) → IsNode n
         → decided n.position ≡ None
         → is_declarers (to_play n.position) ≡ true
         → ((card : ℕ) → Contains (choices n) card → IsBelow bridge (child n card) moves alpha)
         → IsBelow bridge n (suc moves) alpha }
-    ensures at_defender { (n : NodeValue) (moves : ℕ) (cards later : List ℕ)
+    ensures at_defender { (n : NodeValue) (moves : ℕ) (cards : List ℕ)
         (front alpha : List Vector) → IsNode n
         → decided n.position ≡ None → is_declarers (to_play n.position) ≡ false
-        → choices n ≡ cards ++ later
+        → ((card : ℕ) → Contains cards card → Contains (choices n) card)
         → IsFrontOf (WinsByReply bridge n (suc moves) cards) front → CoversAll alpha front
         → IsBelow bridge n (suc moves) alpha }
 {}
@@ -212,6 +233,91 @@ pub fn root_stop()
         → WinsByCard bridge n moves cards vector → ones_of vector ≡ best
         → IsBestCount bridge n moves best
         → IsBestCount bridge n (suc moves) best }
+{}
+
+/// At a defender one reply is enough for a cut: the node wins nothing that its child doesn't, spread
+/// over the layouts of the node.
+pub fn one_reply()
+    ensures { (n : NodeValue) (moves card : ℕ) (beta alpha : List Vector) → IsNode n
+        → decided n.position ≡ None → is_declarers (to_play n.position) ≡ false
+        → Contains (choices n) card → IsBelow bridge (child n card) (suc moves) beta
+        → CoversAll alpha (spreads (child_mask n card) beta)
+        → IsBelow bridge n (suc moves) alpha }
+{}
+
+/// The front over some cards of declarer's side is the front where it covers what each other card
+/// wins, and where each choice has one among them whose child's front covers what its own child
+/// wins. At either side one of equal cards is enough: a choice is left out for one that is legal in
+/// the same layouts and whose child has the same front.
+pub fn enough_cards()
+    ensures cards { (n : NodeValue) (moves : ℕ) (cards : List ℕ) (front : List Vector) → IsNode n
+        → is_over n.position ≡ false → is_declarers (to_play n.position) ≡ true
+        → ((card : ℕ) → Contains cards card → Contains (choices n) card)
+        → ((card : ℕ) → Contains (choices n) card
+        → Contains cards card ⊎ IsBelow bridge (child n card) moves front)
+        → IsFrontOf (WinsByCard bridge n moves cards) front
+        → IsFront bridge n (suc moves) front }
+    ensures covering_cards { (n : NodeValue) (moves : ℕ) (cards : List ℕ) (front : List Vector)
+        → IsNode n
+        → is_over n.position ≡ false → is_declarers (to_play n.position) ≡ true
+        → ((card : ℕ) → Contains cards card → Contains (choices n) card)
+        → ((card : ℕ) → Contains (choices n) card → (kept : ℕ) × Contains cards kept
+        × ((other : List Vector) → IsFront bridge (child n kept) moves other
+        → IsBelow bridge (child n card) moves other))
+        → IsFrontOf (WinsByCard bridge n moves cards) front
+        → IsFront bridge n (suc moves) front }
+    ensures equal_cards { (n : NodeValue) (moves : ℕ) (cards : List ℕ) (front : List Vector)
+        → IsNode n
+        → is_over n.position ≡ false → is_declarers (to_play n.position) ≡ true
+        → ((card : ℕ) → Contains cards card → Contains (choices n) card)
+        → ((card : ℕ) → Contains (choices n) card → (kept : ℕ) × Contains cards kept
+        × ((other : List Vector) → IsFront bridge (child n kept) moves other
+        → IsFront bridge (child n card) moves other))
+        → IsFrontOf (WinsByCard bridge n moves cards) front
+        → IsFront bridge n (suc moves) front }
+    ensures equal_replies { (n : NodeValue) (moves : ℕ) (cards : List ℕ) (front : List Vector)
+        → IsNode n
+        → is_over n.position ≡ false → is_declarers (to_play n.position) ≡ false
+        → ((card : ℕ) → Contains cards card → Contains (choices n) card)
+        → ((card : ℕ) → Contains (choices n) card → (kept : ℕ) × Contains cards kept
+        × (child_mask n card ≡ child_mask n kept)
+        × ((other : List Vector) → IsFront bridge (child n kept) (suc moves) other
+        → IsFront bridge (child n card) (suc moves) other))
+        → IsFrontOf (WinsByReply bridge n (suc moves) cards) front
+        → IsFront bridge n (suc moves) front }
+{}
+
+/// The first of declarer's cards that keeps the greatest measure so far leads. A card that the front
+/// over the earlier ones covers changes nothing and isn't named; in the end, and where the front so
+/// far covers the front with a move less or the leader has the best with a move less, the leader has
+/// the best and is named. This holds for the count of ones and for each monotone measure.
+pub fn leaders()
+    ensures { (measure : Vector → ℕ) → IsMonotone measure → HasLeaders bridge IsNode measure }
+{}
+
+/// A vector dominates u exactly where none of the vectors that miss a 1 of u dominates it; so these
+/// cover what a child wins exactly where its card doesn't keep u.
+pub fn misses_tell()
+    ensures tell { (u v : Vector) → length v ≡ length u
+        → Dominates v u ↔ (Covers (misses u) v → ⊥) }
+    ensures below { (n : NodeValue) (moves card : ℕ) (u : Vector) → IsNode (child n card)
+        → length (child n card).lefts ≡ length u
+        → IsBelow bridge (child n card) moves (misses u) ↔ (Keeps bridge n moves u card → ⊥) }
+{}
+
+/// The front is the same with any number of moves more where each of its vectors is won by a plan
+/// that stops only at a decided result, as where the chosen plans are such.
+pub fn complete_plans_are_exact()
+    ensures complete { (n : NodeValue) (moves extra : ℕ) (front : List Vector) → IsNode n
+        → IsFront bridge n moves front
+        → ((v : Vector) → Contains front v → (plan : Plan ℕ) × Fits bridge plan n moves
+        × IsComplete bridge plan n × (wins_vector bridge plan n ≡ v))
+        → IsFront bridge n (moves + extra) front }
+    ensures chosen { (n : NodeValue) (moves extra : ℕ) (front : List Vector) → IsNode n
+        → IsFront bridge n moves front
+        → ((v : Vector) (plan : Plan ℕ) → Contains front v → IsChosenPlan bridge plan n moves v
+        → IsComplete bridge plan n)
+        → IsFront bridge n (moves + extra) front }
 {}
 
 // ---- plans at fault

@@ -1,6 +1,7 @@
 //! Tests of cards, play, fronts, strategies, the search and sampling, by public calls alone.
 //! It stands on the crates that it tests, and nothing stands on it.
-//! It promises nothing: what its tables hold was worked out by the laws of bridge, by hand or by another program.
+//! It promises nothing: what its tables hold was worked out by the laws of bridge, by hand or by
+//! another program.
 #![tactic(auto)]
 
 #[cfg(test)]
@@ -13,6 +14,8 @@ mod deals;
 mod double_dummy;
 #[cfg(test)]
 mod endings;
+#[cfg(test)]
+mod equals;
 #[cfg(test)]
 mod fronts;
 #[cfg(test)]

@@ -5,7 +5,7 @@ use std::process::Abort;
 use std::test::Fail;
 
 /// Fails where the two sets differ.
-fn assert_same(rt: &impl Abort, one: CardSet, other: CardSet) {
+pub fn assert_same(rt: &impl Abort, one: CardSet, other: CardSet) {
     assert!(rt; one.is_subset(other));
     assert!(rt; other.is_subset(one));
 }

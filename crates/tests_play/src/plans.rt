@@ -16,32 +16,44 @@ fn second_plan(
     rt: &impl Abort,
     alloc: Global,
     nodes: u64,
+    cuts: bool,
 ) -> Result<Result<Plan, RootFault>, Fail> {
     let root = node_of(rt, alloc, GUESS)?;
     assert!(rt; root.is_ours() && !root.position().over());
-    let front = root_front(alloc, &root, 2, 10)?.front;
+    let mut solver = Solver::new(alloc);
+    let front = root_front(alloc, &mut NoStore, &mut solver, &root, 2, 10, false)?.front;
     let second = vector(rt, "01");
     assert!(rt; second.width() == front.width());
     let target = front.pick(&second).expect(rt, "a vector of the front");
     assert!(rt; target == second);
-    let mut solver = Solver::new(alloc);
-    Ok(plan_for(alloc, &mut NoStore, &mut solver, &root, 2, &target, nodes))
+    Ok(plan_for(
+        alloc,
+        &mut NoStore,
+        &mut solver,
+        &root,
+        2,
+        &target,
+        nodes,
+        cuts,
+    ))
 }
 
 #[test]
 fn the_jack_goes_on_the_seven(rt: HostRuntime) -> Result<(), Fail> {
-    let plan = second_plan(&rt, rt.alloc(), 10)??;
-    let mut text = Text::new(rt.alloc());
-    plan.lines(rt.alloc(), &mut text)?;
     let lines =
         "play S2\nhear 3\non S7\nplay SJ\nstop\non SQ\nplay SK\nstop\non SA\nplay SJ\nstop\n";
-    assert_eq!(rt; text.bytes(), lines.as_bytes());
+    for cuts in [false, true] {
+        let plan = second_plan(&rt, rt.alloc(), 10, cuts)??;
+        let mut text = Text::new(rt.alloc());
+        plan.lines(rt.alloc(), &mut text)?;
+        assert_eq!(rt; text.bytes(), lines.as_bytes());
+    }
     Ok(())
 }
 
 #[test]
 fn nine_nodes_are_too_few_after_the_two(rt: HostRuntime) -> Result<(), Fail> {
-    let spent = second_plan(&rt, rt.alloc(), 9)?;
+    let spent = second_plan(&rt, rt.alloc(), 9, false)?;
     let two = RootFault::Spent(card(&rt, b"S2"));
     assert_eq!(rt; spent.err(), Some(two));
     Ok(())

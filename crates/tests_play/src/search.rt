@@ -1,14 +1,15 @@
-//! A small ending, searched over three kinds of store. Its front and the number of its nodes were
-//! worked out by hand.
+//! Small endings, searched over several kinds of store, with cuts and without. The front of the
+//! first and the number of its nodes were worked out by hand.
 ghost use Rattle.std.specs.Prelude.{IfOk};
 ghost use Rattle.front_table.specs.Proven.{IsFrontAt};
 
-use crate::given::{GUESS, assert_vectors, card, node_of};
-use crate::stores::{Forgetful, OneEntry};
+use crate::endings::ENUMERATED;
+use crate::given::{GUESS, assert_vectors, card, front_of, node_of, number};
+use crate::stores::{AlwaysBusy, Forgetful};
 use alphamu_core::{Budget, Found, SearchFault, search};
-use cut_rules::CutRules;
+use cut_rules::{CutRules, Stop};
 use dd_solver::Solver;
-use front_table::{FrontStore, Look, NoStore, ProvenFront, Put};
+use front_table::{FrontStore, LocalStore, Look, MOST_ENTRY_VECTORS, NoStore, ProvenFront, Put};
 use pareto_fronts::Front;
 use std::alloc::{AllocError, Global};
 use std::process::Abort;
@@ -70,26 +71,107 @@ fn assert_ten_nodes<S: FrontStore>(
 fn ten_nodes_over_each_store(rt: HostRuntime) -> Result<(), Fail> {
     assert_ten_nodes(&rt, rt.alloc(), &mut NoStore)?;
     assert_ten_nodes(&rt, rt.alloc(), &mut Forgetful)?;
-    assert_ten_nodes(&rt, rt.alloc(), &mut OneEntry::new())
+    assert_ten_nodes(&rt, rt.alloc(), &mut AlwaysBusy)
+}
+
+/// What a search with each cut finds, in ample memory and within so many nodes.
+fn cut_search<S: FrontStore>(
+    rt: &impl Abort,
+    alloc: Global,
+    store: &mut S,
+    budget: &mut Budget,
+    node: &Node,
+    moves: u8,
+    alpha: &Front,
+) -> Found {
+    assert!(rt; alpha.width() == node.width() && moves <= 26);
+    let rules = CutRules::all(Stop::Never);
+    let mut solver = Solver::new(alloc);
+    match search(alloc, store, &mut solver, budget, node, moves, alpha, rules) {
+        Ok(found) => found,
+        Err(_) => panic!(rt; "the search ended with no answer"),
+    }
 }
 
 #[test]
-fn an_entry_is_handed_back_or_kept(rt: HostRuntime) -> Result<(), Fail> {
+fn what_was_found_is_found_again_at_once(rt: HostRuntime) -> Result<(), Fail> {
     let alloc = rt.alloc();
     let node = after_the_two(&rt, alloc)?;
-    let front = front_over(alloc, &mut NoStore, &mut Budget::new(10), &node)?;
-    let entry = ProvenFront::new(node.copy(alloc)?, 1, front);
-    let Put::Full(entry) = NoStore.put(entry) else {
-        return Err(Fail::from("no store kept an entry"));
-    };
-    let mut store = OneEntry::new();
-    assert!(rt; matches!(store.put(entry), Put::Kept));
+    let none = Front::new(alloc, node.width());
+    let mut store = LocalStore::new(alloc, 64);
+    for left in [0, 9] {
+        let mut budget = Budget::new(10);
+        let Found::Exact(front) = cut_search(&rt, alloc, &mut store, &mut budget, &node, 1, &none)
+        else {
+            return Err(Fail::from("a front that isn't covered was left out"));
+        };
+        assert_vectors(&rt, &front, "10 01");
+        assert!(rt; budget.left() >= left);
+    }
+    Ok(())
+}
+
+#[test]
+fn a_front_that_alpha_covers_may_be_left_out(rt: HostRuntime) -> Result<(), Fail> {
+    let alloc = rt.alloc();
+    let node = after_the_two(&rt, alloc)?;
+    let alpha = front_of(&rt, alloc, "10 01")?;
+    let budget = &mut Budget::new(10);
+    match cut_search(&rt, alloc, &mut NoStore, budget, &node, 1, &alpha) {
+        Found::Exact(front) => assert_vectors(&rt, &front, "10 01"),
+        Found::Below => {}
+    }
+    Ok(())
+}
+
+#[test]
+fn cuts_and_a_store_change_no_front(rt: HostRuntime) -> Result<(), Fail> {
+    let alloc = rt.alloc();
+    for line in ENUMERATED {
+        let parts = line.split('/').collect::<Vec<&str>>(alloc)?;
+        assert!(rt; parts.len() == 10 && parts[7].is_empty(), "{line}");
+        let node = node_of(&rt, alloc, line)?;
+        let none = Front::new(alloc, node.width());
+        let mut store = LocalStore::new(alloc, 1000);
+        for moves in 1..=number(&rt, parts[8]).min(26) {
+            let budget = &mut Budget::new(1_000_000);
+            let Found::Exact(front) = cut_search(
+                &rt, alloc, &mut store, budget, &node, moves, &none,
+            ) else {
+                return Err(Fail::from("a front that isn't covered was left out"));
+            };
+            if moves == number(&rt, parts[8]) {
+                assert_vectors(&rt, &front, parts[9]);
+            }
+        }
+    }
+    Ok(())
+}
+
+/// The front of a node with one move, as it is offered to a store.
+fn proven(alloc: Global, node: &Node) -> Result<ProvenFront, SearchFault> {
+    let front = front_over(alloc, &mut NoStore, &mut Budget::new(1000), node)?;
+    Ok(ProvenFront::new(node.copy(alloc)?, 1, front))
+}
+
+#[test]
+fn a_store_with_room_for_one(rt: HostRuntime) -> Result<(), Fail> {
+    let alloc = rt.alloc();
+    let node = after_the_two(&rt, alloc)?;
+    let mut store = LocalStore::new(alloc, 1);
+    assert!(rt; matches!(store.put(proven(alloc, &node)?), Put::Kept));
     let mut out = Front::new(alloc, node.width());
-    out.reserve(64)?;
+    out.reserve(MOST_ENTRY_VECTORS)?;
     assert_eq!(rt; store.look(&node, 2, &mut out), Look::Miss);
     assert!(rt; out.is_empty());
     assert_eq!(rt; store.look(&node, 1, &mut out), Look::Hit);
     assert_vectors(&rt, &out, "10 01");
+    assert!(rt; matches!(store.put(proven(alloc, &node)?), Put::Present(_)));
+    let root = node_of(&rt, alloc, GUESS)?;
+    assert!(rt; matches!(store.put(proven(alloc, &root)?), Put::Full(_)));
+    let entries = store.entries().as_slice();
+    assert_eq!(rt; entries.len(), 1);
+    assert_vectors(&rt, &entries[0].front(alloc)?, "10 01");
     Ok(())
 }
 

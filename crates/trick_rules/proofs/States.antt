@@ -1,5 +1,5 @@
 -- States: legal cards, and what follows them.
-use Rattle.std.proofs.Common.{◌≡◌, ℕ, suc, ◌+◌, ◌<◌, ◌≤◌, true, false, not, cond, eqb, List, [], ◌∷◌, ◌++◌, length, refl, sym, ap, ◌∙◌, inl, inr, arith, add-one}
+use Rattle.std.proofs.Common.{◌≡◌, ℕ, suc, ◌+◌, ◌<◌, ◌≤◌, Bool, true, false, not, cond, eqb, List, [], ◌∷◌, ◌++◌, length, refl, sym, ap, ◌∙◌, inl, inr, arith, add-one}
 use Rattle.std.proofs.lemmas.Bool.{false≢true, eqb-false, eq-eqb, ne_eqb, and_parts, cases_Bool, cases_eq, not-true, cond_both}
 use Rattle.std.proofs.lemmas.List.{length_push}
 use Rattle.card_sets.specs.declared.card.Suit.{Suit}
@@ -8,7 +8,7 @@ use Rattle.card_sets.specs.declared.seat.Seat.TheVariants.{Declarer, Left, Dummy
 use Rattle.card_sets.specs.Cards.{suit_of, same_suit}
 use Rattle.card_sets.specs.SetWords.{has_card, IsSubset}
 use Rattle.trick_rules.specs.Positions.{PositionValue, State, to_play, played_count, tricks_left, IsSound, IsState}
-use Rattle.trick_rules.specs.Play.{take_out, put_card, end_trick, after_card, after, held_by, hand_of, right_of, CanPlay, legal_in, legal_cards, of_suit, or_whole, cards_left, is_over}
+use Rattle.trick_rules.specs.Play.{take_out, next_trick, put_card, end_trick, after_card, after, held_by, hand_of, right_of, CanPlay, legal_in, legal_cards, of_suit, or_whole, cards_left, is_over}
 use Rattle.card_sets.proofs.Sets.{has_card-filter, IsCardSet-filter}
 use Rattle.trick_rules.proofs.CardLists.{has_card-take_out}
 use Rattle.card_sets.proofs.SetCounts.{length-take_out, take_out-absent, length-minus, some_card}
@@ -73,6 +73,15 @@ after_card-declarer t card = cond_both (eqb (length t.trick.cards) 3) (end_trick
 
 pub after_card-dummy : (t : PositionValue) (card : ℕ) → (after_card t card).dummy ≡ take_out card t.dummy
 after_card-dummy t card = cond_both (eqb (length t.trick.cards) 3) (end_trick (put_card t card)) (put_card t card) (λ u. u.dummy ≡ take_out card t.dummy) (λ _. refl) (λ _. refl)
+
+pub after_card-trump : (t : PositionValue) (card : ℕ) → (after_card t card).trump ≡ t.trump
+after_card-trump t card = cond_both (eqb (length t.trick.cards) 3) (end_trick (put_card t card)) (put_card t card) (λ u. u.trump ≡ t.trump) (λ _. refl) (λ _. refl)
+
+pub after_card-trick : (t : PositionValue) (card : ℕ) → (after_card t card).trick ≡ next_trick t.trump t.trick card
+after_card-trick t card = by_end (eqb (length t.trick.cards) 3) where
+  by_end : (b : Bool) → (cond b (end_trick (put_card t card)) (put_card t card)).trick ≡ cond b (end_trick (put_card t card)).trick (put_card t card).trick
+  by_end true = refl
+  by_end false = refl
 
 -- ---- the tricks left after a card
 

@@ -70,6 +70,12 @@ winner_of trump trick = seat_after (winning_place trump trick.cards) trick.leade
 
 -- ---- after a card
 
+-- a trick with one card more; after the fourth card its winner leads to the next
+abbrev pub next_trick : Trump → TrickValue → ℕ → TrickValue
+next_trick trump trick card =
+    let longer : TrickValue = record { leader = trick.leader; cards = trick.cards ++ card ∷ [] } in
+    if length trick.cards == 3 then record { leader = winner_of trump longer; cards = [] } else longer
+
 abbrev pub is_declarers : Seat → Bool
 is_declarers Declarer = true
 is_declarers Dummy = true

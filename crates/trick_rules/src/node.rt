@@ -1,5 +1,5 @@
 //! A position with the layouts that are thought possible.
-ghost use Rattle.std.specs.Prelude.{◌≡◌, ◌<◌, ◌≤◌, true, Some, length, slice_get, IfOk};
+ghost use Rattle.std.specs.Prelude.{◌≡◌, ◌<◌, ◌≤◌, true, Some, length, slice_get, IfOk, IsTrue, ◌↔◌};
 ghost use Rattle.card_sets.specs.SetWords.{has_card};
 ghost use Rattle.trick_rules.specs.Positions.{to_play};
 ghost use Rattle.trick_rules.specs.Play.{is_declarers};
@@ -10,6 +10,9 @@ use card_sets::{Card, CardSet};
 use std::alloc::{AllocError, Global};
 use std::marker::Model;
 use win_vectors::WinVector;
+
+/// The most moves of declarer's side that a plan is given: its cards of thirteen tricks.
+pub const MOST_MOVES: u8 = 26;
 
 /// A sound position and 1 to 256 layouts, each by Left's hand, a part of the unseen cards with
 /// Left's number of cards. Right holds the rest.
@@ -84,6 +87,13 @@ impl Node {
             position: self.position.copy(),
             lefts: Vec::from_slice(alloc, self.lefts.as_slice())?,
         })
+    }
+
+    /// Whether the two have the same position and the same layouts in the same order.
+    pub fn equals(&self, other: &Node) -> bool
+        ensures { IsTrue result ↔ (self.now ≡ other.now) }
+    {
+        self.position.equals(&other.position) && self.lefts.as_slice() == other.lefts.as_slice()
     }
 
     /// Whether declarer or dummy is to play.

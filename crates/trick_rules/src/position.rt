@@ -4,7 +4,7 @@ ghost use Rattle.card_sets.specs.SetWords.{has_card, IsCardSet};
 ghost use Rattle.trick_rules.specs.Positions.{to_play as seat_to_play, tricks_left as count_of_tricks, has_played as seat_has_played, places_on as count_of_places, seat_place, IsSound, FitsLeft, HandsFit, position_between_tricks};
 ghost use Rattle.trick_rules.specs.Play.{is_over, decided as result_of, is_declarers, legal_cards, legal_in as legal_cards_in, held_by as cards_held_by, hand_of, after_card, CanPlay};
 
-use crate::trick::{Trick, winner};
+use crate::trick::Trick;
 use crate::trump::Trump;
 use card_sets::{Card, CardSet, Seat};
 use std::marker::Model;
@@ -190,6 +190,19 @@ impl Position {
             trump: self.trump,
         }
     }
+
+    // Whether the two are the same position.
+    pub(crate) fn equals(&self, other: &Position) -> bool
+        ensures { IsTrue result ↔ (self.now ≡ other.now) }
+    {
+        let same_cards = self.unseen == other.unseen
+            && self.declarer == other.declarer
+            && self.dummy == other.dummy;
+        same_cards
+            && self.need == other.need
+            && self.trump == other.trump
+            && self.trick.equals(&other.trick)
+    }
 }
 
 // Whether no card is in two of the three sets, dummy's hand is as large as declarer's, and the
@@ -250,17 +263,14 @@ fn trick_after(position: &Position, card: Card) -> (Trick, u8)
     ensures need { result.1 ≡ (after_card position.now card).need }
 {
     let mut trick = position.trick.copy();
-    trick.cards.push(card);
-    if trick.cards.len() < 4 {
-        return (trick, position.need);
-    }
-    let taker = winner(&trick, position.trump);
-    let need = if is_ours(taker) {
+    trick.add(position.trump, card);
+    let won = trick.cards.is_empty() && is_ours(trick.leader);
+    let need = if won {
         position.need.saturating_sub(1)
     } else {
         position.need
     };
-    (Trick::led_by(taker), need)
+    (trick, need)
 }
 
 /// The position after the seat to play has played a card of its hand or, for a defender, an unseen

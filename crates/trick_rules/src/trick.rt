@@ -1,7 +1,7 @@
 //! A trick, and who takes it.
 ghost use Rattle.std.specs.Prelude.{◌≡◌, ◌≤◌, ◌<◌, length, [], IsTrue, ◌↔◌};
 ghost use Rattle.trick_rules.specs.Positions.{seat_after as seat_that_many_on};
-ghost use Rattle.trick_rules.specs.Play.{suit_led, legal_cards, is_trump as is_trump_card, strength as strength_of, winner_of};
+ghost use Rattle.trick_rules.specs.Play.{suit_led, legal_cards, is_trump as is_trump_card, strength as strength_of, next_trick, winner_of};
 
 use crate::trump::Trump;
 use arrayvec::ArrayVec;
@@ -64,6 +64,19 @@ impl Trick {
         }
     }
 
+    /// Adds a card to a trick that has fewer than four. After the fourth card its winner leads to
+    /// the next trick.
+    pub fn add(&mut self, trump: Trump, card: Card)
+        requires { length self.old.cards < 4 }
+        ensures value { self.new ≡ next_trick trump self.old card }
+        ensures short { length self.new.cards < 4 }
+    {
+        self.cards.push(card);
+        if self.cards.len() == 4 {
+            *self = Trick::led_by(winner(self, trump));
+        }
+    }
+
     /// An equal trick. It takes no memory.
     pub fn copy(&self) -> Trick
         ensures { result ≡ self.now }
@@ -76,6 +89,13 @@ impl Trick {
             leader: self.leader,
             cards,
         }
+    }
+
+    // Whether the two have the same leader and the same cards.
+    pub(crate) fn equals(&self, other: &Trick) -> bool
+        ensures { IsTrue result ↔ (self.now ≡ other.now) }
+    {
+        self.leader == other.leader && self.cards.as_slice() == other.cards.as_slice()
     }
 }
 

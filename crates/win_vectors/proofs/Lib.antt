@@ -8,3 +8,4 @@ mod WordVectors
 mod WordOrders
 mod Masks
 pub mod WeightLemmas
+mod NarrowWords

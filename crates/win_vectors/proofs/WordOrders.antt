@@ -16,7 +16,7 @@ use Rattle.bit_lists.proofs.Bools.{has_bit-zero}
 use Rattle.bit_lists.proofs.Words.{bit_of-word, below_64, length-bits_of, get_or-bits_of, slice_get-bits_of, bits_of-none, bits_of-append, bits_of-word, same_word, same_words}
 use Rattle.win_vectors.specs.Vectors.{ones_of, dominates, vector_order}
 use Rattle.win_vectors.specs.Fronts.{Vector, IsAtLeast, Dominates}
-use Rattle.win_vectors.specs.Words.{AreVectorWords, IsFirstDifference, IsLowestDifference}
+use Rattle.win_vectors.specs.Words.{AreVectorWords, IsFirstOtherBit, IsLowestDifference}
 use Rattle.win_vectors.proofs.VectorLemmas.{Decides-dominates, Dominates-from_places, ones_of-append, DifferAt, order-less, order-greater, vector_order-append}
 use Rattle.win_vectors.proofs.WordBits.{has_bit-lacking, ones_of-bools, ones-zero}
 use Rattle.win_vectors.proofs.WordVectors.{widths-same, same_long}
@@ -158,7 +158,7 @@ equal-words w v us vs h k e =
     )
 
 -- where one vector has 1 at the first place at which two differ
-pub DifferAt-first : (w : ℕ) (us vs : List ℕ) (place : ℕ) → place < w → IsFirstDifference us vs place → bit_of us place ≡ true → DifferAt (bits_of w us) (bits_of w vs) place
+pub DifferAt-first : (w : ℕ) (us vs : List ℕ) (place : ℕ) → place < w → IsFirstOtherBit us vs place → bit_of us place ≡ true → DifferAt (bits_of w us) (bits_of w vs) place
 DifferAt-first w us vs place within h one = record {
   in_first = rw (length-bits_of w us) within;
   in_second = rw (length-bits_of w vs) within;
@@ -174,8 +174,8 @@ DifferAt-first w us vs place within h one = record {
     flip x false e one = refl
 
 -- the other way round
-pub IsFirstDifference-swap : (us vs : List ℕ) (place : ℕ) → IsFirstDifference us vs place → IsFirstDifference vs us place
-IsFirstDifference-swap us vs place h = record { same = λ i low. sym (h.same i low); other = swap (bit_of us place) (bit_of vs place) h.other }
+pub IsFirstOtherBit-swap : (us vs : List ℕ) (place : ℕ) → IsFirstOtherBit us vs place → IsFirstOtherBit vs us place
+IsFirstOtherBit-swap us vs place h = record { same = λ i low. sym (h.same i low); other = swap (bit_of us place) (bit_of vs place) h.other }
   where
     swap : (x y : Bool) → x ≡ not y → y ≡ not x
     swap true true e = absurd (true≢false e)
@@ -184,7 +184,7 @@ IsFirstDifference-swap us vs place h = record { same = λ i low. sym (h.same i l
     swap false false e = absurd (false≢true e)
 
 -- two vectors differ below their width
-pub first_difference-within : (w : ℕ) (us vs : List ℕ) (place : ℕ) → AreVectorWords w us → AreVectorWords w vs → IsFirstDifference us vs place → place < w
+pub first_difference-within : (w : ℕ) (us vs : List ℕ) (place : ℕ) → AreVectorWords w us → AreVectorWords w vs → IsFirstOtherBit us vs place → place < w
 first_difference-within w us vs place h k d =
     elim (cases_lt place w) [
       | inl within ↦ within
@@ -200,20 +200,20 @@ bit_of-got w ws xs i b view within got =
     let both : Some (bit_of ws i) ≡ Some b = sym (slice_get-bits_of w ws i within) ∙ ap (λ bs. slice_get bs i) view ∙ got in
     cc both
 
-pub order-first_one : (w : ℕ) (us vs : List ℕ) (place : ℕ) → AreVectorWords w us → AreVectorWords w vs → IsFirstDifference us vs place → ones_of (bits_of w us) ≡ ones_of (bits_of w vs) → bit_of us place ≡ true → Less ≡ vector_order (bits_of w us) (bits_of w vs)
+pub order-first_one : (w : ℕ) (us vs : List ℕ) (place : ℕ) → AreVectorWords w us → AreVectorWords w vs → IsFirstOtherBit us vs place → ones_of (bits_of w us) ≡ ones_of (bits_of w vs) → bit_of us place ≡ true → Less ≡ vector_order (bits_of w us) (bits_of w vs)
 order-first_one w us vs place h k d same one =
     order-less (bits_of w us) (bits_of w vs) place same (DifferAt-first w us vs place (first_difference-within w us vs place h k d) d one)
 
-pub order-first_zero : (w : ℕ) (us vs : List ℕ) (place : ℕ) → AreVectorWords w us → AreVectorWords w vs → IsFirstDifference us vs place → ones_of (bits_of w us) ≡ ones_of (bits_of w vs) → bit_of us place ≡ false → Greater ≡ vector_order (bits_of w us) (bits_of w vs)
+pub order-first_zero : (w : ℕ) (us vs : List ℕ) (place : ℕ) → AreVectorWords w us → AreVectorWords w vs → IsFirstOtherBit us vs place → ones_of (bits_of w us) ≡ ones_of (bits_of w vs) → bit_of us place ≡ false → Greater ≡ vector_order (bits_of w us) (bits_of w vs)
 order-first_zero w us vs place h k d same none =
-    let swapped = IsFirstDifference-swap us vs place d in
+    let swapped = IsFirstOtherBit-swap us vs place d in
     order-greater (bits_of w us) (bits_of w vs) place same
     (DifferAt-first w vs us place (first_difference-within w us vs place h k d) swapped (swapped.other ∙ ap not none))
 
 -- the first word in which two differ has the first place
-pub IsFirstDifference-word : (us vs : List ℕ) (word place : ℕ) → ((k : ℕ) → k < word → get_or us k 0 ≡ get_or vs k 0) → IsLowestDifference (get_or us word 0) (get_or vs word 0) place → IsFirstDifference us vs (64 * word + place)
+pub IsFirstOtherBit-word : (us vs : List ℕ) (word place : ℕ) → ((k : ℕ) → k < word → get_or us k 0 ≡ get_or vs k 0) → IsLowestDifference (get_or us word 0) (get_or vs word 0) place → IsFirstOtherBit us vs (64 * word + place)
 unfolding bit_of
-IsFirstDifference-word us vs word place same h = record {
+IsFirstOtherBit-word us vs word place same h = record {
   same = λ i low. elim (cases_lt (i / 64) word) [
     | inl before ↦ ap (λ n. has_bit n (i % 64)) (same (i / 64) before)
     | inr here ↦

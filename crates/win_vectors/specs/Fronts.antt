@@ -2,7 +2,7 @@
 use Rattle.std.specs.Prelude.{◌≡◌, ◌⊎◌, ◌++◌, ℕ, Bool, true, false, ⊤, List, [], ◌∷◌, length, map, All, AllPairs, Contains}
 use Rattle.std.specs.List.{AllZip}
 use Rattle.std.specs.declared.cmp.Ordering.TheVariants.{Less}
-use Rattle.win_vectors.specs.Vectors.{vector_order, meet_of}
+use Rattle.win_vectors.specs.Vectors.{vector_order, meet_of, spread_of}
 
 -- one bit for each layout: is it made?
 abbrev pub Vector : Type 0
@@ -50,6 +50,10 @@ IsReduced all front = IsFrontOf (Contains all) front
 abbrev pub meets : List Vector → List Vector → List Vector
 meets f [] = []
 meets f (v ∷ g) = map (λ u. meet_of u v) f ++ meets f g
+
+-- each vector put at the ones of the mask, with 1 at its zeros
+abbrev pub spreads : Vector → List Vector → List Vector
+spreads mask vectors = map (λ v. spread_of v mask) vectors
 
 -- u is the first vector of the list that dominates t
 pub record IsFirstAbove (front : List Vector) (t u : Vector) : Type 0 where

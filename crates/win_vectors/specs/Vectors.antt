@@ -7,6 +7,10 @@ use Rattle.std.specs.declared.cmp.Ordering.TheVariants.{Less, Equal, Greater}
 abbrev pub most_layouts : ℕ
 most_layouts = 256
 
+-- the most layouts of a vector in one word
+abbrev pub most_narrow : ℕ
+most_narrow = 64
+
 -- how many ones
 abbrev pub ones_of : List Bool → ℕ
 ones_of [] = 0

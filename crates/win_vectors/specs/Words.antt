@@ -19,7 +19,7 @@ pub record IsLowestDifference (ours theirs place : ℕ) : Type 0 where
   pub other : has_bit ours place ≡ not (has_bit theirs place)
 
 -- two lists of words have the same bits below a place, and others at it
-pub record IsFirstDifference (ours theirs : List ℕ) (place : ℕ) : Type 0 where
+pub record IsFirstOtherBit (ours theirs : List ℕ) (place : ℕ) : Type 0 where
   pub same : (i : ℕ) → i < place → bit_of ours i ≡ bit_of theirs i
   pub other : bit_of ours place ≡ not (bit_of theirs place)
 

@@ -26,8 +26,8 @@ const _: () = prove!(MOST_LAYOUTS == WORDS * WORD_PLACES as usize);
 /// The first layout has the lowest bit of the first word.
 #[derive(Clone, Copy, Debug)]
 pub struct WinVector {
-    words: [u64; WORDS],
-    width: u16,
+    pub(crate) words: [u64; WORDS],
+    pub(crate) width: u16,
 }
 
 impl Model for WinVector {

@@ -4,7 +4,7 @@ ghost use Rattle.std.specs.Prelude.{◌≡◌, ◌≢◌, ◌≤◌, ◌<◌, �
 ghost use Rattle.bit_lists.specs.Bits.{bools};
 ghost use Rattle.bit_lists.specs.Words.{bit_of};
 ghost use Rattle.win_vectors.specs.Vectors.{most_layouts, vector_order};
-ghost use Rattle.win_vectors.specs.Words.{IsFirstDifference, IsLowestDifference, IsOnesBelow, IsRestrictedWord, IsSpreadWord, IsWordFrom, PutsBits};
+ghost use Rattle.win_vectors.specs.Words.{IsFirstOtherBit, IsLowestDifference, IsOnesBelow, IsRestrictedWord, IsSpreadWord, IsWordFrom, PutsBits};
 
 use std::cmp::Ordering;
 
@@ -79,7 +79,7 @@ pub fn word_order(ours: u64, theirs: u64) -> Ordering
 /// The first place at which the two differ.
 pub fn first_difference(ours: &[u64; WORDS], theirs: &[u64; WORDS]) -> Option<u16>
     ensures none { IsNone result → ours.now ≡ theirs.now }
-    ensures some { IfSome result (IsFirstDifference ours.now theirs.now) }
+    ensures some { IfSome result (IsFirstOtherBit ours.now theirs.now) }
 {
     for word in 0..WORDS {
         let (mine, other) = (ours[word], theirs[word]);

@@ -299,10 +299,11 @@ fn damage_is_refused_by_its_name_and_line(rt: HostRuntime) -> Result<(), Fail> {
 #[test]
 fn a_tree_too_large_names_its_root_card(rt: HostRuntime) -> Result<(), Fail> {
     let deuce = Card::new(Suit::Spades, Rank::new(2));
-    let words = "--job card --deal deal --layouts layouts --moves 2 --nodes 9";
+    let words = "--job card --deal deal --layouts layouts --moves 2 --nodes 9 --no-table --no-cuts";
     let run = ran(&rt, rt.alloc(), words, QUEEN, QUEEN_LAYOUTS)?;
     assert!(rt; run.ends_with(Status::Spent(deuce), "", "alphamu: nodes spent at S2\n"));
-    let words = "--job card --deal deal --layouts layouts --moves 2 --nodes 10";
+    let words =
+        "--job card --deal deal --layouts layouts --moves 2 --nodes 10 --no-table --no-cuts";
     let run = ran(&rt, rt.alloc(), words, QUEEN, QUEEN_LAYOUTS)?;
     assert!(rt; run.status == Status::Done);
     Ok(())

@@ -6,6 +6,8 @@ use Rattle.trick_rules.specs.Play.{after, decided, is_declarers, legal_in, cards
 use Rattle.trick_rules.proofs.PlayLaws.{makes_where_decided, a_legal_card_can_be_played, a_legal_card_leads_to_a_state, a_card_leaves_one_fewer}
 use Rattle.trick_rules.proofs.Decisions.{open-decided}
 use Rattle.dd_solver.specs.Choices.{choice_makes}
+use Rattle.dd_solver.specs.Keys.{IsAnswer}
+use Rattle.dd_solver.proofs.Thresholds.{key_answer}
 use Rattle.dd_solver.proofs.Minimax.{choice-legal, choice-more, choice-others, choice-settled, choice-rest, choice-none, first_legal, rest_legal, same_answer, other_answer}
 use Rattle.dd_solver.proofs.search.+search.Goals as goal
 
@@ -14,6 +16,13 @@ search-returns-in-Some t c =
     let s : State = record { position = c.args.position.now; left = c.args.left } in
     let ok : IsState s = record { sound = subst IsSound c.position.view_is c.position.invariant; fits = c.requires } in
     sym (makes_where_decided s c.in-Some.made ok (sym c.decided.ensures ∙ c.in-Some.is))
+
+pub search-keep-requires-clause-known : goal.search-keep-requires-clause-known
+search-keep-requires-clause-known t c =
+    let s : State = record { position = c.args.position.now; left = c.args.left } in
+    let ok : IsState s = record { sound = subst IsSound c.position.view_is c.position.invariant; fits = c.requires } in
+    subst (λ need. IsAnswer c.of-key.result need c.search_cards-made.result) (sym c.need_of-need.ensures.value)
+    (key_answer s c.of-key.result c.search_cards-made.result ok c.of-key.ensures (sym c.search_cards-made.ensures))
 
 pub best_of-play-requires : goal.best_of-play-requires
 best_of-play-requires t c =
@@ -67,19 +76,19 @@ search_cards-returns-then-best_of-ours t c =
     let s : State = record { position = c.args.position.now; left = c.args.left } in
     let ours = c.is_ours-ours.result in
     let cards = c.one_of_equals-cards.result in
-    let early : choice_makes ours s c.likely-early.result ≡ ours = sym c.best_of.ensures ∙ same_answer c.best_of.result ours c.if-best_of-ours.true in
+    let first : choice_makes ours s c.favourites-first.result ≡ ours = sym c.best_of.ensures ∙ same_answer c.best_of.result ours c.if-best_of-ours.true in
     sym (answer_by s ours cards c.requires.state c.requires.open (sym c.is_ours-ours.ensures) (c.one_of_equals-cards.ensures.answer ours)
-    ∙ choice-more s ours c.likely-early.result cards c.likely-early.ensures early)
+    ∙ choice-more s ours c.favourites-first.result cards c.favourites-first.ensures first)
 
 pub search_cards-best_of-requires : goal.search_cards-best_of-requires
-search_cards-best_of-requires t c = (omega (arith, c.decreases), (c.requires.state, λ card h. c.one_of_equals-cards.ensures.legal card (c.likely-early.ensures card h)))
+search_cards-best_of-requires t c = (omega (arith, c.decreases), (c.requires.state, λ card h. c.one_of_equals-cards.ensures.legal card (c.favourites-first.ensures card h)))
 
-pub search_cards-best_of-requires-2 : goal.search_cards-best_of-requires-2
-search_cards-best_of-requires-2 t c = (
+pub search_cards-search_others-requires : goal.search_cards-search_others-requires
+search_cards-search_others-requires t c = (
   omega (arith, c.decreases),
   (
     c.requires.state,
-    λ card h. c.one_of_equals-cards.ensures.legal card (IsSubset-filter (λ d. not (has_card c.likely-early.result d)) c.one_of_equals-cards.result card (rw c.minus.ensures.value at h)),
+    λ card h. c.one_of_equals-cards.ensures.legal card (IsSubset-filter (λ d. not (has_card c.favourites-first.result d)) c.one_of_equals-cards.result card (rw c.minus.ensures.value at h)),
   ),
 )
 
@@ -88,6 +97,27 @@ search_cards-returns t c =
     let s : State = record { position = c.args.position.now; left = c.args.left } in
     let ours = c.is_ours-ours.result in
     let cards = c.one_of_equals-cards.result in
-    let early : choice_makes ours s c.likely-early.result ≡ not ours = sym c.best_of.ensures ∙ other_answer c.best_of.result ours c.if-best_of-ours.false in
+    let first : choice_makes ours s c.favourites-first.result ≡ not ours = sym c.best_of.ensures ∙ other_answer c.best_of.result ours c.if-best_of-ours.false in
     sym (answer_by s ours cards c.requires.state c.requires.open (sym c.is_ours-ours.ensures) (c.one_of_equals-cards.ensures.answer ours)
-    ∙ choice-others s ours c.likely-early.result cards early ∙ ap (choice_makes ours s) (sym c.minus.ensures.value) ∙ sym c.best_of-2.ensures)
+    ∙ choice-others s ours c.favourites-first.result cards first ∙ ap (choice_makes ours s) (sym c.minus.ensures.value) ∙ sym c.search_others.ensures)
+
+pub search_others-returns-then-best_of-ours : goal.search_others-returns-then-best_of-ours
+search_others-returns-then-best_of-ours t c =
+    let s : State = record { position = c.args.position.now; left = c.args.left } in
+    let early : choice_makes c.args.ours s c.likely-early.result ≡ c.args.ours = sym c.best_of.ensures ∙ same_answer c.best_of.result c.args.ours c.if-best_of-ours.true in
+    sym (choice-more s c.args.ours c.likely-early.result c.args.cards c.likely-early.ensures early)
+
+pub search_others-best_of-requires : goal.search_others-best_of-requires
+search_others-best_of-requires t c = (omega (arith, c.decreases), (c.requires.state, λ card h. c.requires.legal card (c.likely-early.ensures card h)))
+
+pub search_others-best_of-requires-2 : goal.search_others-best_of-requires-2
+search_others-best_of-requires-2 t c = (
+  omega (arith, c.decreases),
+  (c.requires.state, λ card h. c.requires.legal card (IsSubset-filter (λ d. not (has_card c.likely-early.result d)) c.args.cards card (rw c.minus.ensures.value at h))),
+)
+
+pub search_others-returns : goal.search_others-returns
+search_others-returns t c =
+    let s : State = record { position = c.args.position.now; left = c.args.left } in
+    let early : choice_makes c.args.ours s c.likely-early.result ≡ not c.args.ours = sym c.best_of.ensures ∙ other_answer c.best_of.result c.args.ours c.if-best_of-ours.false in
+    sym (choice-others s c.args.ours c.likely-early.result c.args.cards early ∙ ap (choice_makes c.args.ours s) (sym c.minus.ensures.value) ∙ sym c.best_of-2.ensures)

@@ -1,8 +1,7 @@
 use Rattle.std.proofs.Common.{◌≡◌, ℕ, ◌<◌, ◌+◌, List, ◌∷◌, None, cond, suc, length, drop, get_or, ap, ap₂, ◌∙◌, sym, arith}
 use Rattle.std.proofs.Math.Seq.{drop-cons}
-use Rattle.trick_rules.specs.Play.{take_out}
+use Rattle.trick_rules.specs.Play.{take_out, next_trick}
 use Rattle.pbn_deal.specs.declared.board.Played.{Played}
-use Rattle.pbn_deal.specs.Boards.{next_trick}
 use Rattle.layout_maker.specs.Choosing.{after_plays, narrowed}
 use Rattle.layout_maker.proofs.allowed.may_hold.Goals as goal
 
@@ -24,11 +23,11 @@ loop-play-preserved c =
     let rest = drop (i + 1) plays in
     let lt : i < length plays = omega arith in
     record {
-      short = c.add_card.ensures.short;
+      short = c.add.ensures.short;
       told =
           c.loop-play.invariant.told
           ∙ ap (after_plays trump trick hidden may) (split_at plays i play lt c.play-item.is)
           ∙ ap (λ b. cond b (after_plays trump (next_trick trump trick play.card) (take_out play.card hidden) (narrowed play.seat trick.cards hidden play.card may) rest) None) (sym c.may_play.ensures ∙ c.if-not-may_play.false)
-          ∙ sym (ap (λ k. after_plays trump k c.without-hidden.result c.narrow-may.result rest) c.add_card.ensures.value
+          ∙ sym (ap (λ k. after_plays trump k c.without-hidden.result c.narrow-may.result rest) c.add.ensures.value
           ∙ ap₂ (λ u m. after_plays trump (next_trick trump trick play.card) u m rest) c.without-hidden.ensures.value c.narrow-may.ensures);
     }

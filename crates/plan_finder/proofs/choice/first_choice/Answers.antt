@@ -1,7 +1,9 @@
-use Rattle.std.proofs.Common.{◌≡◌, sym, ap, subst, Err}
+use Rattle.std.proofs.Common.{◌≡◌, ◌∙◌, ◌-◌, IfSome, sym, ap, subst, Err}
 use Rattle.alphamu_core.specs.declared.answers.RootFault.TheVariants.{Spent}
+use Rattle.strategy_games.specs.Choosing.{IsPick}
+use Rattle.strategy_tree.specs.Bridge.{bridge}
 use Rattle.plan_finder.specs.Choices.{IsChoiceSpentAt}
-use Rattle.plan_finder.proofs.Passed.{some_keeps, spent_here, same_width, none_more}
+use Rattle.plan_finder.proofs.Passed.{some_keeps, spent_here, same_width, first_found, none_more}
 use Rattle.plan_finder.proofs.choice.first_choice.Goals as goal
 
 pub returns-in-Err-clause-spent : goal.returns-in-Err-clause-spent
@@ -12,19 +14,29 @@ returns-in-Err-clause-spent g c = λ card e.
     subst (λ card. IsChoiceSpentAt c.args.node.now c.args.moves c.args.vector.now c.args.nodes card) (sym fault.0)
     (spent_here c.args.node.now c.args.moves c.args.vector.now c.cards.invariant.so c.in-Some.ensures.value c.in_ok-child.ensures.node c.args.nodes c.in-Some.ensures.a_set larger)
 
-pub pick-requires : goal.pick-requires
-pick-requires g c =
-    same_width c.args.node.now c.args.moves c.args.vector.now c.cards.invariant.so c.in-Some.ensures.value c.in_ok-child.ensures.node c.in-Ok.front c.requires.ours c.requires.vector c.in-Ok.ensures.front
+pub pick_of-requires-clause-width : goal.pick_of-requires-clause-width
+pick_of-requires-clause-width g c =
+    same_width c.args.node.now c.args.moves c.args.vector.now c.cards.invariant.so c.in-Some.ensures.value c.in_ok-child.ensures.node c.requires.ours c.requires.vector
 
-pub returns-in-Some-pick-clause-grown : goal.returns-in-Some-pick-clause-grown
-returns-in-Some-pick-clause-grown g c =
-    g.met.S.FrontStore.grown_more c.args.store.now c.cards.store c.exact_front.new.store c.cards.invariant.grown c.in-Ok.ensures.grown
+pub pick_of-requires-clause-alpha_width : goal.pick_of-requires-clause-alpha_width
+pick_of-requires-clause-alpha_width g c =
+    c.in_ok-misses.ensures.width
+    ∙ same_width c.args.node.now c.args.moves c.args.vector.now c.cards.invariant.so c.in-Some.ensures.value c.in_ok-child.ensures.node c.requires.ours c.requires.vector
+
+pub returns-in-Ok-Some-clause-first : goal.returns-in-Ok-Some-clause-first
+returns-in-Ok-Some-clause-first g c =
+    let pick = subst (λ found. IfSome found (IsPick bridge c.in_ok-child.child (c.args.moves - 1) c.args.vector.now)) c.in-Ok-Some.field-0-is c.in-Ok-Some.ensures.picked in
+    let found = first_found c.args.node.now c.args.moves c.args.vector.now c.cards.invariant.so c.in-Some.ensures.value c.in_ok-child.ensures.node c.in-Ok-Some.above pick in
+    record { first = found.0; after = c.in_ok-child.ensures.node; goes_on_with = found.1 }
+
+pub returns-in-Ok-Some-clause-grown : goal.returns-in-Ok-Some-clause-grown
+returns-in-Ok-Some-clause-grown g c =
+    g.met.S.FrontStore.grown_more c.args.store.now c.cards.store c.pick_of.new.store c.cards.invariant.grown c.pick_of.ensures.grown
 
 pub cards-preserved : goal.cards-preserved
 cards-preserved g c = record {
-  so = none_more c.args.node.now c.args.moves c.args.vector.now c.cards.invariant.so c.in-Some.ensures.value c.in_ok-child.ensures.node c.in-Ok.front c.in-Ok.ensures.front
-      (λ covers. let some = c.in_default-pick.ensures.found.1 covers in cc);
-  grown = g.met.S.FrontStore.grown_more c.args.store.now c.cards.store c.exact_front.new.store c.cards.invariant.grown c.in-Ok.ensures.grown;
+  so = none_more c.args.node.now c.args.moves c.args.vector.now c.cards.invariant.so c.in-Some.ensures.value c.in_ok-child.ensures.node (c.in-Ok-None.ensures.none c.in-Ok-None.field-0-is);
+  grown = g.met.S.FrontStore.grown_more c.args.store.now c.cards.store c.pick_of.new.store c.cards.invariant.grown c.pick_of.ensures.grown;
 }
 
 pub unreachable-requires : goal.unreachable-requires

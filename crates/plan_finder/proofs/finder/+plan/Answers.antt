@@ -33,7 +33,7 @@ plan_below-returns-then-stops-clause-plan g t c =
 pub plan_below-returns-in_ok-replies-clause-plan : goal.plan_below-returns-in_ok-replies-clause-plan
 plan_below-returns-in_ok-replies-clause-plan g t c =
     let goes_on = open_at c.args.node.now c.args.moves c.stops.result c.stops.ensures c.if-stops.false in
-    subst (λ p. IsChosenPlan bridge p c.args.node.now c.args.moves c.args.vector.now) (sym (plan_of-Hear c.in_ok-replies.field-0)) (
+    subst (λ p. IsChosenPlan bridge p c.args.node.now c.args.moves c.args.vector.now) (sym (plan_of-Hear c.in_ok-replies.replies)) (
       goes_on,
       sym c.is_ours.ensures ∙ c.if-is_ours.false,
       c.args.vector.now,
@@ -151,17 +151,17 @@ replies-returns-in_err-plan-clause-spent g t c = λ e.
     spent_below c.args.node.now c.args.moves c.args.vector.now c.cards.invariant.so c.in-Some.ensures.value c.in_ok-child.ensures.node c.args.nodes c.requires.a_node c.requires.goes_on c.requires.theirs (c.in_err-plan.ensures.spent (ap Err fault))
 
 pub replies-returns-in_err-front-clause-grown : goal.replies-returns-in_err-front-clause-grown
-replies-returns-in_err-front-clause-grown g t c = g.met.S.FrontStore.grown_more c.args.store.now c.cards.store c.exact_front.new.store c.cards.invariant.grown c.in_err-front.ensures.grown
+replies-returns-in_err-front-clause-grown g t c = g.met.S.FrontStore.grown_more c.args.store.now c.cards.store c.whole_front.new.store c.cards.invariant.grown c.in_err-front.ensures.grown
 
 pub replies-returns-in_err-plan-clause-grown : goal.replies-returns-in_err-plan-clause-grown
 replies-returns-in_err-plan-clause-grown g t c =
     let grown = g.met.S.FrontStore.grown_more in
-    grown c.args.store.now c.exact_front.new.store c.plan_below.new.store (grown c.args.store.now c.cards.store c.exact_front.new.store c.cards.invariant.grown c.in_ok-front.ensures.grown) c.in_err-plan.ensures.grown
+    grown c.args.store.now c.whole_front.new.store c.plan_below.new.store (grown c.args.store.now c.cards.store c.whole_front.new.store c.cards.invariant.grown c.in_ok-front.ensures.grown) c.in_err-plan.ensures.grown
 
 pub replies-returns-in_err-push-clause-grown : goal.replies-returns-in_err-push-clause-grown
 replies-returns-in_err-push-clause-grown g t c =
     let grown = g.met.S.FrontStore.grown_more in
-    grown c.args.store.now c.exact_front.new.store c.plan_below.new.store (grown c.args.store.now c.cards.store c.exact_front.new.store c.cards.invariant.grown c.in_ok-front.ensures.grown) c.in_ok-plan.ensures.grown
+    grown c.args.store.now c.whole_front.new.store c.plan_below.new.store (grown c.args.store.now c.cards.store c.whole_front.new.store c.cards.invariant.grown c.in_ok-front.ensures.grown) c.in_ok-plan.ensures.grown
 
 pub replies-cards-preserved : goal.replies-cards-preserved
 replies-cards-preserved g t c =
@@ -170,7 +170,7 @@ replies-cards-preserved g t c =
     record {
       so = replied_more c.args.node.now c.args.moves c.args.vector.now c.cards.invariant.so c.in-Some.ensures.value c.in_ok-child.ensures.node _ c.in_ok-child.ensures.mask c.in_ok-front.front c.in_ok-front.ensures.front
           c.restrict-part.ensures first _ _ refl c.in_ok-plan.ensures.plan c.in_ok-push.ensures.items;
-      grown = grown c.args.store.now c.exact_front.new.store c.plan_below.new.store (grown c.args.store.now c.cards.store c.exact_front.new.store c.cards.invariant.grown c.in_ok-front.ensures.grown) c.in_ok-plan.ensures.grown;
+      grown = grown c.args.store.now c.whole_front.new.store c.plan_below.new.store (grown c.args.store.now c.cards.store c.whole_front.new.store c.cards.invariant.grown c.in_ok-front.ensures.grown) c.in_ok-plan.ensures.grown;
     }
 
 pub replies-returns-clause-cards : goal.replies-returns-clause-cards

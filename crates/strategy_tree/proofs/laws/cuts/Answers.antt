@@ -12,3 +12,9 @@ returns-clause-deeper c = laws.cuts.deeper
 
 pub returns-clause-never : goal.returns-clause-never
 returns-clause-never c = laws.cuts.never
+
+pub returns-clause-deeper_by : goal.returns-clause-deeper_by
+returns-clause-deeper_by c = laws.cuts.deeper_by
+
+pub returns-clause-below_deeper : goal.returns-clause-below_deeper
+returns-clause-below_deeper c = laws.cuts.below_deeper

@@ -6,4 +6,4 @@ pub returns-clause-at_declarer : goal.returns-clause-at_declarer
 returns-clause-at_declarer c = λ n moves alpha sound none. laws.cuts.at_declarer n moves alpha sound (live n none)
 
 pub returns-clause-at_defender : goal.returns-clause-at_defender
-returns-clause-at_defender c = λ n moves cards later front alpha sound none. laws.cuts.at_defender n moves cards later front alpha sound (live n none)
+returns-clause-at_defender c = λ n moves cards front alpha sound none. laws.cuts.at_defender n moves cards front alpha sound (live n none)

@@ -1,0 +1,46 @@
+use Rattle.std.proofs.Common.{◌+◌, ◌-◌, ◌*◌, ◌≤◌, length}
+use Rattle.trick_rules.specs.Play.{cards_left}
+use Rattle.front_table.specs.Entries.{most_entry_vectors}
+use Rattle.alphamu_core.specs.Costs.{EntersEach}
+use Rattle.alphamu_core.proofs.Paid.{HasPaid}
+use Rattle.alphamu_core.proofs.OursSoFar.{OursSoFar}
+use Rattle.alphamu_core.proofs.TheirsSoFar.{TheirsSoFar}
+use Rattle.alphamu_core.proofs.walk.+walk.Given as goal
+
+-- each card is one fewer to play
+abbrev pub decreases-visit : goal.decreases-visit
+decreases-visit g l = 4 * cards_left l.node.position + 3
+
+abbrev pub decreases-open : goal.decreases-open
+decreases-open g l = 4 * cards_left l.node.position + 2
+
+abbrev pub decreases-by_cards : goal.decreases-by_cards
+decreases-by_cards g l = 4 * cards_left l.node.now.position + 1
+
+abbrev pub decreases-at_declarer : goal.decreases-at_declarer
+decreases-at_declarer g l = 4 * cards_left l.node.now.position
+
+abbrev pub decreases-at_defender : goal.decreases-at_defender
+decreases-at_defender g l = 4 * cards_left l.node.now.position
+
+abbrev pub invariant-at_declarer-cards : goal.invariant-at_declarer-cards
+invariant-at_declarer-cards g l = record {
+  so : OursSoFar l.node (l.moves - 1) l.cards l.front;
+  paid : HasPaid (EntersEach l.rules g.S.FrontStore.blind) l.node (l.moves - 1) l.cards l.fn.budget l.budget;
+  room : most_entry_vectors ≤ l.scratch.room;
+  grown : g.S.FrontStore.grown l.fn.store l.store;
+}
+
+abbrev pub decreases-at_declarer-cards : goal.decreases-at_declarer-cards
+decreases-at_declarer-cards g l = length l.cards
+
+abbrev pub invariant-at_defender-cards : goal.invariant-at_defender-cards
+invariant-at_defender-cards g l = record {
+  so : TheirsSoFar l.node l.moves l.cards l.joiner;
+  paid : HasPaid (EntersEach l.rules g.S.FrontStore.blind) l.node l.moves l.cards l.fn.budget l.budget;
+  room : most_entry_vectors ≤ l.scratch.room;
+  grown : g.S.FrontStore.grown l.fn.store l.store;
+}
+
+abbrev pub decreases-at_defender-cards : goal.decreases-at_defender-cards
+decreases-at_defender-cards g l = length l.cards

@@ -1,0 +1,35 @@
+// The cards that a search tries at a node.
+ghost use Rattle.std.specs.Prelude.{◌≡◌, [], true, MatchOption};
+ghost use Rattle.trick_rules.specs.Nodes.{choices as choices_of};
+ghost use Rattle.cut_rules.specs.Rules.{no_cuts};
+ghost use Rattle.alphamu_core.specs.Kept.{AreEnough, IsTaken};
+
+use card_sets::{Card, CardSet};
+use cut_rules::CutRules;
+use equal_cards::one_of_equals;
+use trick_rules::Node;
+
+/// The choices that are enough to try: of equal cards the lowest, where there are cuts.
+pub fn cards_to_try(node: &Node, rules: CutRules) -> CardSet
+    ensures enough { AreEnough node.now result }
+    ensures each { rules ≡ no_cuts → result ≡ choices_of node.now }
+{
+    if rules.bound {
+        node.choices().both(one_of_equals(node))
+    } else {
+        node.choices()
+    }
+}
+
+/// Takes the highest card out, in card order.
+pub fn take_highest(cards: &mut CardSet) -> Option<Card>
+    ensures { MatchOption result ((cards.old ≡ []) × (cards.new ≡ []))
+        (λ card. IsTaken cards.old card cards.new) }
+{
+    let mut highest = cards.first()?;
+    'higher: while let Some(next) = cards.after(highest) {
+        highest = next;
+    }
+    *cards = cards.without(highest);
+    Some(highest)
+}

@@ -1,0 +1,168 @@
+// What is known of a node's front before its children are searched.
+ghost use Rattle.std.specs.Prelude.{◌≡◌, ◌≢◌, ◌≤◌, ◌<◌, ◌+◌, [], ◌∷◌, true, false, length, IfOk, IfSome};
+ghost use Rattle.trick_rules.specs.Nodes.{IsNode};
+ghost use Rattle.strategy_games.specs.Plans.{stops};
+ghost use Rattle.strategy_tree.specs.Bridge.{bridge};
+ghost use Rattle.front_table.specs.Proven.{IsFrontAt};
+ghost use Rattle.front_table.specs.Entries.{most_entry_vectors};
+ghost use Rattle.cut_rules.specs.Rules.{no_cuts};
+ghost use Rattle.alphamu_core.specs.Findings.{IsAnswer};
+ghost use Rattle.alphamu_core.specs.Limits.{IsLimit, IsUnknown, IsUpperBound};
+
+use crate::answers::Found;
+use crate::results::results;
+use cut_rules::{CutRules, cut};
+use dd_solver::Solver;
+use front_table::{FrontStore, Look};
+use pareto_fronts::Front;
+use std::alloc::{AllocError, Global};
+use trick_rules::Node;
+use win_vectors::WinVector;
+
+/// What is known of a node's front before its children are searched.
+#[derive(Drop)]
+pub enum Limit {
+    /// The answer itself.
+    Settled(Found),
+    /// Perhaps an upper bound: the front with fewer moves.
+    Upper(Option<Front>),
+}
+
+/// The answer from the store, or by an upper bound; or else the upper bound, where the rules ask
+/// for one.
+pub fn limit_of<S: FrontStore>(
+    alloc: Global,
+    store: &mut S,
+    solver: &mut Solver,
+    scratch: &mut Front,
+    node: &Node,
+    moves: u8,
+    alpha: &Front,
+    rules: CutRules,
+) -> Result<Limit, AllocError>
+    requires width { alpha.now.width ≡ length node.now.lefts }
+    requires room { most_entry_vectors ≤ scratch.old.room }
+    requires goes_on { stops bridge node.now moves ≡ false }
+    ensures limit { IfOk result (IsLimit node.now moves alpha.now.vectors rules) }
+    ensures unknown { rules ≡ no_cuts → S.blind ≡ true → IfOk result IsUnknown }
+    ensures room { most_entry_vectors ≤ scratch.new.room }
+    ensures grown { S.grown store.old store.new }
+{
+    if let Some(front) = known(store, scratch, node, moves)? {
+        return Ok(Limit::Settled(Found::Exact(front)));
+    }
+    match by_double_dummy(alloc, solver, node, moves, alpha, rules)? {
+        Limit::Settled(found) => Ok(Limit::Settled(found)),
+        Limit::Upper(upper) => { by_fewer_moves(store, scratch, node, moves, alpha, rules, upper) }
+    }
+}
+
+// The front that the store has.
+fn known<S: FrontStore>(
+    store: &mut S,
+    scratch: &mut Front,
+    node: &Node,
+    moves: u8,
+) -> Result<Option<Front>, AllocError>
+    requires { most_entry_vectors ≤ scratch.old.room }
+    ensures a_node { IsNode node.now }
+    ensures front { IfOk result (λ front. IfSome front (IsFrontAt node.now moves)) }
+    ensures blind { S.blind ≡ true → IfOk result (λ front. front ≡ None) }
+    ensures room { most_entry_vectors ≤ scratch.new.room }
+    ensures grown { S.grown store.old store.new }
+{
+    scratch.reset(node.width());
+    match store.look(node, moves, scratch) {
+        Look::Hit => Ok(Some(scratch.copy()?)),
+        Look::Miss | Look::Busy => Ok(None),
+    }
+}
+
+// By double dummy at the node itself: no strategy wins a layout that can't be made.
+fn by_double_dummy(
+    alloc: Global,
+    solver: &mut Solver,
+    node: &Node,
+    moves: u8,
+    alpha: &Front,
+    rules: CutRules,
+) -> Result<Limit, AllocError>
+    requires width { alpha.now.width ≡ length node.now.lefts }
+    requires goes_on { stops bridge node.now moves ≡ false }
+    ensures limit { IfOk result (IsLimit node.now moves alpha.now.vectors rules) }
+    ensures unknown { rules ≡ no_cuts → IfOk result IsUnknown }
+{
+    if !rules.bound {
+        return Ok(Limit::Upper(None));
+    }
+    let Some(made) = results(solver, node, alpha, true) else {
+        return Ok(Limit::Settled(Found::Below));
+    };
+    let front = single(alloc, made)?;
+    if made.count() == 0 {
+        return Ok(Limit::Settled(Found::Exact(front)));
+    }
+    Ok(Limit::Upper(Some(front)))
+}
+
+// By the front with a move less, if the store has it; else the upper bound that there is.
+fn by_fewer_moves<S: FrontStore>(
+    store: &mut S,
+    scratch: &mut Front,
+    node: &Node,
+    moves: u8,
+    alpha: &Front,
+    rules: CutRules,
+    upper: Option<Front>,
+) -> Result<Limit, AllocError>
+    requires width { alpha.now.width ≡ length node.now.lefts }
+    requires room { most_entry_vectors ≤ scratch.old.room }
+    requires goes_on { stops bridge node.now moves ≡ false }
+    requires upper { IsLimit node.now moves alpha.now.vectors rules (Limit.Upper upper) }
+    ensures limit { IfOk result (IsLimit node.now moves alpha.now.vectors rules) }
+    ensures unknown { rules ≡ no_cuts → IfOk result IsUnknown }
+    ensures room { most_entry_vectors ≤ scratch.new.room }
+    ensures grown { S.grown store.old store.new }
+{
+    if !rules.deepen {
+        return Ok(Limit::Upper(upper));
+    }
+    let Some(less) = known(store, scratch, node, moves - 1)? else {
+        return Ok(Limit::Upper(upper));
+    };
+    if cut(&less, alpha) {
+        return Ok(Limit::Settled(Found::Below));
+    }
+    Ok(Limit::Upper(Some(less)))
+}
+
+/// Where plans stop: double dummy's results, or below.
+pub fn leaf(
+    alloc: Global,
+    solver: &mut Solver,
+    node: &Node,
+    moves: u8,
+    alpha: &Front,
+    rules: CutRules,
+) -> Result<Found, AllocError>
+    requires width { alpha.now.width ≡ length node.now.lefts }
+    requires stopped { stops bridge node.now moves ≡ true }
+    ensures { IfOk result (IsAnswer node.now moves alpha.now.vectors rules) }
+{
+    match results(solver, node, alpha, rules.bound) {
+        Some(made) => Ok(Found::Exact(single(alloc, made)?)),
+        None => Ok(Found::Below),
+    }
+}
+
+// The front of one vector.
+fn single(alloc: Global, vector: WinVector) -> Result<Front, AllocError>
+    requires low { 1 ≤ length vector }
+    requires high { length vector ≤ 256 }
+    ensures width { IfOk result (λ front. front.width ≡ length vector) }
+    ensures vectors { IfOk result (λ front. front.vectors ≡ vector ∷ []) }
+{
+    let mut front = Front::new(alloc, vector.width());
+    front.insert(vector)?;
+    Ok(front)
+}

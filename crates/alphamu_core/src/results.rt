@@ -1,0 +1,84 @@
+// Double dummy's results in the layouts of a node.
+ghost use Rattle.std.specs.Prelude.{◌≡◌, ◌<◌, true, false, map, length, slice_set, IsNone, IfSome, if◌then◌else◌};
+ghost use Rattle.win_vectors.specs.Fronts.{Covers, Dominates};
+ghost use Rattle.trick_rules.specs.Play.{makes};
+ghost use Rattle.trick_rules.specs.Nodes.{IsNode, states};
+ghost use Rattle.alphamu_core.specs.Judging.{makes_at, IsJudged};
+
+use dd_solver::Solver;
+use pareto_fronts::Front;
+use trick_rules::Node;
+use win_vectors::WinVector;
+
+/// Double dummy's result in each layout; or none, where a cut is allowed and alpha dominates them.
+///
+/// The layouts where some vector of alpha has 0 are judged first: only they tell whether alpha
+/// dominates.
+pub fn results(solver: &mut Solver, node: &Node, alpha: &Front, may_cut: bool) -> Option<WinVector>
+    requires { alpha.now.width ≡ length node.now.lefts }
+    ensures a_node { IsNode node.now }
+    ensures results { IfSome result (λ made. made ≡ map makes (states node.now)) }
+    ensures cut { IsNone result → (may_cut ≡ true)
+        × Covers alpha.now.vectors (map makes (states node.now)) }
+{
+    let sure = common(alpha);
+    let all = WinVector::all(node.width());
+    let made = judge(solver, node, sure, false, all, alpha, may_cut)?;
+    judge(solver, node, sure, true, made, alpha, may_cut)
+}
+
+// A vector with 1 where each vector of the front has 1.
+fn common(front: &Front) -> WinVector
+    ensures { length result ≡ front.now.width }
+{
+    let vectors = front.as_slice();
+    let mut ones = WinVector::all(front.width());
+    for vector in vectors {
+        ones = ones.meet(*vector);
+    }
+    ones
+}
+
+// Judges the layouts at which the mask has this bit, and takes out those that can't be made; or
+// none, where a cut is allowed and alpha dominates what is left.
+fn judge(
+    solver: &mut Solver,
+    node: &Node,
+    mask: WinVector,
+    bit: bool,
+    start: WinVector,
+    alpha: &Front,
+    may_cut: bool,
+) -> Option<WinVector>
+    requires alpha { alpha.now.width ≡ length node.now.lefts }
+    requires mask { length mask ≡ length node.now.lefts }
+    requires above { Dominates start (map makes (states node.now)) }
+    ensures judged { IfSome result (λ made.
+        IsJudged (map makes (states node.now)) mask bit start (length node.now.lefts) made) }
+    ensures cut { IsNone result → (may_cut ≡ true)
+        × Covers alpha.now.vectors (map makes (states node.now)) }
+{
+    let mut made = start;
+    for place in 0..node.width() {
+        if mask.get(place) == bit {
+            made = judge_at(solver, node, place, made);
+            if may_cut && alpha.covers(&made) {
+                return None;
+            }
+        }
+    }
+    Some(made)
+}
+
+// Takes a layout out if it can't be made.
+fn judge_at(solver: &mut Solver, node: &Node, place: u16, made: WinVector) -> WinVector
+    requires within { place < length node.now.lefts }
+    requires width { length made ≡ length node.now.lefts }
+    ensures { result ≡ (if makes_at node.now place then made else slice_set made place false) }
+{
+    if solver.makes(node.position(), node.left(place)) {
+        made
+    } else {
+        made.set(place, false)
+    }
+}

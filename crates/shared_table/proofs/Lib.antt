@@ -1,0 +1,10 @@
+pub mod Prefixes
+pub mod OneShard
+pub mod Views
+pub mod Keeps
+pub mod Holding
+pub mod Parting
+pub mod Telling
+pub mod Growing
+pub mod Making
+pub mod Closing

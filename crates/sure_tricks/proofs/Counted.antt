@@ -1,0 +1,261 @@
+-- As many cards of the hand on lead are sure as are counted.
+use Rattle.std.proofs.Common.{◌≡◌, ◌≢◌, ℕ, zero, suc, ◌+◌, ◌<◌, ◌≤◌, Bool, true, false, not, ◌&&◌, ◌||◌, cond, nat_lt, List, [], length, min, refl, sym, ap, ap₂, ◌∙◌, subst, inl, inr, arith}
+use Rattle.std.proofs.lemmas.Bool.{cases_Bool, false≢true, ltb-false, ltb-true, and_parts}
+use Rattle.std.proofs.Math.Nat.{min-le_left, min-le_right, min-eq_left}
+use Rattle.card_sets.specs.declared.card.Suit.{Suit}
+use Rattle.card_sets.specs.declared.card.Suit.TheVariants.{Spades, Hearts, Diamonds, Clubs}
+use Rattle.card_sets.specs.declared.seat.Seat.{Seat}
+use Rattle.card_sets.specs.declared.seat.Seat.TheVariants.{Declarer, Left, Dummy, Right}
+use Rattle.card_sets.specs.Cards.{suit_of, same_suit}
+use Rattle.card_sets.specs.SetWords.{has_card}
+use Rattle.card_sets.proofs.Sets.{has_card-filter, IsCardSet-filter, IsSubset-filter}
+use Rattle.card_sets.proofs.SetCounts.{some_card}
+use Rattle.card_sets.proofs.Suits.{same_suit-refl, same_suit-true}
+use Rattle.trick_rules.specs.declared.trump.Trump.{Trump}
+use Rattle.trick_rules.specs.declared.trump.Trump.TheVariants.{NoTrump, Suit as Suited}
+use Rattle.trick_rules.specs.Positions.{State, seat_after, to_play, tricks_left, IsState}
+use Rattle.trick_rules.specs.Play.{of_suit, is_trump, hand_of, is_declarers, makes}
+use Rattle.sure_tricks.specs.Sure.{trumps_of, is_suit, AreHigh, AreSafe, AreSure, high_count, taken_from, sure_against, sure_in, sure_trumps, may_ruff, sure_of, own_count, partners_of, partners_count, leads_over, joint_count, count_at, sure_count}
+use Rattle.sure_tricks.proofs.Hands.{next_three, hand_set, Suffices}
+use Rattle.sure_tricks.proofs.Picking.{picked, in_suit, picked_high, by_suits, high_count-part}
+use Rattle.sure_tricks.proofs.Cash.{sure_cards}
+use Rattle.sure_tricks.proofs.Crossing.{safe_at_no_trump}
+use Rattle.sure_tricks.proofs.Together.{together}
+
+-- ---- what is taken from a hand
+
+taken-high : (b : Bool) (own theirs : List ℕ) → taken_from b own theirs ≤ high_count own theirs
+taken-high true own theirs = min-le_left (high_count own theirs) (length theirs)
+taken-high false own theirs = omega arith
+
+taken-safe : (b : Bool) (own theirs : List ℕ) → b ≡ true → taken_from b own theirs ≤ length theirs
+taken-safe true own theirs e = min-le_right (high_count own theirs) (length theirs)
+taken-safe false own theirs e = absurd (false≢true e)
+
+-- ---- the cards of any seat, by the numbers of its suits
+
+module _ (s : State) (ok : IsState s) (x : Seat) (flags : Suit → Seat → Bool) where
+  -- a suit's number is no more than is sure against each of the others
+  pub against : (suit : Suit) (i : ℕ) → 1 ≤ i → i < 4 → sure_in s x (flags suit) suit ≤ sure_against s x (flags suit) suit (seat_after i x)
+  against suit zero some low = absurd (omega arith)
+  against suit (suc zero) some low = min-le_left _ _
+  against suit (suc (suc zero)) some low =
+      let outer = min-le_right (sure_against s x (flags suit) suit (seat_after 1 x)) (min (sure_against s x (flags suit) suit (seat_after 2 x)) (sure_against s x (flags suit) suit (seat_after 3 x))) in
+      let inner = min-le_left (sure_against s x (flags suit) suit (seat_after 2 x)) (sure_against s x (flags suit) suit (seat_after 3 x)) in
+      omega arith
+  against suit (suc (suc (suc zero))) some low =
+      let outer = min-le_right (sure_against s x (flags suit) suit (seat_after 1 x)) (min (sure_against s x (flags suit) suit (seat_after 2 x)) (sure_against s x (flags suit) suit (seat_after 3 x))) in
+      let inner = min-le_right (sure_against s x (flags suit) suit (seat_after 2 x)) (sure_against s x (flags suit) suit (seat_after 3 x)) in
+      omega arith
+  against suit (suc (suc (suc (suc i)))) some low = absurd (omega arith)
+
+  -- so it is than is high there, and than the suit has
+  high_against : (suit : Suit) (y : Seat) → y ≢ x → sure_in s x (flags suit) suit ≤ high_count (of_suit suit (hand_of s x)) (of_suit suit (hand_of s y))
+  high_against suit y differ =
+      let at = next_three x y differ in
+      subst (λ seat. sure_in s x (flags suit) suit ≤ high_count (of_suit suit (hand_of s x)) (of_suit suit (hand_of s seat))) at.3
+      (let one = against suit at.0 at.1 at.2 in
+      let two = taken-high (flags suit (seat_after at.0 x)) (of_suit suit (hand_of s x)) (of_suit suit (hand_of s (seat_after at.0 x))) in
+      omega arith)
+
+  pub part_of_suit : (suit : Suit) → sure_in s x (flags suit) suit ≤ length (of_suit suit (hand_of s x))
+  part_of_suit suit =
+      let one = against suit 1 (omega arith) (omega arith) in
+      let two = taken-high (flags suit (seat_after 1 x)) (of_suit suit (hand_of s x)) (of_suit suit (hand_of s (seat_after 1 x))) in
+      let three = high_count-part (of_suit suit (hand_of s x)) (of_suit suit (hand_of s (seat_after 1 x))) in
+      omega arith
+
+  -- the sure cards of the hand
+  abbrev counted : List ℕ
+  counted = picked (λ suit. sure_in s x (flags suit) suit) (hand_of s x)
+
+  counted_in : (suit : Suit) → length (of_suit suit counted) ≡ sure_in s x (flags suit) suit
+  counted_in suit = in_suit (λ u. sure_in s x (flags u) u) (hand_of s x) (hand_set s ok x) suit ∙ min-eq_left (part_of_suit suit)
+
+  length_counted : length counted ≡ sure_in s x (flags Spades) Spades + sure_in s x (flags Hearts) Hearts + sure_in s x (flags Diamonds) Diamonds + sure_in s x (flags Clubs) Clubs
+  length_counted =
+      let all = by_suits counted in
+      let a = counted_in Spades in
+      let b = counted_in Hearts in
+      let c = counted_in Diamonds in
+      let d = counted_in Clubs in
+      omega arith
+
+  counted_high : (y : Seat) → y ≢ x → AreHigh counted (hand_of s y)
+  counted_high y differ = picked_high (λ u. sure_in s x (flags u) u) (hand_of s x) (hand_set s ok x) (hand_of s y) (λ suit. high_against suit y differ)
+
+  counted_sure : ((y : Seat) → y ≢ x → AreSafe s.position.trump counted (hand_of s y)) → AreSure s x counted
+  counted_sure safe = record {
+    set = IsCardSet-filter _ (hand_of s x) (hand_set s ok x);
+    held = IsSubset-filter _ (hand_of s x);
+    high = counted_high;
+    safe = safe;
+  }
+
+  -- a suit with a number has such a card
+  some_counted : (suit : Suit) → 0 < sure_in s x (flags suit) suit → (card : ℕ) × (has_card counted card ≡ true) × (suit_of card ≡ suit)
+  some_counted suit some =
+      let many = counted_in suit in
+      let card = some_card (of_suit suit counted) (omega arith) in
+      let both = and_parts (has_card counted card.0) (same_suit (suit_of card.0) suit) (sym (has_card-filter (λ c. same_suit (suit_of c) suit) counted card.0) ∙ card.1) in
+      (card.0, both.0, same_suit-true (suit_of card.0) suit both.1)
+
+-- ---- the hand on lead
+
+module _ (s : State) (ok : IsState s) where
+  -- which seats may ruff a suit
+  abbrev ruffs_in : Suit → Seat → Bool
+  ruffs_in suit seat = not (is_suit s.position.trump suit) && may_ruff s seat
+
+  abbrev ours : List ℕ
+  ours = counted s ok (to_play s.position) ruffs_in
+
+  -- where trumps are drawn there are as many as the trumps led
+  drawn : (trumps : Suit) → s.position.trump ≡ Suited trumps → sure_trumps s s.position.trump ≡ sure_of s trumps
+  drawn trumps e = ap (sure_trumps s) e
+      ∙ ap (λ (b : Bool). sure_in s (to_play s.position) (λ seat. not b && may_ruff s seat) trumps) (sym (ap (λ t. is_suit t trumps) e ∙ same_suit-refl trumps))
+
+  counted_safe : (y : Seat) → y ≢ to_play s.position → AreSafe s.position.trump ours (hand_of s y)
+  counted_safe y differ = go s.position.trump refl
+    where
+      safe_in : (suit : Suit) → is_suit s.position.trump suit ≡ false → may_ruff s y ≡ true → sure_of s suit ≤ length (of_suit suit (hand_of s y))
+      safe_in suit side ruffs = subst (λ seat. may_ruff s seat ≡ true → sure_of s suit ≤ length (of_suit suit (hand_of s seat))) (next_three (to_play s.position) y differ).3
+          (λ h.
+          let i = (next_three (to_play s.position) y differ) in
+          let one = against s ok (to_play s.position) ruffs_in suit i.0 i.1 i.2 in
+          let two = taken-safe (ruffs_in suit (seat_after i.0 (to_play s.position))) (of_suit suit (hand_of s (to_play s.position))) (of_suit suit (hand_of s (seat_after i.0 (to_play s.position)))) (rw (side, h) refl) in
+          omega arith) ruffs
+
+      go : (trump : Trump) → s.position.trump ≡ trump → AreSafe s.position.trump ours (hand_of s y)
+      go NoTrump e = subst (λ t. AreSafe t ours (hand_of s y)) (sym e) (safe_at_no_trump ours (hand_of s y))
+      go (Suited trumps) e = elim (cases_Bool (may_ruff s y)) as (λ _. AreSafe s.position.trump ours (hand_of s y)) [
+        | inl ruffs ↦ inr (λ card mem side.
+            let off : is_suit s.position.trump (suit_of card) ≡ false = ap (λ t. is_suit t (suit_of card)) e ∙ sym (ap (λ t. is_trump t card) e) ∙ side in
+            let one = counted_in s ok (to_play s.position) ruffs_in (suit_of card) in
+            let two = safe_in (suit_of card) off ruffs in
+            omega arith)
+        | inr none ↦ (let few = ltb-false (sure_trumps s s.position.trump) (length (trumps_of s.position.trump (hand_of s y))) none in
+            let led = drawn trumps e in
+            let all = counted_in s ok (to_play s.position) ruffs_in trumps in
+            let same : length (trumps_of s.position.trump ours) ≡ length (of_suit trumps ours) = ap (λ t. length (trumps_of t ours)) e in
+            inl (omega arith))
+      ]
+
+  ours_sure : AreSure s (to_play s.position) ours
+  ours_sure = counted_sure s ok (to_play s.position) ruffs_in counted_safe
+
+  -- ---- and its partner
+
+  abbrev partners : List ℕ
+  partners = counted s ok (seat_after 2 (to_play s.position)) (λ suit seat. false)
+
+  partners_sure : s.position.trump ≡ NoTrump → AreSure s (seat_after 2 (to_play s.position)) partners
+  partners_sure e = counted_sure s ok (seat_after 2 (to_play s.position)) (λ suit seat. false)
+      (λ y differ. subst (λ t. AreSafe t partners (hand_of s y)) (sym e) (safe_at_no_trump partners (hand_of s y)))
+
+  -- a suit that leads over: a card of either hand
+  record IsOver : Type 0 where
+    link : ℕ
+    card : ℕ
+    linked : has_card (hand_of s (to_play s.position)) link ≡ true
+    there : has_card partners card ≡ true
+    suit : suit_of card ≡ suit_of link
+
+  over_in : (suit : Suit) → leads_over s suit ≡ true → IsOver
+  over_in suit h =
+      let both = and_parts (nat_lt 0 (partners_of s suit)) (nat_lt 0 (length (of_suit suit (hand_of s (to_play s.position))))) h in
+      let card = some_counted s ok (seat_after 2 (to_play s.position)) (λ u seat. false) suit (ltb-true 0 (partners_of s suit) both.0) in
+      let link = some_card (of_suit suit (hand_of s (to_play s.position))) (ltb-true 0 (length (of_suit suit (hand_of s (to_play s.position)))) both.1) in
+      let parts = and_parts (has_card (hand_of s (to_play s.position)) link.0) (same_suit (suit_of link.0) suit) (sym (has_card-filter (λ c. same_suit (suit_of c) suit) (hand_of s (to_play s.position)) link.0) ∙ link.1) in
+      record { link = link.0; card = card.0; linked = parts.0; there = card.1; suit = card.2 ∙ sym (same_suit-true (suit_of link.0) suit parts.1) }
+
+  over : (a b c d : Bool) → a ≡ leads_over s Spades → b ≡ leads_over s Hearts → c ≡ leads_over s Diamonds → d ≡ leads_over s Clubs → (a || b || c || d) ≡ true → IsOver
+  over true b c d p q r t h = over_in Spades (sym p)
+  over false true c d p q r t h = over_in Hearts (sym q)
+  over false false true d p q r t h = over_in Diamonds (sym r)
+  over false false false true p q r t h = over_in Clubs (sym t)
+  over false false false false p q r t h = absurd (false≢true h)
+
+-- ---- with any need
+
+abbrev needing : State → ℕ → State
+needing s need = record { position = record s.position { need = need }; left = s.left }
+
+hand_needing : (s : State) (need : ℕ) (seat : Seat) → hand_of (needing s need) seat ≡ hand_of s seat
+hand_needing s need Declarer = refl
+hand_needing s need Left = refl
+hand_needing s need Dummy = refl
+hand_needing s need Right = refl
+
+state_needing : (s : State) (need : ℕ) → IsState s → need ≤ 13 → IsState (needing s need)
+state_needing s need ok low = record {
+  sound = record {
+    declarer_set = ok.sound.declarer_set;
+    dummy_set = ok.sound.dummy_set;
+    unseen_set = ok.sound.unseen_set;
+    declarer_dummy = ok.sound.declarer_dummy;
+    declarer_unseen = ok.sound.declarer_unseen;
+    dummy_unseen = ok.sound.dummy_unseen;
+    trick_declarer = ok.sound.trick_declarer;
+    trick_dummy = ok.sound.trick_dummy;
+    trick_unseen = ok.sound.trick_unseen;
+    trick_short = ok.sound.trick_short;
+    trick_cards = ok.sound.trick_cards;
+    trick_differs = ok.sound.trick_differs;
+    need_fits = low;
+    dummy_count = ok.sound.dummy_count;
+    unseen_count = ok.sound.unseen_count;
+  };
+  fits = record { set = ok.fits.set; part = ok.fits.part; count = ok.fits.count };
+}
+
+sure_needing : (s : State) (need : ℕ) (x : Seat) (sure : List ℕ) → AreSure s x sure → AreSure (needing s need) x sure
+sure_needing s need x sure are = record {
+  set = are.set;
+  held = λ c h. ap (λ (l : List ℕ). has_card l c) (hand_needing s need x) ∙ are.held c h;
+  high = λ y differ. subst (AreHigh sure) (sym (hand_needing s need y)) (are.high y differ);
+  safe = λ y differ. subst (AreSafe s.position.trump sure) (sym (hand_needing s need y)) (are.safe y differ);
+}
+
+-- ---- what the count promises
+
+-- so many tricks for the side on lead, whatever the need
+abbrev Promises : State → ℕ → Type 0
+Promises s n = (b : Bool) (need : ℕ) → is_declarers (to_play s.position) ≡ b → need ≤ 13 → Suffices b (needing s need).position n → makes (needing s need) ≡ b
+
+own_promised : (s : State) → IsState s → s.position.trick.cards ≡ [] → Promises s (own_count s)
+own_promised s ok none b need side low h =
+    let few = length_counted s ok (to_play s.position) (ruffs_in s ok) in
+    sure_cards (needing s need) (ours s ok) b (state_needing s need ok low) none (sure_needing s need (to_play s.position) (ours s ok) (ours_sure s ok)) side
+    (subst (λ n. Suffices b (needing s need).position n) (sym few) h)
+
+joint_promised : (s : State) → IsState s → s.position.trick.cards ≡ [] → s.position.trump ≡ NoTrump → Promises s (joint_count s)
+joint_promised s ok none no_trump = go (leads_over s Spades || leads_over s Hearts || leads_over s Diamonds || leads_over s Clubs) refl
+  where
+    go : (lead : Bool) → (leads_over s Spades || leads_over s Hearts || leads_over s Diamonds || leads_over s Clubs) ≡ lead
+        → Promises s (cond lead (min (tricks_left s.position) (own_count s + partners_count s)) (own_count s))
+    go false e b need side low h = own_promised s ok none b need side low h
+    go true e b need side low h =
+        let o = over s ok (leads_over s Spades) (leads_over s Hearts) (leads_over s Diamonds) (leads_over s Clubs) refl refl refl refl e in
+        let few = length_counted s ok (to_play s.position) (ruffs_in s ok) in
+        let more = length_counted s ok (seat_after 2 (to_play s.position)) (λ suit seat. false) in
+        together (needing s need) (ours s ok) (partners s ok) o.link o.card (state_needing s need ok low) none no_trump
+        (sure_needing s need (to_play s.position) (ours s ok) (ours_sure s ok))
+        (sure_needing s need (seat_after 2 (to_play s.position)) (partners s ok) (partners_sure s ok no_trump))
+        (ap (λ (l : List ℕ). has_card l o.link) (hand_needing s need (to_play s.position)) ∙ o.linked) o.there o.suit b side
+        (subst (λ n. Suffices b (needing s need).position n) (sym (ap₂ (λ (i k : ℕ). min (tricks_left s.position) (i + k)) few more)) h)
+
+count_promised : (s : State) → IsState s → s.position.trick.cards ≡ [] → Promises s (sure_count s)
+count_promised s ok none = go s.position.trump refl
+  where
+    go : (trump : Trump) → s.position.trump ≡ trump → Promises s (count_at s trump)
+    go NoTrump e = joint_promised s ok none e
+    go (Suited suit) e = own_promised s ok none
+
+pub our_count : (s : State) → IsState s → s.position.trick.cards ≡ [] → is_declarers (to_play s.position) ≡ true
+    → (need : ℕ) → need ≤ 13 → need ≤ sure_count s → makes (record { position = record s.position { need = need }; left = s.left }) ≡ true
+our_count s ok none side need low h = count_promised s ok none true need side low h
+
+pub their_count : (s : State) → IsState s → s.position.trick.cards ≡ [] → is_declarers (to_play s.position) ≡ false
+    → (need : ℕ) → need ≤ 13 → tricks_left s.position < need + sure_count s → makes (record { position = record s.position { need = need }; left = s.left }) ≡ false
+their_count s ok none side need low h = count_promised s ok none false need side low h

@@ -1,0 +1,12 @@
+pub mod Counting
+pub mod Holding
+pub mod Hands
+pub mod Cash
+pub mod Looking
+pub mod Picking
+pub mod Joint
+pub mod Crossing
+pub mod Both
+pub mod Together
+pub mod Counted
+pub mod Summing

@@ -1,0 +1,317 @@
+//! How many cards of the hand on lead are sure.
+ghost use Rattle.std.specs.Prelude.{◌≡◌, ◌≤◌, ◌<◌, ◌+◌, ℕ, Bool, true, false, not, ◌&&◌, ◌||◌, List, [], length, min, nat_lt};
+ghost use Rattle.std.specs.List.{list_all};
+ghost use Rattle.trick_rules.specs.Positions.{State, seat_after, to_play, tricks_left, FitsLeft, IsState};
+ghost use Rattle.trick_rules.specs.Play.{of_suit, hand_of, is_declarers, makes};
+ghost use Rattle.trick_rules.specs.declared.trump.Trump.TheVariants.{NoTrump, Suit as Suited};
+ghost use Rattle.card_sets.specs.declared.card.Suit.{Suit};
+ghost use Rattle.card_sets.specs.declared.card.Suit.TheVariants.{Spades, Hearts, Diamonds, Clubs};
+ghost use Rattle.sure_tricks.specs.Sure.{top_count as count_above, high_count as count_of_high, taken_from, trumps_of, is_suit, sure_of, own_count, partners_of, partners_count, joint_count, sure_count};
+
+use card_sets::{Card, CardSet, Seat, Suit};
+use trick_rules::{Position, Trump};
+
+/// The hand on lead, and the three others clockwise.
+#[derive(Clone, Copy)]
+struct Hands {
+    own: CardSet,
+    next: CardSet,
+    partner: CardSet,
+    last: CardSet,
+}
+
+/// Which of the three others may ruff.
+#[derive(Clone, Copy)]
+struct Ruffs {
+    next: bool,
+    partner: bool,
+    last: bool,
+}
+
+impl Ruffs {
+    // None may.
+    fn none() -> Ruffs
+        ensures { result ≡ record { next = false; partner = false; last = false } }
+    {
+        Ruffs {
+            next: false,
+            partner: false,
+            last: false,
+        }
+    }
+
+    // The same in a suit: trumps aren't ruffed.
+    fn in_suit(&self, trump: Trump, suit: Suit) -> Ruffs
+        ensures next { result.next ≡ (not (is_suit trump suit) && self.now.next) }
+        ensures partner { result.partner ≡ (not (is_suit trump suit) && self.now.partner) }
+        ensures last { result.last ≡ (not (is_suit trump suit) && self.now.last) }
+    {
+        let side = trump != Trump::Suit(suit);
+        Ruffs {
+            next: side && self.next,
+            partner: side && self.partner,
+            last: side && self.last,
+        }
+    }
+}
+
+// Whether a card comes after each card of a set.
+fn is_higher(card: Card, cards: CardSet) -> bool
+    ensures { result ≡ list_all (λ d. nat_lt d card) cards }
+{
+    !cards.has(card) && cards.after(card).is_none()
+}
+
+// How many cards of the one set come after each card of the other.
+fn top_count(own: CardSet, theirs: CardSet) -> u8
+    ensures { result ≡ count_above own theirs }
+{
+    let mut top = own;
+    while let Some(low) = top.first() {
+        if is_higher(low, theirs) {
+            return top.count();
+        }
+        top = top.without(low);
+    }
+    0
+}
+
+// Of one suit: how many cards of the hand on lead are high against these of another hand.
+fn high_count(own: CardSet, theirs: CardSet) -> u8
+    ensures { result ≡ count_of_high own theirs }
+{
+    let top = top_count(own, theirs);
+    if top < theirs.count() {
+        top
+    } else {
+        own.count()
+    }
+}
+
+// How many of them are safe too.
+fn safe_count(own: CardSet, theirs: CardSet, may_ruff: bool) -> u8
+    ensures { result ≡ taken_from may_ruff own theirs }
+{
+    let high = high_count(own, theirs);
+    if may_ruff {
+        high.min(theirs.count())
+    } else {
+        high
+    }
+}
+
+impl Hands {
+    // The hands as this seat sees them.
+    fn of(position: &Position, left: CardSet, seat: Seat) -> Hands
+        ensures own { result.own ≡ hand_of
+            (record { position = position.now; left = left }) seat }
+        ensures next { result.next ≡ hand_of
+            (record { position = position.now; left = left }) (seat_after 1 seat) }
+        ensures partner { result.partner ≡ hand_of
+            (record { position = position.now; left = left }) (seat_after 2 seat) }
+        ensures last { result.last ≡ hand_of
+            (record { position = position.now; left = left }) (seat_after 3 seat) }
+    {
+        let next = seat.next();
+        let partner = next.next();
+        Hands {
+            own: position.hand(seat, left),
+            next: position.hand(next, left),
+            partner: position.hand(partner, left),
+            last: position.hand(partner.next(), left),
+        }
+    }
+
+    // The sure cards of a suit.
+    fn sure_of(&self, ruffs: &Ruffs, suit: Suit) -> u8
+        ensures { result ≡ min
+            (taken_from ruffs.now.next (of_suit suit self.now.own) (of_suit suit self.now.next))
+            (min (taken_from ruffs.now.partner (of_suit suit self.now.own)
+            (of_suit suit self.now.partner))
+            (taken_from ruffs.now.last (of_suit suit self.now.own) (of_suit suit self.now.last))) }
+    {
+        let own = self.own.of_suit(suit);
+        let next = safe_count(own, self.next.of_suit(suit), ruffs.next);
+        let partner = safe_count(own, self.partner.of_suit(suit), ruffs.partner);
+        let last = safe_count(own, self.last.of_suit(suit), ruffs.last);
+        next.min(partner.min(last))
+    }
+
+    // The sure trumps: what the hand on lead draws.
+    fn drawn(&self, trump: Trump) -> u8
+        ensures none { trump ≡ NoTrump → result ≡ 0 }
+        ensures some { (suit : Suit) → trump ≡ Suited suit → result
+            ≡ min (taken_from false (of_suit suit self.now.own) (of_suit suit self.now.next))
+            (min (taken_from false (of_suit suit self.now.own) (of_suit suit self.now.partner))
+            (taken_from false (of_suit suit self.now.own) (of_suit suit self.now.last))) }
+    {
+        match trump {
+            Trump::NoTrump => 0,
+            Trump::Suit(suit) => self.sure_of(&Ruffs::none(), suit),
+        }
+    }
+
+    // Which hands have a trump more than are drawn.
+    fn ruffs(&self, trump: Trump, drawn: u8) -> Ruffs
+        ensures next { result.next ≡ nat_lt drawn (length (trumps_of trump self.now.next)) }
+        ensures partner { result.partner
+            ≡ nat_lt drawn (length (trumps_of trump self.now.partner)) }
+        ensures last { result.last ≡ nat_lt drawn (length (trumps_of trump self.now.last)) }
+    {
+        Ruffs {
+            next: drawn < trumps(self.next, trump),
+            partner: drawn < trumps(self.partner, trump),
+            last: drawn < trumps(self.last, trump),
+        }
+    }
+}
+
+// How many trumps a hand has.
+#[tactic(auto, using(crate::proofs::Looking::no_trumps))]
+fn trumps(hand: CardSet, trump: Trump) -> u8
+    ensures { result ≡ length (trumps_of trump hand) }
+{
+    match trump {
+        Trump::NoTrump => 0,
+        Trump::Suit(suit) => hand.of_suit(suit).count(),
+    }
+}
+
+// Sure cards, suit by suit.
+#[derive(Clone, Copy)]
+struct Counts {
+    spades: u8,
+    hearts: u8,
+    diamonds: u8,
+    clubs: u8,
+}
+
+impl Counts {
+    // The sure cards of the four suits together.
+    fn total(&self) -> u8
+        requires { self.now.spades + self.now.hearts + self.now.diamonds + self.now.clubs ≤ 52 }
+        ensures { result
+            ≡ self.now.spades + self.now.hearts + self.now.diamonds + self.now.clubs }
+    {
+        self.spades + self.hearts + self.diamonds + self.clubs
+    }
+}
+
+// The sure cards of the hand on lead.
+fn own_counts(position: &Position, left: CardSet) -> Counts
+    requires { FitsLeft position.now left }
+    ensures spades { result.spades
+        ≡ sure_of (record { position = position.now; left = left }) Spades }
+    ensures hearts { result.hearts
+        ≡ sure_of (record { position = position.now; left = left }) Hearts }
+    ensures diamonds { result.diamonds
+        ≡ sure_of (record { position = position.now; left = left }) Diamonds }
+    ensures clubs { result.clubs
+        ≡ sure_of (record { position = position.now; left = left }) Clubs }
+    ensures few { own_count (record { position = position.now; left = left }) ≤ 52 }
+    ensures state { IsState (record { position = position.now; left = left }) }
+{
+    let hands = Hands::of(position, left, position.to_play());
+    let trump = position.trump;
+    let drawn = hands.drawn(trump);
+    let ruffs = hands.ruffs(trump, drawn);
+    Counts {
+        spades: hands.sure_of(&ruffs.in_suit(trump, Suit::Spades), Suit::Spades),
+        hearts: hands.sure_of(&ruffs.in_suit(trump, Suit::Hearts), Suit::Hearts),
+        diamonds: hands.sure_of(&ruffs.in_suit(trump, Suit::Diamonds), Suit::Diamonds),
+        clubs: hands.sure_of(&ruffs.in_suit(trump, Suit::Clubs), Suit::Clubs),
+    }
+}
+// At no trump, those of its partner.
+fn partners_counts(position: &Position, left: CardSet) -> Counts
+    requires { FitsLeft position.now left }
+    ensures spades { result.spades
+        ≡ partners_of (record { position = position.now; left = left }) Spades }
+    ensures hearts { result.hearts
+        ≡ partners_of (record { position = position.now; left = left }) Hearts }
+    ensures diamonds { result.diamonds
+        ≡ partners_of (record { position = position.now; left = left }) Diamonds }
+    ensures clubs { result.clubs
+        ≡ partners_of (record { position = position.now; left = left }) Clubs }
+    ensures few { partners_count (record { position = position.now; left = left }) ≤ 52 }
+{
+    let hands = Hands::of(position, left, position.to_play().next().next());
+    let none = Ruffs::none();
+    Counts {
+        spades: hands.sure_of(&none, Suit::Spades),
+        hearts: hands.sure_of(&none, Suit::Hearts),
+        diamonds: hands.sure_of(&none, Suit::Diamonds),
+        clubs: hands.sure_of(&none, Suit::Clubs),
+    }
+}
+
+// Whether a hand has a card of a suit in which its partner has this many sure cards.
+fn leads_over(hand: CardSet, suit: Suit, sure: u8) -> bool
+    ensures { result ≡ (nat_lt 0 sure && nat_lt 0 (length (of_suit suit hand))) }
+{
+    sure > 0 && hand.of_suit(suit).count() > 0
+}
+
+// Whether the hand on lead can lead over to a sure card of its partner.
+fn can_lead_over(position: &Position, left: CardSet, partners: &Counts) -> bool
+    ensures { result ≡ ((nat_lt 0 partners.now.spades && nat_lt 0 (length (of_suit Spades
+        (hand_of (record { position = position.now; left = left }) (to_play position.now)))))
+        || (nat_lt 0 partners.now.hearts && nat_lt 0 (length (of_suit Hearts
+        (hand_of (record { position = position.now; left = left }) (to_play position.now)))))
+        || (nat_lt 0 partners.now.diamonds && nat_lt 0 (length (of_suit Diamonds
+        (hand_of (record { position = position.now; left = left }) (to_play position.now)))))
+        || (nat_lt 0 partners.now.clubs && nat_lt 0 (length (of_suit Clubs
+        (hand_of (record { position = position.now; left = left }) (to_play position.now)))))) }
+{
+    let hand = position.hand(position.to_play(), left);
+    leads_over(hand, Suit::Spades, partners.spades)
+        || leads_over(hand, Suit::Hearts, partners.hearts)
+        || leads_over(hand, Suit::Diamonds, partners.diamonds)
+        || leads_over(hand, Suit::Clubs, partners.clubs)
+}
+
+// At no trump, how many cards of both hands are sure, where this many of the hand on lead are.
+fn joint_sure(position: &Position, left: CardSet, own: u8) -> u8
+    requires fits { FitsLeft position.now left }
+    requires own { own ≡ own_count (record { position = position.now; left = left }) }
+    requires few { own ≤ 52 }
+    ensures { result ≡ joint_count (record { position = position.now; left = left }) }
+{
+    let partners = partners_counts(position, left);
+    if can_lead_over(position, left, &partners) {
+        position.tricks_left().min(own + partners.total())
+    } else {
+        own
+    }
+}
+
+// How many tricks are sure.
+fn count_sure(position: &Position, left: CardSet) -> u8
+    requires { FitsLeft position.now left }
+    ensures value { result ≡ sure_count (record { position = position.now; left = left }) }
+    ensures state { IsState (record { position = position.now; left = left }) }
+{
+    let own = own_counts(position, left).total();
+    match position.trump {
+        Trump::NoTrump => joint_sure(position, left, own),
+        Trump::Suit(_) => own,
+    }
+}
+
+/// How many tricks the side on lead takes whatever the others do: one with each sure card of the
+/// hand on lead and, at no trump, of its partner, where a card leads over to them.
+///
+/// It looks at the cards of each suit alone, and takes no memory.
+pub fn sure_tricks(position: &Position, left: CardSet) -> u8
+    requires fits { FitsLeft position.now left }
+    requires between { position.now.trick.cards ≡ [] }
+    ensures value { result ≡ sure_count (record { position = position.now; left = left }) }
+    ensures ours { is_declarers (to_play position.now) ≡ true → (need : ℕ) → need ≤ 13
+        → need ≤ result
+        → makes (record { position = record position.now { need = need }; left = left }) ≡ true }
+    ensures theirs { is_declarers (to_play position.now) ≡ false → (need : ℕ) → need ≤ 13
+        → tricks_left position.now < need + result
+        → makes (record { position = record position.now { need = need }; left = left }) ≡ false }
+{
+    count_sure(position, left)
+}

@@ -1,0 +1,46 @@
+//! What sure cards come to. Each function does nothing: its contract is the law, proved from the
+//! definitions alone.
+ghost use Rattle.std.specs.Prelude.{◌≡◌, ℕ, ◌+◌, ◌<◌, ◌≤◌, true, false, List, [], length, min};
+ghost use Rattle.trick_rules.specs.Positions.{State, seat_after, to_play, tricks_left, IsState};
+ghost use Rattle.trick_rules.specs.Play.{hand_of, is_declarers, makes};
+ghost use Rattle.trick_rules.specs.declared.trump.Trump.TheVariants.{NoTrump};
+ghost use Rattle.card_sets.specs.Cards.{suit_of};
+ghost use Rattle.card_sets.specs.SetWords.{has_card};
+ghost use Rattle.sure_tricks.specs.Sure.{AreSure};
+
+/// The side on lead takes a trick with each of its sure cards: declarer's side makes a need of no
+/// more tricks, and against the defenders it fails with a need that leaves them fewer.
+#[tactic(auto, using(crate::proofs::Cash::our_sure_cards_win, crate::proofs::Cash::their_sure_cards_win))]
+pub fn sure_cards_win()
+    ensures ours { (s : State) (sure : List ℕ) → IsState s → s.position.trick.cards ≡ []
+        → AreSure s (to_play s.position) sure → is_declarers (to_play s.position) ≡ true
+        → s.position.need ≤ length sure → makes s ≡ true }
+    ensures theirs { (s : State) (sure : List ℕ) → IsState s → s.position.trick.cards ≡ []
+        → AreSure s (to_play s.position) sure → is_declarers (to_play s.position) ≡ false
+        → tricks_left s.position < s.position.need + length sure → makes s ≡ false }
+{}
+
+/// At no trump its partner's sure cards take a trick each too, as far as there are tricks, where
+/// the hand on lead has a card of a suit in which its partner has one.
+#[tactic(auto, using(crate::proofs::Together::our_cards_win_together, crate::proofs::Together::their_cards_win_together))]
+pub fn sure_cards_win_together()
+    ensures ours { (s : State) (sure partners : List ℕ) (link card : ℕ) → IsState s
+        → s.position.trick.cards ≡ [] → s.position.trump ≡ NoTrump
+        → AreSure s (to_play s.position) sure
+        → AreSure s (seat_after 2 (to_play s.position)) partners
+        → has_card (hand_of s (to_play s.position)) link ≡ true → has_card partners card ≡ true
+        → suit_of card ≡ suit_of link
+        → is_declarers (to_play s.position) ≡ true
+        → s.position.need ≤ min (tricks_left s.position) (length sure + length partners)
+        → makes s ≡ true }
+    ensures theirs { (s : State) (sure partners : List ℕ) (link card : ℕ) → IsState s
+        → s.position.trick.cards ≡ [] → s.position.trump ≡ NoTrump
+        → AreSure s (to_play s.position) sure
+        → AreSure s (seat_after 2 (to_play s.position)) partners
+        → has_card (hand_of s (to_play s.position)) link ≡ true → has_card partners card ≡ true
+        → suit_of card ≡ suit_of link
+        → is_declarers (to_play s.position) ≡ false
+        → tricks_left s.position
+        < s.position.need + min (tricks_left s.position) (length sure + length partners)
+        → makes s ≡ false }
+{}

@@ -1,0 +1,9 @@
+//! Tricks that the side on lead takes whatever the others do, told by a look at the cards.
+//! It stands on the rules of play.
+//! What is told is proved to hold of double dummy.
+#![tactic(auto)]
+
+mod count;
+pub mod laws;
+
+pub use count::sure_tricks;
