@@ -1,9 +1,11 @@
 #!/usr/bin/env python3
-"""Times double dummy, the solver and plain minimax, beside the same work in C++, plain and with a memo, and beside Bo Haglund's DDS
-where its library is there (Debian's libdds-dev), all on the same random endings in one run.
+"""Times double dummy beside the same work in C++, plain and with a memo, and beside Bo Haglund's DDS where its library is there
+(Debian's libdds-dev), all on the same random endings in one run. First it has them agree on many endings.
 
-Usage: bench/double_dummy.py [SECONDS], the least processor time of one measurement (default 0.5). It builds the programs first."""
+Usage: bench/double_dummy.py [SECONDS], the least processor time of one measurement (default 0.5). It builds the programs first.
+DDS's library takes its time to start; each time is without that of a run on no ending."""
 import pathlib
+import statistics
 import subprocess
 import sys
 
@@ -13,6 +15,7 @@ HERE = pathlib.Path(__file__).resolve().parent
 CRATE = HERE.parent / "crates" / "bench_double_dummy"
 OURS = CRATE / "out" / "bench_double_dummy"
 THEIRS = HERE / "build" / "double_dummy_baseline"
+STRAINS = ("notrump", "suit")
 PLAIN_TRICKS = 6  # plain minimax takes too long beyond
 
 
@@ -27,33 +30,101 @@ def build():
     return dds
 
 
+def ours(question, tricks, strain):
+    return lambda first, endings: [OURS, tricks, first, endings, question, strain]
+
+
+def theirs(who, tricks, strain):
+    return lambda first, endings: [THEIRS, who, tricks, first, endings, strain]
+
+
+def seconds(program, first, endings):
+    """The processor time of a program for so many endings, and its answers."""
+    taken, answers = processor_seconds(program(first, endings))
+    return max(taken - min(processor_seconds(program(0, 0))[0] for _ in range(2)), 1e-5), answers
+
+
+def same(one, other, what):
+    if one != other:
+        sys.exit("the answers differ: %s" % what)
+
+
+def agree(tricks, endings, one, other):
+    same(processor_seconds(one(0, endings))[1], processor_seconds(other(0, endings))[1], "%d tricks, %d endings" % (tricks, endings))
+
+
+def agreement(dds):
+    """The solver beside plain minimax on 10,000 endings, and beside DDS on 1,000 longer ones."""
+    for tricks in (3, 4, 5):
+        agree(tricks, 3334, ours("need", tricks, "any"), ours("plain", tricks, "any"))
+    print("10,002 endings of 3 to 5 tricks: the solver and plain minimax agree", flush=True)
+    for tricks in range(6, 14) if dds else ():
+        agree(tricks, 63, ours("need", tricks, "suit"), theirs("dds", tricks, "suit"))
+        agree(tricks, 63, ours("need", tricks, "notrump"), theirs("dds", tricks, "notrump"))
+    if dds:
+        print("1,008 endings of 6 to 13 tricks: the solver and DDS agree", flush=True)
+
+
 def each(program, tricks, strain, least, answers):
     """Microseconds an ending, of a program that takes the number of endings; its answers go to `answers` by that number."""
     endings = 50
     while True:
-        taken, answer = processor_seconds(program(endings))
-        if answers.setdefault((tricks, strain, endings), answer) != answer:
-            sys.exit("the answers differ for %d tricks, %s, %d endings" % (tricks, strain, endings))
+        taken, answer = processor_seconds(program(0, endings))
+        same(answers.setdefault((tricks, strain, endings), answer), answer, "%d tricks, %s, %d endings" % (tricks, strain, endings))
         if taken >= least:
-            return 1e6 * min([taken] + [processor_seconds(program(endings))[0] for _ in range(2)]) / endings
+            return 1e6 * min([taken] + [processor_seconds(program(0, endings))[0] for _ in range(2)]) / endings
         endings *= 2
+
+
+def endings_table(least, dds):
+    answers = {}
+    print("microseconds an ending")
+    print("tricks   strain      solver   C++ memo        DDS      plain  C++ plain   solver to memo   solver to DDS")
+    for tricks in (4, 5, 6, 7, 8):
+        for strain in STRAINS:
+            programs = [ours("need", tricks, strain), theirs("memo", tricks, strain)]
+            programs.append(theirs("dds", tricks, strain) if dds else None)
+            short = tricks <= PLAIN_TRICKS
+            programs.append(ours("plain", tricks, strain) if short else None)
+            programs.append(theirs("plain", tricks, strain) if short else None)
+            times = [each(program, tricks, strain, least, answers) if program else float("nan") for program in programs]
+            print("%6d  %7s" % (tricks, strain) + "%11.1f" * 5 % tuple(times) + "%17.2f%16.2f" % (times[0] / times[1], times[0] / times[2]), flush=True)
+
+
+def beside_dds(question, tricks, strain, endings):
+    """The solver's seconds for each of so many endings, and DDS's."""
+    pairs = []
+    for place in range(endings):
+        mine, my_answer = seconds(ours(question, tricks, strain), place, 1)
+        dds, answer = seconds(theirs(question, tricks, strain), place, 1)
+        same(my_answer, answer, "%s, %d tricks, %s, ending %d" % (question, tricks, strain, place))
+        pairs.append((mine, dds))
+    return pairs
+
+
+def report(question, tricks, strain, endings):
+    pairs = beside_dds(question, tricks, strain, endings)
+    mine, dds = [sum(column) for column in zip(*pairs)]
+    median = statistics.median(one / other for one, other in pairs)
+    print("%6d  %7s  %7d%15.4f%15.2f%15.2f" % (tricks, strain, endings, max(one for one, _ in pairs), median, mine / dds), flush=True)
 
 
 def main():
     least = float(sys.argv[1]) if len(sys.argv) > 1 else 0.5
     dds = build()
-    answers = {}
-    print("microseconds an ending")
-    print("tricks   strain      solver   C++ memo        DDS      plain  C++ plain   solver to memo   solver to DDS")
-    for tricks in (4, 5, 6, 7, 8):
-        for strain in ("notrump", "suit"):
-            programs = [lambda n: [OURS, tricks, n, strain], lambda n: [THEIRS, "memo", tricks, n, strain]]
-            programs.append((lambda n: [THEIRS, "dds", tricks, n, strain]) if dds else None)
-            short = tricks <= PLAIN_TRICKS
-            programs.append((lambda n: [OURS, tricks, n, "plain", strain]) if short else None)
-            programs.append((lambda n: [THEIRS, "plain", tricks, n, strain]) if short else None)
-            times = [each(program, tricks, strain, least, answers) if program else float("nan") for program in programs]
-            print("%6d  %7s" % (tricks, strain) + "%11.1f" * 5 % tuple(times) + "%17.2f%16.2f" % (times[0] / times[1], times[0] / times[2]), flush=True)
+    agreement(dds)
+    endings_table(least, dds)
+    if not dds:
+        return
+    head = "tricks   strain  endings  most seconds  median to DDS  sum to DDS"
+    print("all cards in 20 layouts, by one solver\n" + head)
+    for tricks in (5, 6, 7, 8, 9, 10):
+        for strain in STRAINS:
+            report("sampling", tricks, strain, 20)
+    print("the tricks of a deal\n" + head)
+    for tricks in (11, 12, 13):
+        for strain in STRAINS:
+            report("tricks", tricks, strain, 10)
 
 
 if __name__ == "__main__":

@@ -1,5 +1,6 @@
 // The work of the crate bench_double_dummy in C++: double dummy on the same random endings.
-// usage: double_dummy_baseline plain|memo|dds TRICKS ENDINGS [notrump|suit]
+// usage: double_dummy_baseline plain|memo|dds|tricks|sampling TRICKS FIRST ENDINGS [notrump|suit]: the endings from the one with the number FIRST on
+// tricks and sampling ask DDS: for the tricks of declarer's side, and for all cards in each of 20 layouts
 // dds asks Bo Haglund's double dummy solver (Debian's libdds-dev): build with -DWITH_DDS and -ldds
 #include <cstdint>
 #include <cstdio>
@@ -8,6 +9,8 @@
 #include <unordered_map>
 #ifdef WITH_DDS
 #include <dds/dll.h>
+#else
+struct futureTricks { int cards, equals[13], score[13]; };
 #endif
 using u64 = uint64_t;
 static u64 state = 20191118;
@@ -54,45 +57,78 @@ static bool makes(const Pos &p) {
     if (use_memo && p.n == 0) memo.emplace(key, answer);
     return answer;
 }
-static bool makes_dds(const Pos &p) {
 #ifdef WITH_DDS
+static deal dds_deal(const Pos &p) {
     deal d{};
     d.trump = p.trump;
     d.first = p.leader;
     for (int seat = 0; seat < 4; seat++)
         for (int suit = 0; suit < 4; suit++) d.remainCards[seat][suit] = (unsigned)((p.hand[seat] >> (13 * suit)) & 0x1fff) << 2;
+    return d;
+}
+static futureTricks ask(const Pos &p, int target, int solutions) {
     futureTricks found;
-    if (SolveBoard(d, p.need, 1, 1, &found, 0) != 1) exit(3);
-    return found.cards > 0 && found.score[0] >= p.need;
+    if (SolveBoard(dds_deal(p), target, solutions, 1, &found, 0) != 1) exit(3);
+    return found;
+}
 #else
-    (void)p;
-    exit(2);
+static futureTricks ask(const Pos &, int, int) { exit(2); }
 #endif
+static bool makes_dds(const Pos &p) {
+    futureTricks found = ask(p, p.need, 1);
+    return found.cards > 0 && found.score[0] >= p.need;
+}
+static void random_hand(u64 &hand, u64 &used, int tricks) {
+    while (__builtin_popcountll(hand) < tricks) {
+        u64 bit = 1ull << draw(52);
+        if (!(used & bit)) used |= bit, hand |= bit;
+    }
+}
+// how many of declarer's cards keep the tricks of the first of 20 layouts, summed over the layouts
+static long sampled(const Pos &first, int tricks) {
+    u64 unseen = first.hand[1] | first.hand[3];
+    long made = 0;
+    int need = 0;
+    for (int layout = 0; layout < 20; layout++) {
+        Pos p = first;
+        if (layout) {
+            u64 used = ~unseen;
+            p.hand[1] = 0;
+            random_hand(p.hand[1], used, tricks);
+            p.hand[3] = unseen & ~p.hand[1];
+        }
+        futureTricks found = ask(p, -1, 3);
+        if (!layout) need = found.score[0] > 1 ? found.score[0] : 1;
+        for (int i = 0; i < found.cards; i++)
+            if (found.score[i] >= need) made += 1 + __builtin_popcount(found.equals[i]);
+    }
+    return made;
 }
 int main(int argc, char **argv) {
-    if (argc != 4 && argc != 5) return 2;
+    if (argc != 5 && argc != 6) return 2;
     use_memo = !strcmp(argv[1], "memo");
     bool use_dds = !strcmp(argv[1], "dds");
-    const char *strain = argc == 5 ? argv[4] : "";
+    const char *strain = argc == 6 ? argv[5] : "";
 #ifdef WITH_DDS
     SetMaxThreads(1);
 #endif
     int tricks = atoi(argv[2]);
-    long endings = atol(argv[3]), made = 0;
-    for (long i = 0; i < endings; i++) {
+    long first = atol(argv[3]), endings = atol(argv[4]);
+    u64 answers = 0;
+    for (long i = 0; i < first + endings; i++) {
         Pos p{};
         u64 used = 0;
-        for (int s = 0; s < 4; s++)
-            while (__builtin_popcountll(p.hand[s]) < tricks) {
-                u64 bit = 1ull << draw(52);
-                if (!(used & bit)) used |= bit, p.hand[s] |= bit;
-            }
+        for (u64 &hand : p.hand) random_hand(hand, used, tricks);
         p.trump = draw(5);
         if (!strcmp(strain, "notrump")) p.trump = 4;
         if (!strcmp(strain, "suit") && p.trump == 4) p.trump = 0;
         p.need = 1 + draw(tricks);
+        if (i < first) continue;
         memo.clear();
-        made += use_dds ? makes_dds(p) : makes(p);
+        long answer = !strcmp(argv[1], "sampling") ? sampled(p, tricks)
+            : !strcmp(argv[1], "tricks") ? ask(p, -1, 1).score[0]
+            : use_dds ? makes_dds(p) : makes(p);
+        answers = answers * 31 + (u64)answer;
     }
-    printf("%ld\n", made);
+    printf("%llu\n", (unsigned long long)answers);
 }

@@ -68,9 +68,13 @@ def lay_out(case, room):
             file.write(b"\n" * (int(size) - file.tell()))
 
 
-def run(program, case, seconds, env=None):
-    """What the program wrote to standard output and standard error, and its exit status."""
-    words = bytes_of(case, "args").split(b"\n")[:-1]
+def words_of(case):
+    return bytes_of(case, "args").split(b"\n")[:-1]
+
+
+def run(program, case, seconds, env=None, more=()):
+    """What the program wrote to standard output and standard error, and its exit status, with more words at the end."""
+    words = words_of(case) + list(more)
     to = bytes_of(case, "stdout_to").decode().strip()
     with tempfile.TemporaryDirectory() as room:
         lay_out(case, room)

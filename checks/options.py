@@ -1,0 +1,81 @@
+#!/usr/bin/env python3
+"""options.py [--jobs N] [--seconds N] [--only PATTERN] [PROGRAM]
+
+Runs a program on each case in cases/ whose job searches, with each choice of the options on how to search, and compares
+the output wherever the case expects an output and the run is done. Where no program is named it is ./alphamu, as for
+cases.py. Prints the runs that wrote something else, or that ended otherwise than done or spent. The exit status is 0
+only where there is none, and some run of each choice was done.
+"""
+import argparse
+import fnmatch
+import os
+import sys
+from concurrent.futures import ThreadPoolExecutor
+
+from cases import LAUNCHER, expected, lacks_program, names_of_cases, run, words_of
+
+CHOICES = [
+    [b"--no-cuts"],
+    [b"--no-table"],
+    [b"--no-cuts", b"--no-table"],
+    [b"--shards", b"1", b"--room", b"1"],
+]
+SEARCHES = (b"solve", b"card", b"made")
+DONE, SPENT = 0, 7
+
+
+def job_of(words):
+    """The job that the words ask for."""
+    for at, word in enumerate(words):
+        if word.startswith(b"--job="):
+            return word[len(b"--job="):]
+        if word == b"--job" and at + 1 < len(words):
+            return words[at + 1]
+    return None
+
+
+def is_fit(case, choice):
+    """Whether the case is done, searches, and has none of the options yet."""
+    words = words_of(case)
+    given = {word.split(b"=")[0] for word in words}
+    return expected(case)[2] == DONE and job_of(words) in SEARCHES and not given & set(choice)
+
+
+def judge(program, case, choice, seconds):
+    """Whether the run is done, and what is wrong with it, if anything."""
+    out, _, status = run(program, case, seconds, more=choice)
+    named = f"{case} with {b' '.join(choice).decode()}"
+    if status not in (DONE, SPENT):
+        return False, f"{named}: exit status {status}"
+    if status == DONE and out != expected(case)[0]:
+        return True, f"{named}: other bytes"
+    return status == DONE, None
+
+
+def main():
+    parser = argparse.ArgumentParser(description="Runs alphamu's searches with each option.", allow_abbrev=False)
+    parser.add_argument("program", nargs="?", default=LAUNCHER)
+    parser.add_argument("--jobs", type=int, default=len(os.sched_getaffinity(0)))
+    parser.add_argument("--seconds", type=float, default=300)
+    parser.add_argument("--only", default="*", metavar="PATTERN")
+    given = parser.parse_args()
+    lacking = lacks_program() if given.program == LAUNCHER else None
+    if lacking:
+        print(f"options: {lacking}")
+        return 1
+    program = os.path.abspath(given.program)
+    names = fnmatch.filter(names_of_cases(), given.only)
+    runs = [(case, choice) for choice in CHOICES for case in names if is_fit(case, choice)]
+    with ThreadPoolExecutor(given.jobs) as pool:
+        told = list(pool.map(lambda one: judge(program, *one, given.seconds), runs))
+    wrong = [line for _, line in told if line]
+    done = {tuple(choice) for (_, choice), (is_done, _) in zip(runs, told) if is_done}
+    missing = [b" ".join(choice).decode() for choice in CHOICES if tuple(choice) not in done]
+    for line in wrong + [f"no run is done with {choice}" for choice in missing]:
+        print(line)
+    print(f"options: {len(runs)} runs, {sum(is_done for is_done, _ in told)} done, {len(wrong)} wrong")
+    return 0 if not wrong and not missing else 1
+
+
+if __name__ == "__main__":
+    sys.exit(main())

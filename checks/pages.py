@@ -1,0 +1,65 @@
+#!/usr/bin/env python3
+"""Runs every command that the pages for users show, and compares what it prints with what the page shows.
+
+A command is a line of README.md, docs/USING.md or a lesson under examples/ that begins with four blanks and `./alphamu`,
+`examples/` or `grep`. It is run by the shell at the top of the repository. Where a block in fences comes after it, before the next
+command and before the next heading, its lines must be what the command prints, standard output and then standard error; a last
+line `..` stands for any further lines. Where none comes, it must end with status 0. The commands of one page run in their order, since some write files in /tmp for later ones.
+
+The proved program must be there and current."""
+import pathlib
+import re
+import subprocess
+import sys
+
+TOP = pathlib.Path(__file__).resolve().parent.parent
+PAGES = [TOP / "README.md", TOP / "docs" / "USING.md", *sorted(TOP.glob("examples/*/README.md"))]
+COMMAND = re.compile(r"^    ((?:\./alphamu|examples/|grep )\S*.*)$")
+
+
+def commands(text):
+    """Each command of a page with its line and the lines that it must print, or none."""
+    found, fence, shown = [], None, False
+    for number, line in enumerate(text.splitlines(), 1):
+        if fence is not None:
+            if line.startswith("```"):
+                if found and not shown:
+                    found[-1][2], shown = fence, True
+                fence = None
+            else:
+                fence.append(line)
+        elif line.startswith("```"):
+            fence = []
+        elif line.startswith("#"):
+            shown = True
+        elif match := COMMAND.match(line):
+            found.append([number, match[1], None])
+            shown = False
+    return found
+
+
+def agrees(expected, printed):
+    if expected is None:
+        return True
+    if expected and expected[-1] == "..":
+        return printed[:len(expected) - 1] == expected[:-1]
+    return printed == expected
+
+
+def main():
+    if subprocess.run([TOP / "checks" / "program_state"]).returncode != 0:
+        sys.exit("pages: the proved program isn't there or isn't current: run ./build")
+    run = differ = 0
+    for page in PAGES:
+        for number, command, expected in commands(page.read_text()):
+            done = subprocess.run(["bash", "-c", command], cwd=TOP, capture_output=True, text=True, stdin=subprocess.DEVNULL)
+            run += 1
+            if (done.returncode and expected is None) or not agrees(expected, (done.stdout + done.stderr).splitlines()):
+                differ += 1
+                print(f"{page.relative_to(TOP)}:{number}: {command}\n{done.stdout}{done.stderr}")
+    print(f"pages: {run} commands run, {differ} differ")
+    sys.exit(1 if differ or not run else 0)
+
+
+if __name__ == "__main__":
+    main()
