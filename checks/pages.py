@@ -1,20 +1,22 @@
 #!/usr/bin/env python3
 """Runs every command that the pages for users show, and compares what it prints with what the page shows.
 
-A command is a line of README.md, docs/USING.md or a lesson under examples/ that begins with four blanks and `./alphamu`,
-`examples/` or `grep`. It is run by the shell at the top of the repository. Where a block in fences comes after it, before the next
+A command is a line of README.md, docs/USING.md, docs/PROGRAMS.md or a lesson under examples/ that begins with four blanks and
+`./alphamu`, `examples/`, `grep`, `awk`, `timeout`, `cat` or `/usr/games/dealer`. It is run by the shell at the top of the
+repository; one of a program that isn't installed is counted as left out. Where a block in fences comes after it, before the next
 command and before the next heading, its lines must be what the command prints, standard output and then standard error; a last
 line `..` stands for any further lines. Where none comes, it must end with status 0. The commands of one page run in their order, since some write files in /tmp for later ones.
 
 The proved program must be there and current."""
 import pathlib
 import re
+import shutil
 import subprocess
 import sys
 
 TOP = pathlib.Path(__file__).resolve().parent.parent
-PAGES = [TOP / "README.md", TOP / "docs" / "USING.md", *sorted(TOP.glob("examples/*/README.md"))]
-COMMAND = re.compile(r"^    ((?:\./alphamu|examples/|grep )\S*.*)$")
+PAGES = [TOP / "README.md", TOP / "docs" / "USING.md", TOP / "docs" / "PROGRAMS.md", *sorted(TOP.glob("examples/*/README.md"))]
+COMMAND = re.compile(r"^    ((?:\./alphamu|examples/|(?:grep|awk|timeout|cat|/usr/games/dealer) )\S*.*)$")
 
 
 def commands(text):
@@ -38,6 +40,10 @@ def commands(text):
     return found
 
 
+def is_there(program):
+    return (TOP / program).exists() if "/" in program else shutil.which(program) is not None
+
+
 def agrees(expected, printed):
     if expected is None:
         return True
@@ -49,15 +55,18 @@ def agrees(expected, printed):
 def main():
     if subprocess.run([TOP / "checks" / "program_state"]).returncode != 0:
         sys.exit("pages: the proved program isn't there or isn't current: run ./build")
-    run = differ = 0
+    run = differ = left_out = 0
     for page in PAGES:
         for number, command, expected in commands(page.read_text()):
+            if not is_there(command.split()[0]):
+                left_out += 1
+                continue
             done = subprocess.run(["bash", "-c", command], cwd=TOP, capture_output=True, text=True, stdin=subprocess.DEVNULL)
             run += 1
             if (done.returncode and expected is None) or not agrees(expected, (done.stdout + done.stderr).splitlines()):
                 differ += 1
                 print(f"{page.relative_to(TOP)}:{number}: {command}\n{done.stdout}{done.stderr}")
-    print(f"pages: {run} commands run, {differ} differ")
+    print(f"pages: {run} commands run, {differ} differ, {left_out} left out")
     sys.exit(1 if differ or not run else 0)
 
 
