@@ -21,7 +21,7 @@ pub followed_states : (rs : Replies ℕ) (s : State) → CanFollowEach rs s → 
 followed_states rs s f = state_of f.node s f.sound f.among
 
 -- after a card that is legal in this layout
-follow_on : (n : NodeValue) (moves : ℕ) (card : ℕ) (rest : Plan ℕ) (s : State) → IsNode n → Contains (states n) s → Contains (choices n) card → has_card (legal_in s) card ≡ true
+pub follow_on : (n : NodeValue) (moves : ℕ) (card : ℕ) (rest : Plan ℕ) (s : State) → IsNode n → Contains (states n) s → Contains (choices n) card → has_card (legal_in s) card ≡ true
     → Fits bridge rest (child n card) moves → CanFollow rest (after s card)
 follow_on n moves card rest s sound among choice legal fits = record {
   node = child n card;

@@ -1,0 +1,2 @@
+pub mod Defences
+pub mod PlayOuts
