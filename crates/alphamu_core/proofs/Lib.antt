@@ -1,5 +1,6 @@
 pub mod Judging
 pub mod Bounds
+pub mod OneLayout
 pub mod Standing
 pub mod Enough
 pub mod Taken

@@ -78,7 +78,8 @@ fn known<S: FrontStore>(
     }
 }
 
-// By double dummy at the node itself: no strategy wins a layout that can't be made.
+// By double dummy at the node itself: no strategy wins a layout that can't be made. Where there is
+// one layout, nothing is hidden, and its result is the front.
 fn by_double_dummy(
     alloc: Global,
     solver: &mut Solver,
@@ -100,6 +101,9 @@ fn by_double_dummy(
     };
     let front = single(alloc, made)?;
     if made.count() == 0 {
+        return Ok(Limit::Settled(Found::Exact(front)));
+    }
+    if node.width() == 1 {
         return Ok(Limit::Settled(Found::Exact(front)));
     }
     Ok(Limit::Upper(Some(front)))

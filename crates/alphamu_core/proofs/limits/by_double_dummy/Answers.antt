@@ -1,6 +1,7 @@
 use Rattle.std.proofs.Common.{◌∙◌, Option, is_some, sym, ap}
 use Rattle.win_vectors.specs.Fronts.{Vector}
 use Rattle.alphamu_core.proofs.Bounds.{below_results, front_results, front_lost, upper_results, bounds, is_on}
+use Rattle.alphamu_core.proofs.OneLayout.{front_one}
 use Rattle.alphamu_core.proofs.limits.by_double_dummy.Goals as goal
 
 pub returns-in_default-clause-limit : goal.returns-in_default-clause-limit
@@ -13,6 +14,10 @@ returns-in_default-clause-limit c =
 pub returns-then-count-eq0-clause-limit : goal.returns-then-count-eq0-clause-limit
 returns-then-count-eq0-clause-limit c =
     front_lost c.args.node.now c.results.ensures.a_node c.in_ok-front.front c.args.moves c.in-Some.made c.in-Some.ensures.results c.in_ok-front.ensures.vectors c.in_ok-front.ensures.width (sym c.count.ensures ∙ c.if-count-eq0.true)
+
+pub returns-then-width-eq1-clause-limit : goal.returns-then-width-eq1-clause-limit
+returns-then-width-eq1-clause-limit c =
+    front_one c.args.node.now c.results.ensures.a_node c.in_ok-front.front c.args.moves c.in-Some.made c.in-Some.ensures.results c.in_ok-front.ensures.vectors c.in_ok-front.ensures.width (sym c.width.ensures.value ∙ c.if-width-eq1.true)
 
 pub returns-clause-limit : goal.returns-clause-limit
 returns-clause-limit c = (
