@@ -96,7 +96,11 @@ struct Case {
     line: &'static str,
 }
 
-const REPORTS: [Case; 9] = [
+// Thirty-two levels of a plan.
+const DEEP: &str =
+    "play S2\nplay S2\nplay S2\nplay S2\nplay S2\nplay S2\nplay S2\nplay S2\nplay S2\nplay S2\nplay S2\nplay S2\nplay S2\nplay S2\nplay S2\nplay S2\nplay S2\nplay S2\nplay S2\nplay S2\nplay S2\nplay S2\nplay S2\nplay S2\nplay S2\nplay S2\nplay S2\nplay S2\nplay S2\nplay S2\nplay S2\nplay S2\n";
+
+const REPORTS: [Case; 11] = [
     Case {
         parts: [
             HEAD,
@@ -146,6 +150,21 @@ const REPORTS: [Case; 9] = [
         parts: ["", "", "", ""],
         status: Status::BadReport(1, ReportKind::Version),
         line: "alphamu: report line 1: Version\n",
+    },
+    Case {
+        parts: ["alphamu report 1\n", "", "", ""],
+        status: Status::BadReport(2, ReportKind::Head),
+        line: "alphamu: report line 2: Head\n",
+    },
+    Case {
+        parts: [
+            "alphamu report 1\nmoves 1\nfront 1\nvector 1 count 1\nplay S2\n",
+            DEEP,
+            DEEP,
+            "",
+        ],
+        status: Status::BadReport(69, ReportKind::TooDeep),
+        line: "alphamu: report line 69: TooDeep\n",
     },
     Case {
         parts: ["alphamu report 1\n", FIRST, FIRST, LAST],

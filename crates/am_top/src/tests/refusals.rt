@@ -1,8 +1,9 @@
 //! What a refused run ends with and says: the words, each kind of damage to a file, and failing
 //! reads and writes.
-use super::{QUEEN, QUEEN_LAYOUTS, ran, shelf_of, words_of};
+use super::{QUEEN, QUEEN_LAYOUTS, QUEEN_REPORT, ran, shelf_of, words_of};
 use crate::{FileWord, PbnKind, Status, run};
 use am_outside::{MemorySink, OpenGate};
+use byte_text::Text;
 use card_sets::{Card, Rank, Suit};
 use layout_list::LayoutFault;
 use pbn_deal::{BoardFault, DealFault};
@@ -309,12 +310,19 @@ fn a_tree_too_large_names_its_root_card(rt: HostRuntime) -> Result<(), Fail> {
     Ok(())
 }
 
+const CHECK: &str = "--job check --deal deal --layouts layouts --report report";
+
 #[test]
-fn failing_reads_and_writes_end_a_run(rt: HostRuntime) -> Result<(), Fail> {
+fn failing_reads_end_a_run(rt: HostRuntime) -> Result<(), Fail> {
     let alloc = rt.alloc();
-    let words = words_of(alloc, SOLVE)?;
-    for (call, file) in [(1, FileWord::Deal), (2, FileWord::Layouts)] {
+    let words = words_of(alloc, CHECK)?;
+    for (call, file) in [
+        (1, FileWord::Deal),
+        (2, FileWord::Layouts),
+        (3, FileWord::Report),
+    ] {
         let mut shelf = shelf_of(alloc, QUEEN, QUEEN_LAYOUTS)?;
+        shelf.add("report", QUEEN_REPORT.as_bytes())?;
         shelf.fail_at(call)?;
         let mut out = MemorySink::new(alloc, 1000, 0)?;
         let mut err = MemorySink::new(alloc, 100, 0)?;
@@ -323,14 +331,42 @@ fn failing_reads_and_writes_end_a_run(rt: HostRuntime) -> Result<(), Fail> {
         );
         assert!(rt; status == Status::Unread(file) && out.bytes().is_empty());
     }
+    Ok(())
+}
+
+// Whether a run ends so with these bytes written to the output, and then a line where it isn't done.
+fn leaves<R: Threads + Sync>(
+    rt: &R,
+    alloc: Global,
+    mut out: MemorySink,
+    status: Status,
+    written: &[u8],
+) -> Result<bool, AllocError> {
+    let words = words_of(alloc, SOLVE)?;
     let mut shelf = shelf_of(alloc, QUEEN, QUEEN_LAYOUTS)?;
-    let mut out = MemorySink::new(alloc, 7, 2)?;
     let mut err = MemorySink::new(alloc, 100, 0)?;
-    let status = run(
-        &rt, alloc, &words, &mut shelf, &mut out, &mut err, &OpenGate,
-    );
-    assert!(rt; status == Status::Unwritten && out.bytes() == b"alphamu".as_slice());
-    assert!(rt; err.bytes() == b"alphamu: cannot write\n".as_slice());
+    let ended = run(rt, alloc, &words, &mut shelf, &mut out, &mut err, &OpenGate);
+    let line = if status == Status::Done {
+        ""
+    } else {
+        "alphamu: cannot write\n"
+    };
+    Ok(ended == status && out.bytes() == written && err.bytes() == line.as_bytes())
+}
+
+#[test]
+fn each_write_failing_in_turn(rt: HostRuntime) -> Result<(), Fail> {
+    let alloc = rt.alloc();
+    let mut written = Text::new(alloc);
+    let mut write = 1;
+    for piece in QUEEN_REPORT.as_bytes().chunks(7) {
+        let out = MemorySink::in_steps(alloc, 1000, 7, write)?;
+        assert!(rt; leaves(&rt, alloc, out, Status::Unwritten, written.bytes())?);
+        written.push(piece)?;
+        write = write.saturating_add(1);
+    }
+    let out = MemorySink::in_steps(alloc, 1000, 7, write)?;
+    assert!(rt; leaves(&rt, alloc, out, Status::Done, QUEEN_REPORT.as_bytes())?);
     Ok(())
 }
 
