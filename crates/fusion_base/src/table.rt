@@ -1,10 +1,10 @@
 //! The table of a root: a line for each card.
-ghost use Rattle.std.specs.Prelude.{◌≡◌, true, false, IfOk};
+ghost use Rattle.std.specs.Prelude.{◌≡◌, true, false, map, IfOk};
 ghost use Rattle.card_sets.specs.SetWords.{has_card};
-ghost use Rattle.trick_rules.specs.Positions.{to_play};
+ghost use Rattle.trick_rules.specs.Positions.{to_play, FitsLeft};
 ghost use Rattle.trick_rules.specs.Play.{is_declarers, is_over};
 ghost use Rattle.trick_rules.specs.Nodes.{choices};
-ghost use Rattle.fusion_base.specs.Sampling.{made_after as made_in, card_vectors};
+ghost use Rattle.fusion_base.specs.Sampling.{made_after, cards_that_make, card_vectors};
 
 use card_sets::{Card, CardSet};
 use dd_solver::Solver;
@@ -22,20 +22,59 @@ pub struct CardVector {
     pub vector: WinVector,
 }
 
-// In which layouts the contract is made after a card, by double dummy.
-fn made_after(alloc: Global, node: &Node, card: Card) -> WinVector
+// The cards after which the contract is made where Left holds these, by double dummy. One solver is
+// asked of all cards, so what it finds of one serves the others.
+fn made_cards(alloc: Global, node: &Node, left: CardSet) -> CardSet
     requires ours { is_declarers (to_play node.now.position) ≡ true }
-    requires choice { has_card (choices node.now) card ≡ true }
-    ensures { result ≡ made_in node.now card }
+    requires fits { FitsLeft node.now.position left }
+    ensures { result ≡ cards_that_make node.now left }
 {
     let mut solver = Solver::new(alloc);
-    let after = play(node.position(), card);
-    let mut made = WinVector::none(node.width());
-    for place in 0..node.width() {
-        let left = node.left(place).without(card);
-        made = made.set(place, solver.makes(&after, left));
+    let mut made = node.choices();
+    let mut rest = made;
+    while let Some(card) = rest.pop_first() {
+        let after = play(node.position(), card);
+        if !solver.makes(&after, left.without(card)) {
+            made = made.without(card);
+        }
     }
     made
+}
+
+// The same in each layout, in order. The layouts are shared out among threads.
+fn made_in_each<R: Threads + Sync>(
+    rt: &R,
+    alloc: Global,
+    node: &Node,
+) -> Result<Vec<CardSet>, AllocError>
+    requires { is_declarers (to_play node.now.position) ≡ true }
+    ensures { IfOk result
+        (λ made. made.items ≡ map (cards_that_make node.now) node.now.lefts) }
+{
+    node.lefts()
+        .par_iter()
+        .with_min_len(1)
+        .map(
+            |left: &CardSet| -> CardSet
+                requires ours { is_declarers (to_play node.now.position) ≡ true }
+                requires fits { FitsLeft node.now.position left.now }
+                ensures { result ≡ cards_that_make node.entry.now left.now }
+            { made_cards(alloc, node, *left) },
+        )
+        .collect(rt, alloc)
+}
+
+// In which layouts a card is among those that make.
+fn vector_of(node: &Node, made: &[CardSet], card: Card) -> WinVector
+    requires made { made.now ≡ map (cards_that_make node.now) node.now.lefts }
+    requires choice { has_card (choices node.now) card ≡ true }
+    ensures { result ≡ made_after node.now card }
+{
+    let mut vector = WinVector::none(node.width());
+    for place in 0..node.width() {
+        vector = vector.set(place, made[usize::from(place)].has(card));
+    }
+    vector
 }
 
 // The cards of a set, in card order.
@@ -49,7 +88,7 @@ fn list_of(alloc: Global, cards: CardSet) -> Result<Vec<Card>, AllocError>
 /// its vector.
 ///
 /// Each layout is judged as if declarer could see it, so a vector may promise more than a strategy
-/// can win. The cards are shared out among threads.
+/// can win. The layouts are shared out among threads.
 pub fn per_card<R: Threads + Sync>(
     rt: &R,
     alloc: Global,
@@ -59,20 +98,21 @@ pub fn per_card<R: Threads + Sync>(
     requires goes_on { is_over node.now.position ≡ false }
     ensures { IfOk result (λ table. table.items ≡ card_vectors node.now) }
 {
+    let made = made_in_each(rt, alloc, node)?;
     let cards = list_of(alloc, node.choices())?;
+    let made_of = made.as_slice();
     cards
         .par_iter()
-        .with_min_len(1)
         .map(
             |card: &Card| -> CardVector
-                requires ours { is_declarers (to_play node.now.position) ≡ true }
+                requires made { made_of.now ≡ map (cards_that_make node.now) node.now.lefts }
                 requires choice { has_card (choices node.now) card.now ≡ true }
                 ensures { result
-                    ≡ record { card = card.now; vector = made_in node.entry.now card.now } }
+                    ≡ record { card = card.now; vector = made_after node.entry.now card.now } }
             {
                 CardVector {
                     card: *card,
-                    vector: made_after(alloc, node, *card),
+                    vector: vector_of(node, made_of, *card),
                 }
             },
         )

@@ -12,5 +12,5 @@ returns g c =
     let line : ℕ → CardVector = λ card. record { card = card; vector = made_after n card } in
     let cards : c.in_ok-cards.cards.items ≡ choices n = search rules in
     IfOk-then c.collect.result _ _ c.collect.ensures (λ table h.
-    let chain = rw (c.map.ensures.base, c.with_min_len.ensures.base, c.map.ensures.f) at h.1 in
+    let chain = rw (c.map.ensures.base, c.map.ensures.f) at h.1 in
     h.2 ∙ slice-map chain.0 (choices n) (chain.1 ∙ c.par_iter.ensures ∙ cards) line h.0 chain.2)
