@@ -176,3 +176,33 @@ pub(crate) fn likely(position: &Position, left: CardSet, cards: CardSet) -> Card
         _ => CardSet::empty(),
     }
 }
+
+// Of the suits of some cards the one in which a hand has most, as the hand has it.
+fn longest_suit(hand: CardSet, cards: CardSet) -> CardSet {
+    let mut longest = CardSet::empty();
+    for suit in Suit::ALL {
+        let here = hand.of_suit(suit);
+        if longest.count() < here.count() && !cards.of_suit(suit).is_empty() {
+            longest = here;
+        }
+    }
+    longest
+}
+
+/// At no trump the cards of the longest suit are tried first: of the longest of both hands at a
+/// lead, of the hand's own in a trick. With trumps none goes before the others.
+pub(crate) fn of_longest_suit(position: &Position, left: CardSet, cards: CardSet) -> CardSet
+    ensures { IsSubset result cards }
+{
+    if cards.count() < 2 || position.trump != Trump::NoTrump {
+        return cards;
+    }
+    let seat = position.to_play();
+    let hand = position.hand(seat, left);
+    let held = if position.trick.cards.is_empty() {
+        hand.either(position.hand(seat.next().next(), left))
+    } else {
+        hand
+    };
+    cards.both(longest_suit(held, cards))
+}

@@ -8,7 +8,7 @@ ghost use Rattle.dd_solver.specs.Choices.{choice_makes};
 use crate::equals::one_of_equals;
 use crate::key::Key;
 use crate::memo::Memo;
-use crate::order::{likely, turn_of};
+use crate::order::{likely, of_longest_suit, turn_of};
 use card_sets::CardSet;
 use sure_tricks::sure_tricks;
 use trick_rules::{Position, play};
@@ -108,10 +108,30 @@ fn search_others(
     ensures { result ≡ choice_makes ours (record { position = position.now; left = left }) cards }
 {
     let early = likely(position, left, cards);
-    if best_of(memo, position, left, early, ours) == ours {
+    if longest_first(memo, position, left, early, ours) == ours {
         return ours;
     }
-    best_of(memo, position, left, cards.minus(early), ours)
+    longest_first(memo, position, left, cards.minus(early), ours)
+}
+
+// The same, those of the longest suit first.
+#[cycle(search)]
+fn longest_first(
+    memo: &mut Memo,
+    position: &Position,
+    left: CardSet,
+    cards: CardSet,
+    ours: bool,
+) -> bool
+    requires state { IsState (record { position = position.now; left = left }) }
+    requires legal { IsSubset cards (legal_in (record { position = position.now; left = left })) }
+    ensures { result ≡ choice_makes ours (record { position = position.now; left = left }) cards }
+{
+    let long = of_longest_suit(position, left, cards);
+    if best_of(memo, position, left, long, ours) == ours {
+        return ours;
+    }
+    best_of(memo, position, left, cards.minus(long), ours)
 }
 
 // The same, the first of them first.

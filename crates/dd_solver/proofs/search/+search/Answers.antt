@@ -101,17 +101,17 @@ search_cards-returns t c =
     sym (answer_by s ours cards c.requires.state c.requires.open (sym c.is_ours-ours.ensures) (c.one_of_equals-cards.ensures.answer ours)
     ∙ choice-others s ours c.favourites-first.result cards first ∙ ap (choice_makes ours s) (sym c.minus.ensures.value) ∙ sym c.search_others.ensures)
 
-pub search_others-returns-then-best_of-ours : goal.search_others-returns-then-best_of-ours
-search_others-returns-then-best_of-ours t c =
+pub search_others-returns-then-longest_first-ours : goal.search_others-returns-then-longest_first-ours
+search_others-returns-then-longest_first-ours t c =
     let s : State = record { position = c.args.position.now; left = c.args.left } in
-    let early : choice_makes c.args.ours s c.likely-early.result ≡ c.args.ours = sym c.best_of.ensures ∙ same_answer c.best_of.result c.args.ours c.if-best_of-ours.true in
+    let early : choice_makes c.args.ours s c.likely-early.result ≡ c.args.ours = sym c.longest_first.ensures ∙ same_answer c.longest_first.result c.args.ours c.if-longest_first-ours.true in
     sym (choice-more s c.args.ours c.likely-early.result c.args.cards c.likely-early.ensures early)
 
-pub search_others-best_of-requires : goal.search_others-best_of-requires
-search_others-best_of-requires t c = (omega (arith, c.decreases), (c.requires.state, λ card h. c.requires.legal card (c.likely-early.ensures card h)))
+pub search_others-longest_first-requires : goal.search_others-longest_first-requires
+search_others-longest_first-requires t c = (omega (arith, c.decreases), (c.requires.state, λ card h. c.requires.legal card (c.likely-early.ensures card h)))
 
-pub search_others-best_of-requires-2 : goal.search_others-best_of-requires-2
-search_others-best_of-requires-2 t c = (
+pub search_others-longest_first-requires-2 : goal.search_others-longest_first-requires-2
+search_others-longest_first-requires-2 t c = (
   omega (arith, c.decreases),
   (c.requires.state, λ card h. c.requires.legal card (IsSubset-filter (λ d. not (has_card c.likely-early.result d)) c.args.cards card (rw c.minus.ensures.value at h))),
 )
@@ -119,5 +119,26 @@ search_others-best_of-requires-2 t c = (
 pub search_others-returns : goal.search_others-returns
 search_others-returns t c =
     let s : State = record { position = c.args.position.now; left = c.args.left } in
-    let early : choice_makes c.args.ours s c.likely-early.result ≡ not c.args.ours = sym c.best_of.ensures ∙ other_answer c.best_of.result c.args.ours c.if-best_of-ours.false in
-    sym (choice-others s c.args.ours c.likely-early.result c.args.cards early ∙ ap (choice_makes c.args.ours s) (sym c.minus.ensures.value) ∙ sym c.best_of-2.ensures)
+    let early : choice_makes c.args.ours s c.likely-early.result ≡ not c.args.ours = sym c.longest_first.ensures ∙ other_answer c.longest_first.result c.args.ours c.if-longest_first-ours.false in
+    sym (choice-others s c.args.ours c.likely-early.result c.args.cards early ∙ ap (choice_makes c.args.ours s) (sym c.minus.ensures.value) ∙ sym c.longest_first-2.ensures)
+
+pub longest_first-returns-then-best_of-ours : goal.longest_first-returns-then-best_of-ours
+longest_first-returns-then-best_of-ours t c =
+    let s : State = record { position = c.args.position.now; left = c.args.left } in
+    let long : choice_makes c.args.ours s c.of_longest_suit-long.result ≡ c.args.ours = sym c.best_of.ensures ∙ same_answer c.best_of.result c.args.ours c.if-best_of-ours.true in
+    sym (choice-more s c.args.ours c.of_longest_suit-long.result c.args.cards c.of_longest_suit-long.ensures long)
+
+pub longest_first-best_of-requires : goal.longest_first-best_of-requires
+longest_first-best_of-requires t c = (omega (arith, c.decreases), (c.requires.state, λ card h. c.requires.legal card (c.of_longest_suit-long.ensures card h)))
+
+pub longest_first-best_of-requires-2 : goal.longest_first-best_of-requires-2
+longest_first-best_of-requires-2 t c = (
+  omega (arith, c.decreases),
+  (c.requires.state, λ card h. c.requires.legal card (IsSubset-filter (λ d. not (has_card c.of_longest_suit-long.result d)) c.args.cards card (rw c.minus.ensures.value at h))),
+)
+
+pub longest_first-returns : goal.longest_first-returns
+longest_first-returns t c =
+    let s : State = record { position = c.args.position.now; left = c.args.left } in
+    let long : choice_makes c.args.ours s c.of_longest_suit-long.result ≡ not c.args.ours = sym c.best_of.ensures ∙ other_answer c.best_of.result c.args.ours c.if-best_of-ours.false in
+    sym (choice-others s c.args.ours c.of_longest_suit-long.result c.args.cards long ∙ ap (choice_makes c.args.ours s) (sym c.minus.ensures.value) ∙ sym c.best_of-2.ensures)

@@ -6,16 +6,19 @@ use Rattle.dd_solver.specs.Choices.{choice_makes}
 use Rattle.dd_solver.proofs.search.+search.Given as goal
 
 abbrev pub decreases-search : goal.decreases-search
-decreases-search l = 4 * cards_left l.position.now + 3
+decreases-search l = 5 * cards_left l.position.now + 4
 
 abbrev pub decreases-search_cards : goal.decreases-search_cards
-decreases-search_cards l = 4 * cards_left l.position.now + 2
+decreases-search_cards l = 5 * cards_left l.position.now + 3
 
 abbrev pub decreases-search_others : goal.decreases-search_others
-decreases-search_others l = 4 * cards_left l.position.now + 1
+decreases-search_others l = 5 * cards_left l.position.now + 2
+
+abbrev pub decreases-longest_first : goal.decreases-longest_first
+decreases-longest_first l = 5 * cards_left l.position.now + 1
 
 abbrev pub decreases-best_of : goal.decreases-best_of
-decreases-best_of l = 4 * cards_left l.position.now
+decreases-best_of l = 5 * cards_left l.position.now
 
 abbrev pub invariant-best_of-loop-card : goal.invariant-best_of-loop-card
 invariant-best_of-loop-card l =
