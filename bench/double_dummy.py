@@ -117,7 +117,7 @@ def main():
     if not dds:
         return
     head = "tricks   strain  endings  most seconds  median to DDS  sum to DDS"
-    print("all cards in 20 layouts, by one solver\n" + head)
+    print("all cards in 20 layouts, by a solver a layout\n" + head)
     for tricks in (5, 6, 7, 8, 9, 10):
         for strain in STRAINS:
             report("sampling", tricks, strain, 20)

@@ -87,30 +87,30 @@ impl Ending {
         tricks
     }
 
-    // In how many of the layouts declarer's side takes the need after a card.
-    fn layouts_made(&self, solver: &mut Solver, lefts: &[CardSet], need: u8, card: Card) -> u64 {
+    // How many of declarer's cards keep the need where Left holds these cards, by one solver.
+    fn cards_made(&self, solver: &mut Solver, left: CardSet, need: u8) -> u64 {
         let mut made: u64 = 0;
         let Some(position) = self.position(need) else {
             return 0;
         };
-        if !position.held_by(position.to_play()).has(card) {
-            return 0;
-        }
-        let after = play(&position, card);
-        for left in lefts {
-            if after.fits(*left) && solver.makes(&after, *left) {
-                made = made.saturating_add(1);
+        for card in self.declarer {
+            if position.held_by(position.to_play()).has(card) {
+                let after = play(&position, card);
+                if after.fits(left) && solver.makes(&after, left) {
+                    made = made.saturating_add(1);
+                }
             }
         }
         made
     }
 
-    // How many cards keep the tricks of the first layout, summed over the layouts.
-    fn sampled(&self, solver: &mut Solver, lefts: &[CardSet; LAYOUTS]) -> u64 {
-        let need = self.tricks(solver, lefts[0]).max(1);
+    // How many cards keep the tricks of the first layout, summed over the layouts. As in `fusion`
+    // each layout has a solver of its own.
+    fn sampled(&self, alloc: Global, lefts: &[CardSet; LAYOUTS]) -> u64 {
+        let need = self.tricks(&mut Solver::new(alloc), lefts[0]).max(1);
         let mut made: u64 = 0;
-        for card in self.declarer {
-            made = made.saturating_add(self.layouts_made(solver, lefts.as_slice(), need, card));
+        for left in lefts.as_slice() {
+            made = made.saturating_add(self.cards_made(&mut Solver::new(alloc), *left, need));
         }
         made
     }
@@ -205,7 +205,7 @@ impl Draws {
             Question::Tricks => u64::from(ending.tricks(&mut solver, left)),
             Question::Sampling => {
                 let lefts = self.lefts(ending.unseen, left);
-                ending.sampled(&mut solver, &lefts)
+                ending.sampled(alloc, &lefts)
             }
         }
     }
