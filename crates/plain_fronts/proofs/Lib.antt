@@ -1,3 +1,2 @@
-pub mod Results
 pub mod SameFronts
 pub mod CardByCard

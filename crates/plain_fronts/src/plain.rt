@@ -1,13 +1,13 @@
 //! The front of a node from the fronts of its children.
-ghost use Rattle.std.specs.Prelude.{◌≡◌, true, false, map, IfOk};
+ghost use Rattle.std.specs.Prelude.{◌≡◌, true, false, IfOk};
 ghost use Rattle.trick_rules.specs.Positions.{to_play};
-ghost use Rattle.trick_rules.specs.Play.{is_declarers, makes};
-ghost use Rattle.trick_rules.specs.Nodes.{states, stops};
+ghost use Rattle.trick_rules.specs.Play.{is_declarers};
+ghost use Rattle.trick_rules.specs.Nodes.{stops};
 ghost use Rattle.front_table.specs.Proven.{IsFrontAt};
 
-use dd_solver::makes_plain;
 use front_join::joined_front;
 use pareto_fronts::Front;
+use plain_results::plain_results;
 use std::alloc::{AllocError, Global};
 use trick_rules::Node;
 use win_vectors::WinVector;
@@ -33,7 +33,7 @@ fn front_at_stop(alloc: Global, node: &Node, moves: u8) -> Result<Front, AllocEr
     ensures { IfOk result (IsFrontAt node.now moves) }
 {
     let mut front = Front::new(alloc, node.width());
-    front.insert(results(node))?;
+    front.insert(plain_results(node))?;
     Ok(front)
 }
 
@@ -70,15 +70,4 @@ fn front_at_defender(alloc: Global, node: &Node, moves: u8) -> Result<Front, All
         front = joined_front(alloc, &front, &won, mask)?;
     }
     Ok(front)
-}
-
-// Double dummy's result in each layout.
-fn results(node: &Node) -> WinVector
-    ensures { result ≡ map makes (states node.now) }
-{
-    let mut made = WinVector::none(node.width());
-    for place in 0..node.width() {
-        made = made.set(place, makes_plain(node.position(), node.left(place)));
-    }
-    made
 }

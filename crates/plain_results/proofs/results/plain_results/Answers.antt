@@ -1,8 +1,8 @@
 use Rattle.std.proofs.Common.{◌≡◌, ◌<◌, length, get_or, set, sym, ap, ◌∙◌, arith, rules}
 use Rattle.std.proofs.lemmas.Option.{get_or_from_slice_get}
 use Rattle.trick_rules.specs.Play.{makes}
-use Rattle.plain_fronts.proofs.Results.{results_upto, results_upto-more, results_upto-all}
-use Rattle.plain_fronts.proofs.plain.results.Goals as goal
+use Rattle.plain_results.proofs.LayoutResults.{results_upto, results_upto-more, results_upto-all}
+use Rattle.plain_results.proofs.results.plain_results.Goals as goal
 
 pub loop-place-preserved : goal.loop-place-preserved
 loop-place-preserved c =
