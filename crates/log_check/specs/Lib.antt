@@ -1,0 +1,4 @@
+pub mod Limits
+pub mod Logs
+pub mod Steps
+pub mod LogVerdicts
