@@ -12,5 +12,5 @@ mod verdict;
 
 pub use fault::LayoutFault;
 pub use kept::{Cause, Dropped, Kept};
-pub use line::{Layout, MOST_LISTED, read_lines};
+pub use line::{Layout, MOST_LISTED};
 pub use list::layouts;

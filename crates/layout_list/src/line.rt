@@ -1,8 +1,11 @@
 //! The lines of a layout file.
-ghost use Rattle.std.specs.Prelude.{◌≡◌, ◌&&◌, ◌<◌, ◌≤◌, ◌-◌, ◌^◌, Ok, length, MatchResult, IfOk, IfSome};
+ghost use Rattle.std.specs.Prelude.{◌≡◌, ◌&&◌, ◌<◌, ◌≤◌, ◌-◌, ◌^◌, Ok, length, MatchResult, IfOk};
+ghost use Rattle.std.specs.Prelude.{IfSome};
 ghost use Rattle.pbn_deal.specs.BoardRead.{together};
 ghost use Rattle.pbn_deal.specs.Deal.{IsSoundDeal};
-ghost use Rattle.layout_list.specs.Lines.{is_skipped, same_set, is_told, layout_in, line_read, numbered_lines, layout_lines, lines_read, most_listed, FitsBoard, IsTold, IsOneDeal};
+ghost use Rattle.layout_list.specs.Lines.{is_skipped, same_set, is_told, layout_in, line_read};
+ghost use Rattle.layout_list.specs.Lines.{numbered_lines, layout_lines, lines_read, most_listed};
+ghost use Rattle.layout_list.specs.Lines.{FitsBoard, IsTold, IsOneDeal};
 ghost use Rattle.layout_list.specs.Layouts.{IsLayoutFaultOf};
 
 use crate::fault::LayoutFault;
@@ -83,8 +86,12 @@ fn read_line(
 /// The most layouts of a file.
 pub const MOST_LISTED: usize = 64;
 
-/// The layouts of a file's lines, in order, or the first fault.
-pub fn read_lines(alloc: Global, bytes: &[u8], board: &Board) -> Result<Vec<Layout>, LayoutFault>
+// The layouts of a file's lines, in order, or the first fault.
+pub(crate) fn read_lines(
+    alloc: Global,
+    bytes: &[u8],
+    board: &Board,
+) -> Result<Vec<Layout>, LayoutFault>
     requires { length bytes.now < 2 ^ 32 - 1 }
     ensures layouts { MatchResult result
         (λ layouts. lines_read board.now board.now.unseen 0

@@ -1,12 +1,14 @@
 //! The layouts of a file that the play of a board allows.
-ghost use Rattle.std.specs.Prelude.{◌≡◌, ◌<◌, ◌≤◌, ◌-◌, ◌^◌, ◌++◌, ◌∷◌, Ok, Some, None, [], map, length, All, MatchResult, MatchOption, IfOk, IfErr, OnOk};
+ghost use Rattle.std.specs.Prelude.{◌≡◌, ◌<◌, ◌≤◌, ◌-◌, ◌^◌, ◌++◌, ◌∷◌, Ok, Some, None, [], map};
+ghost use Rattle.std.specs.Prelude.{length, All, MatchResult, MatchOption, IfOk, IfErr, OnOk};
 ghost use Rattle.std.specs.List.{enumerate_from};
 ghost use Rattle.trick_rules.specs.Positions.{IsState};
 ghost use Rattle.trick_rules.specs.Nodes.{IsNode};
 ghost use Rattle.pbn_deal.specs.Boards.{IsCourse};
 ghost use Rattle.layout_list.specs.Lines.{IsOneDeal, most_listed};
 ghost use Rattle.layout_list.specs.Verdicts.{hand_after, course_of};
-ghost use Rattle.layout_list.specs.Layouts.{numbers_kept, lefts_kept, dropped, IsAfter, kept_of, layouts_read, IsLayoutFaultOf};
+ghost use Rattle.layout_list.specs.Layouts.{numbers_kept, lefts_kept, dropped, IsAfter, kept_of};
+ghost use Rattle.layout_list.specs.Layouts.{layouts_read, IsLayoutFaultOf};
 
 use crate::fault::LayoutFault;
 use crate::kept::{Dropped, Kept};

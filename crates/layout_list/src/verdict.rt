@@ -2,7 +2,8 @@
 ghost use Rattle.std.specs.Prelude.{◌≡◌, ◌<◌, Some, None, length, MatchResult, IfOk};
 ghost use Rattle.trick_rules.specs.Positions.{IsSound, IsState};
 ghost use Rattle.pbn_deal.specs.Boards.{IsCourse, FitsUnseen};
-ghost use Rattle.layout_list.specs.Verdicts.{first_position, cause_of, contradiction, position_after, hand_after, course_of};
+ghost use Rattle.layout_list.specs.Verdicts.{first_position, cause_of, contradiction};
+ghost use Rattle.layout_list.specs.Verdicts.{position_after, hand_after, course_of};
 
 use crate::kept::Cause;
 use card_sets::{CardSet, Seat};

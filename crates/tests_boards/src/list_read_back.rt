@@ -2,7 +2,7 @@
 //! dropped.
 use crate::endings::{SHOWN, TWO_SUITS_SHOWN, board_of, ending};
 use am_report::list_text;
-use layout_list::{layouts, read_lines};
+use layout_list::layouts;
 use layout_maker::all_layouts;
 use std::test::Fail;
 
@@ -36,18 +36,13 @@ fn listed_layouts_are_read_back(rt: HostRuntime) -> Result<(), Fail> {
             return Err("the list is too long".into());
         }
         assert_eq!(rt; listed.len(), count, "{file}");
-        let found = read_lines(alloc, list.bytes(), &board)?;
-        assert_eq!(rt; found.len(), count, "{file}");
-        for (layout, own) in found.iter().zip(&listed) {
-            assert_eq!(rt;
-                (layout.left, layout.right),
-                (own.left, own.right),
-                "{file}"
-            );
-        }
         let kept = layouts(alloc, list.bytes(), &board)?;
         assert_eq!(rt; kept.numbers.len(), count, "{file}");
         assert!(rt; kept.dropped.is_empty(), "{file}");
+        let unseen = kept.node.position().unseen;
+        for (left, own) in kept.node.lefts().iter().zip(&listed) {
+            assert_eq!(rt; *left, own.left.both(unseen), "{file}");
+        }
     }
     Ok(())
 }

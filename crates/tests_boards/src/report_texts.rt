@@ -2,7 +2,7 @@
 ghost use Rattle.std.specs.Prelude.{◌≤◌};
 
 use crate::endings::{
-    ENDING, ENDING_LAYOUTS, HIDDEN, SLAM, SLAM_LAYOUTS, board_of, ending, kept_of,
+    ENDING, ENDING_LAYOUTS, HIDDEN, SHOWN, SLAM, SLAM_LAYOUTS, board_of, ending, kept_of,
 };
 use am_report::{
     Entry, MadeSummary, SolveAnswer, card_text, check_text, fusion_text, head_text, list_text,
@@ -10,8 +10,7 @@ use am_report::{
 };
 use card_sets::{Card, Rank, Suit};
 use fusion_base::CardVector;
-use layout_list::{Layout, read_lines};
-use pbn_deal::Board;
+use layout_maker::all_layouts;
 use std::alloc::Global;
 use std::test::Fail;
 use strategy_tree::read_plan;
@@ -38,14 +37,6 @@ const TRICK_HEAD: &str =
 // The head of a slam after seven tricks, of whose fourteen layouts the play rules out two.
 const SLAM_HEAD: &str =
     "alphamu report 1\ndeclarer S\ntrump NT\nneed 6\nhand S AQ.T987..\nhand N 32.AKQJ..\ntrick N -\nturn N\nmoves 3\nkept 1 2 3 4 5 6 7 8 9 10 11 12\ndropped 13 revoke 26\ndropped 14 notheld 1\n";
-
-// The layouts of a layout file.
-fn layouts_of(alloc: Global, board: &Board, list: &[u8]) -> Result<Vec<Layout>, Fail> {
-    if list.len() > 10_000 {
-        return Err("the layouts are too long".into());
-    }
-    Ok(read_lines(alloc, list, board)?)
-}
 
 fn spade(rank: u8) -> Card
     requires low { 2 ≤ rank }
@@ -160,8 +151,8 @@ fn the_first_of_two_equal_cards_is_named(rt: HostRuntime) -> Result<(), Fail> {
 #[test]
 fn layouts_are_listed_as_a_layout_file_has_them(rt: HostRuntime) -> Result<(), Fail> {
     let alloc = rt.alloc();
-    let board = board_of(alloc, ENDING)?;
-    let layouts = layouts_of(alloc, &board, ENDING_LIST.as_bytes())?;
+    let board = board_of(alloc, &ending(alloc, SHOWN, "1NT", "")?)?;
+    let layouts = all_layouts(alloc, &board)?;
     let text = list_text(alloc, &board, &layouts)?;
     assert_eq!(rt; text.bytes(), ENDING_LIST.as_bytes());
     Ok(())
