@@ -1,7 +1,9 @@
-//! The program: real files and streams and an open gate for the top call, and its status for the system.
-//! It stands on `am_top` for the call, on `am_outside` for files and streams, and on `am_line` for the line that it
-//! writes where there is no memory for the words.
-//! It promises nothing of its own: what is read, written and answered is the contract of `am_top::run`.
+//! The program: real files and streams and an open gate for the top call, and its status for the
+//! system.
+//! It stands on `am_top` for the call, on `am_outside` for files and streams, and on `am_line` for
+//! the line that it writes where there is no memory for the words.
+//! It promises nothing of its own: what is read, written and answered is the contract of
+//! `am_top::run`.
 #![tactic(auto)]
 
 use am_line::refuse;

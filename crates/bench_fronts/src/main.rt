@@ -1,6 +1,8 @@
-//! A workload to be timed: inserts into fronts, or joins of two fronts, as often as the arguments say.
+//! A workload to be timed: inserts into fronts, or joins of two fronts, as often as the arguments
+//! say.
 //! It stands on `pareto_fronts` and `front_join`.
-//! It promises nothing: what it prints doesn't depend on time, and is compared with what a program in C++ prints.
+//! It promises nothing: what it prints doesn't depend on time, and is compared with what a program
+//! in C++ prints.
 #![tactic(auto)]
 
 mod workload;

@@ -1,4 +1,5 @@
-//! A workload to be timed: a file of PBN text that holds one thing again and again, read as often as the arguments say.
+//! A workload to be timed: a file of PBN text that holds one thing again and again, read as often
+//! as the arguments say.
 //! It stands on `pbn_text`.
 //! It promises nothing: what it prints doesn't depend on time.
 #![tactic(auto)]

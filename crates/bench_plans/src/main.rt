@@ -1,4 +1,5 @@
-//! A workload to be timed: a plan of as many lines as the arguments say, written or read as often as they say.
+//! A workload to be timed: a plan of as many lines as the arguments say, written or read as often
+//! as they say.
 //! It stands on `strategy_tree`.
 //! It promises nothing: what it prints doesn't depend on time.
 #![tactic(auto)]

@@ -1,4 +1,5 @@
-//! A search to be counted: how many nodes it enters for the front of a position, with cuts and a store or without.
+//! A search to be counted: how many nodes it enters for the front of a position, with cuts and a
+//! store or without.
 //! It stands on `alphamu_core`, and on `am_inputs` for the files.
 //! It promises nothing: what it prints doesn't depend on time.
 #![tactic(auto)]

@@ -1,6 +1,7 @@
 //! Tests of what threads share, by public calls alone.
 //! It stands on the crates that it tests, and nothing stands on it.
-//! It promises nothing: what its tests expect was worked out by hand, and is the same however the threads take turns.
+//! It promises nothing: what its tests expect was worked out by hand, and is the same however the
+//! threads take turns.
 #![tactic(auto)]
 
 #[cfg(test)]
