@@ -1,0 +1,306 @@
+#!/usr/bin/env python3
+"""damaged.py [--count N] [--first N] [--seed N] [--jobs N] [--seconds N] [--keep FOLDER] [PROGRAM]
+
+Runs a program on damaged deal files, layout files, reports and words, and compares exit status, line and output with a
+second reading of the same rules (checks/reading.py). Where no program is named it is the proved one, which ./build makes.
+
+A run is made from its number and the seed alone: the files of a case, of which one, or the words, are damaged in one to
+four places. So that a deal and layouts that are still read are compared too, many runs judge a report whose head is
+written by the second reading. Of jobs that search the status alone is compared where files and words are sound.
+
+Prints each run that differs, whose files are then kept in a folder, and how often each status came. The exit status is 0
+only where no run differs.
+"""
+import argparse
+import collections
+import multiprocessing
+import os
+import random
+import re
+import signal
+import sys
+import tempfile
+
+sys.dont_write_bytecode = True
+import cases
+import reading
+
+PROVED = os.path.join(cases.TOP, "crates", "alphamu", "out", "alphamu")
+NAMES = {"deal": b"deal.pbn", "layouts": b"layouts.lay", "report": b"report.txt"}
+# The files that a case has at least, for a kind of damage to start from it.
+NEEDED = {"deal": ("deal",), "layouts": ("deal", "layouts"), "report": ("deal", "layouts", "report"), "words": ()}
+# How often each kind of damage comes.
+KINDS = ("deal",) * 8 + ("layouts",) * 6 + ("report",) * 5 + ("words",)
+# More cards than that are too many for the second reading's double dummy.
+MOST_TRICKS = 4
+# What a search may end with.
+SEARCHED = (0, 7)
+MARKS = [b" ", b"\t", b"\r", b"\n", b"\r\n", b"\n\n", b"\n \t\n", b"%", b"{", b"}", b";", b'"', b"\\", b"[", b"]", b"#", b"-",
+         b"*", b"+", b"!", b"?", b"$3", b"=1=", b".", b":", b"\x00", b"\x07", b"\x0b", b"\x0c", b"\x1a", b"\x7f", b"\x80", b"\xff",
+         b"\xef\xbb\xbf", b"\xc3\xa9", b"0", b"1", b"9", b"10", b"13", b"14", b"S", b"n", b"X", b"T", b"x"]
+SNIPPETS = {
+    "deal": [b'[Deal "N:32... - KJ... -"]', b'[Declarer "E"]', b'[Contract "3NTX"]', b'[Contract "Pass"]', b'[EndNeed "2"]',
+             b'[EndLead "W"]', b'[Play "N"]', b'[Event "a \\"b\\" ; { c"]', b"\n*\n", b"\n- - - -\n", b"S2", b"SA", b"HT", b"D9!?",
+             b"c7", b"[ Note \"1:x\" ]", b"{ one\n\n% two }", b'[Play "S"]\nS2 S7\n*', b'"S2"', b"=x=", b"$", b"[Deal"],
+    "layouts": [b"N:32... A7... KJ... Q5...", b"E:A7... KJ... Q5... 32...", b"-", b"...", b"% more\n", b"10", b"N:", b" :", b"W:"],
+    "report": [b"alphamu report 1\n", b"moves 2\n", b"moves 26\n", b"moves 0\n", b"front 1\n", b"front 4294967296\n", b"vector 10 count 1\n",
+               b"play S2\n", b"hear 3\n", b"hear 53\n", b"on SA\n", b"stop\n", b"card S2 count 1\n", b"end\n", b"kept 1 2\n", b"on sq\n"],
+    "words": [b"--job", b"--job=check", b"--deal", b"--layouts=layouts.lay", b"--moves", b"--moves=2", b"--nodes", b"--number", b"7", b"65",
+              b"--workers=4", b"--shards", b"--room=65536", b"--no-table", b"--no-cuts", b"--no-cuts=1", b"--", b"-", b"-m", b"--help",
+              b"=", b"--=", b"--deal=", b"solve", b"made", b"0", b"002", b"18446744073709551616", b"+2", b"\xff", b"deal.pbn"],
+}
+
+
+# Damage.
+
+def damaged_text(chance, text, kind, others):
+    """The text with one damage."""
+    at = chance.randrange(len(text) + 1)
+    end = min(len(text), at + chance.choice((1, 1, 1, 2, 3, 8, 40)))
+    how = chance.randrange(12)
+    if how == 0:
+        return text[:at] + text[end:]
+    if how in (1, 2):
+        return text[:at] + chance.choice(MARKS) + text[end:]
+    if how == 3:
+        return text[:at] + chance.choice(MARKS) + text[at:]
+    if how == 4:
+        return text[:at] + chance.choice(SNIPPETS[kind]) + text[at:]
+    if how == 5:
+        return text[:at] + text[at:end].swapcase() + text[end:]
+    if how == 6:
+        return text[:at] if chance.randrange(4) == 0 else text[:at] + bytes([chance.randrange(256)]) + text[end:]
+    if how == 7 and len(text) > 1:
+        # Two bytes change places.
+        one, two = sorted(chance.sample(range(len(text)), 2))
+        return text[:one] + text[two:two + 1] + text[one + 1:two] + text[one:one + 1] + text[two + 1:]
+    return damaged_lines(chance, text, others) if how < 10 else damaged_word(chance, text)
+
+
+def damaged_lines(chance, text, others):
+    """A line goes, comes twice, changes places or is taken from another file."""
+    lines = text.splitlines(keepends=True) or [b""]
+    one, two = chance.randrange(len(lines)), chance.randrange(len(lines))
+    how = chance.randrange(5)
+    if how == 0:
+        del lines[one]
+    elif how == 1:
+        lines.insert(two, lines[one])
+    elif how == 2:
+        lines[one], lines[two] = lines[two], lines[one]
+    else:
+        other = chance.choice(others).splitlines(keepends=True) or [b""]
+        lines[one:one + (how == 3)] = [chance.choice(other)]
+    return b"".join(lines)
+
+
+def damaged_word(chance, text):
+    """A card, a hand, a number or a seat in it becomes another one of the text, or a new one."""
+    words = list(re.finditer(rb"[A-Za-z0-9.]+", text))
+    if not words:
+        return text
+    word = chance.choice(words)
+    new = chance.choice([chance.choice(words)[0], b"SHDC"[chance.randrange(4):][:1] + b"23456789TJQKA"[chance.randrange(13):][:1],
+                         b"NESW"[chance.randrange(4):][:1], b"%d" % chance.randrange(30), word[0][::-1]])
+    return text[:word.start()] + new + text[word.end():]
+
+
+def damaged_words(chance, words):
+    words = list(words)
+    at = chance.randrange(len(words) + 1)
+    how = chance.randrange(6)
+    if how == 0 and words:
+        del words[min(at, len(words) - 1)]
+    elif how in (1, 2):
+        words.insert(at, chance.choice(SNIPPETS["words"]))
+    elif how == 3 and words:
+        chance.shuffle(words)
+    elif words:
+        at = min(at, len(words) - 1)
+        words[at] = damaged_text(chance, words[at], "words", words) if how == 4 else chance.choice(SNIPPETS["words"])
+    # The system's words end at a zero byte.
+    return [word.replace(b"\x00", b"") for word in words]
+
+
+# The runs.
+
+def bases():
+    """By kind of damage the cases that it starts from, each with its words and files."""
+    found = collections.defaultdict(list)
+    for case in cases.names_of_cases():
+        files = {name: cases.bytes_of(case, name.decode()) for name in NAMES.values()
+                 if os.path.isfile(os.path.join(cases.CASES, case, name.decode()))}
+        if cases.bytes_of(case, "fill") or max(map(len, files.values()), default=0) > 20000:
+            continue
+        for kind, needed in NEEDED.items():
+            if all(NAMES[it] in files for it in needed):
+                found[kind] += [(cases.words_of(case), files)] * weight(kind, files)
+    return found
+
+
+def weight(kind, files):
+    """How often damage starts there: mostly at sound deals, and what stands behind the deal is damaged only with one."""
+    if kind == "words":
+        return 1
+    if not board_in(files):
+        return int(kind == "deal")
+    return 4 if kind == "deal" else 1
+
+
+def board_in(files):
+    """The board of the deal file, or none where it is refused."""
+    try:
+        games = reading.games_of(files[NAMES["deal"]])
+        return reading.board_of(games[0]) if games else None
+    except reading.Refusal:
+        return None
+
+
+def own_report(files, chance):
+    """A report of one plan with the head that the files must have, or none where they are refused."""
+    board = board_in(files)
+    try:
+        kept = board and reading.layouts_of(files[NAMES["layouts"]], board)
+    except reading.Refusal:
+        return None
+    turn = board and reading.moment_after(board).turn()
+    if turn is None or turn % 2:
+        return None
+    bit = chance.choice((b"0", b"1"))
+    bits = bit * len(kept.numbers)
+    return reading.head_text(board, kept, chance.randrange(1, 27)) + (
+        b"front 1\nvector %s count %d\nstop\ncard S2 count 0\nend\n" % (bits, bits.count(b"1")))
+
+
+def is_small(files):
+    """Whether so few cards are left that the second reading can play them all."""
+    board = board_in(files)
+    return board is None or reading.moment_after(board).tricks <= MOST_TRICKS
+
+
+WORDS = {
+    "check": [b"--job", b"check", b"--deal", b"deal.pbn", b"--layouts", b"layouts.lay", b"--report", b"report.txt"],
+    "fusion": [b"--job", b"fusion", b"--deal", b"deal.pbn", b"--layouts", b"layouts.lay"],
+    "list": [b"--job", b"list", b"--deal", b"deal.pbn"],
+}
+
+
+def trial(number, seed, found):
+    """The kind, the words and the files of a run."""
+    chance = random.Random(f"{seed}:{number}")
+    kind = chance.choice(KINDS)
+    words, files = chance.choice(found[kind])
+    files = dict(files)
+    times = chance.choice((1, 1, 1, 2, 2, 3, 4))
+    if kind == "words":
+        for _ in range(times):
+            words = damaged_words(chance, words)
+        # What follows the words is refused at once, so that no search is made on them.
+        return kind, words, {name: b"" for name in files}
+    others = [other[NAMES[kind]] for _, other in found[kind]]
+    for _ in range(times):
+        files[NAMES[kind]] = damaged_text(chance, files[NAMES[kind]], kind, others)
+    if kind == "report":
+        return kind, WORDS["check"], files
+    job = chance.choice(("check", "check", "fusion" if NAMES["layouts"] in files else "list", "list" if kind == "deal" else "check"))
+    if job == "fusion" and not is_small(files):
+        job = "check"
+    if job == "check" and NAMES["layouts"] in files:
+        report = own_report(files, chance)
+        if report or NAMES["report"] not in files:
+            files[NAMES["report"]] = report or b""
+    return kind, WORDS[job], files
+
+
+def run(program, words, folder, files, seconds):
+    """Exit status, standard output and standard error; the status is none where there is no end."""
+    for name in NAMES.values():
+        path = os.path.join(folder, name)
+        if name in files:
+            with open(path, "wb") as file:
+                file.write(files[name])
+        elif os.path.exists(path):
+            os.remove(path)
+    streams = [os.path.join(folder, it) for it in (b"out", b"err")]
+    flags = os.O_WRONLY | os.O_CREAT | os.O_TRUNC
+    process = os.posix_spawn(program, [program, *words], os.environ, file_actions=[
+        (os.POSIX_SPAWN_OPEN, 0, "/dev/null", os.O_RDONLY, 0),
+        *((os.POSIX_SPAWN_OPEN, at, path, flags, 0o600) for at, path in enumerate(streams, 1))])
+    signal.setitimer(signal.ITIMER_REAL, seconds)
+    try:
+        status = os.waitstatus_to_exitcode(os.waitpid(process, 0)[1])
+    except TimeoutError:
+        os.kill(process, signal.SIGKILL)
+        os.waitpid(process, 0)
+        status = None
+    signal.setitimer(signal.ITIMER_REAL, 0)
+    return status, *(open(path, "rb").read() for path in streams)
+
+
+def agrees(found, wanted):
+    if wanted[0] is None:
+        return found[0] in SEARCHED
+    return found == wanted
+
+
+def keep(folder, number, kind, words, files, told):
+    kept = os.path.join(folder, str(number))
+    os.makedirs(kept, exist_ok=True)
+    for name, content in {**files, b"args": b"".join(word + b"\n" for word in words)}.items():
+        with open(os.path.join(os.fsencode(kept), name), "wb") as file:
+            file.write(content)
+    return f"{number} ({kind}, kept in {kept}): {told}"
+
+
+def on_alarm(*_):
+    raise TimeoutError
+
+
+def work(part):
+    """The runs of one process: what differs, and how often each kind and status came."""
+    given, start = part
+    signal.signal(signal.SIGALRM, on_alarm)
+    found, told, counts = bases(), [], collections.Counter()
+    with tempfile.TemporaryDirectory() as folder:
+        os.chdir(folder)
+        for number in range(given.first + start, given.first + given.count, given.jobs):
+            kind, words, files = trial(number, given.seed, found)
+            wanted = reading.answer(words, {name.decode(): content for name, content in files.items()})
+            got = run(given.program, words, os.fsencode(folder), files, given.seconds)
+            counts[kind, got[0]] += 1
+            if not agrees(got, wanted):
+                told.append(keep(given.keep, number, kind, words, files, f"{got!r}, and not {wanted!r}"))
+    return told, counts
+
+
+def main():
+    parser = argparse.ArgumentParser(description="Runs alphamu on damaged files and words.", allow_abbrev=False)
+    parser.add_argument("program", nargs="?", default=PROVED)
+    parser.add_argument("--count", type=int, default=1000)
+    parser.add_argument("--first", type=int, default=0)
+    parser.add_argument("--seed", type=int, default=1)
+    parser.add_argument("--jobs", type=int, default=len(os.sched_getaffinity(0)))
+    parser.add_argument("--seconds", type=float, default=60)
+    parser.add_argument("--keep", default=os.path.join(tempfile.gettempdir(), "damaged"))
+    given = parser.parse_args()
+    lacking = cases.lacks_program() if given.program == PROVED else None
+    if lacking:
+        print(f"damaged: {lacking}")
+        return 1
+    given.program, given.keep = os.path.abspath(given.program), os.path.abspath(given.keep)
+    with multiprocessing.Pool(given.jobs) as pool:
+        parts = pool.map(work, [(given, start) for start in range(given.jobs)], chunksize=1)
+    told = [line for lines, _ in parts for line in lines]
+    counts = sum((it for _, it in parts), collections.Counter())
+    for line in told:
+        print(line)
+    for kind in NEEDED:
+        of_kind = {status: count for (of, status), count in counts.items() if of == kind}
+        print(f"damaged: {kind}: {sum(of_kind.values())} runs, by status:",
+              ", ".join(f"{status} {of_kind[status]}" for status in sorted(of_kind, key=str)))
+    print(f"damaged: {sum(counts.values())} runs, {len(told)} differ")
+    return 0 if counts and not told else 1
+
+
+if __name__ == "__main__":
+    sys.exit(main())
