@@ -1,8 +1,8 @@
 """What alphamu has to answer to words and files, read a second time.
 
-Written from docs/USING.md and docs/definitions/, over whole texts and lists of cards, and without a look at the program.
-It knows every refusal, and all output but that of the jobs that search (`solve`, `card`, `made`). It is slow where many
-cards are left to be played, since double dummy here is plain minimax with a memo.
+It says anew what docs/USING.md and docs/definitions/ say, over whole texts and lists of cards, and takes nothing from
+the program. It knows every refusal, and all output but that of the jobs that search (`solve`, `card`, `made`). It is slow
+where many cards are left to be played, since double dummy here is plain minimax with a memo.
 """
 import functools
 import itertools
