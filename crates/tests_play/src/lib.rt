@@ -1,4 +1,5 @@
-//! Tests of cards, play, fronts, strategies, the search and sampling, by public calls alone.
+//! Tests of cards, play, fronts, strategies, the search, play-outs and sampling, by public calls
+//! alone.
 //! It stands on the crates that it tests, and nothing stands on it.
 //! It promises nothing: what its tables hold was worked out by the laws of bridge, by hand or by
 //! another program.
@@ -30,6 +31,8 @@ mod nodes;
 mod plan_texts;
 #[cfg(test)]
 mod plans;
+#[cfg(test)]
+mod play_outs;
 #[cfg(test)]
 mod roots;
 #[cfg(test)]

@@ -9,7 +9,7 @@ use strategy_tree::read_plan;
 use win_vectors::WinVector;
 
 /// Dummy leads the two. The king is played except on the ace: this wins where Left holds the queen.
-const FIRST: &'static [u8] =
+pub const FIRST: &'static [u8] =
     b"play S2\nhear 3\non S7\nplay SK\nstop\non SQ\nplay SK\nstop\non SA\nplay SJ\nstop\n";
 
 /// The jack is played except on the queen: this wins where Left holds the ace.
