@@ -19,13 +19,14 @@ use dd_solver::Solver;
 use front_table::{FrontStore, NoStore};
 use job_words::Search;
 use pareto_fronts::Front;
-use plan_finder::plan_for;
+use plan_finder::{PlanMemo, plan_over};
 use root_workers::{RootFront, root_front};
 use shared_table::SharedStore;
 use std::alloc::Global;
 use trick_rules::Node;
 
-// Each vector of the front, with the plan for it.
+// Each vector of the front, with the plan for it. The plans have many parts in common, which are
+// found once.
 fn entries<S: FrontStore>(
     alloc: Global,
     store: &mut S,
@@ -45,11 +46,13 @@ fn entries<S: FrontStore>(
     ensures spent { (card : ℕ) → IsErrOf result (RootFault.Spent card)
         → IsSpentAt node.now moves search.now.nodes card }
 {
+    let mut memo = PlanMemo::new(alloc);
     let mut entries = Vec::new(alloc);
     for place in 0..front.len() {
         let vector = front.get(place);
-        let plan = plan_for(
+        let plan = plan_over(
             alloc,
+            &mut memo,
             store,
             solver,
             node,

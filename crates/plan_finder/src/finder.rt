@@ -9,6 +9,7 @@ ghost use Rattle.plan_finder.specs.Targets.{IsOfFront};
 ghost use Rattle.plan_finder.specs.SpentPlans.{IsPlanSpentAt};
 
 use crate::choice::{at_card, first_choice, without_card};
+use crate::memo::PlanMemo;
 use crate::searches::whole_front;
 use alphamu_core::{RootFault, SearchFault};
 use dd_solver::Solver;
@@ -28,9 +29,38 @@ use win_vectors::WinVector;
 ///
 /// `Spent` names a card of the node after which the tree is larger than the budget. It doesn't come
 /// after the plan's first card.
-#[cycle(plan)]
 pub fn plan_for<S: FrontStore>(
     alloc: Global,
+    store: &mut S,
+    solver: &mut Solver,
+    node: &Node,
+    moves: u8,
+    target: &WinVector,
+    nodes: u64,
+    cuts: bool,
+) -> Result<Plan, RootFault>
+    requires ours { bridge.is_ours node.now ≡ true }
+    requires a_move { 1 ≤ moves }
+    requires few_moves { moves ≤ most_moves }
+    requires target { IsOfFront node.now moves target.now }
+    ensures plan { IfOk result
+        (λ plan. IsChosenPlan bridge (plan_of plan) node.now moves target.now) }
+    ensures spent { (card : ℕ) → IsErrOf result (RootFault.Spent card)
+        → IsPlanSpentAt node.now moves target.now nodes card }
+    ensures grown { S.grown store.old store.new }
+{
+    let mut memo = PlanMemo::new(alloc);
+    plan_over(
+        alloc, &mut memo, store, solver, node, moves, target, nodes, cuts,
+    )
+}
+
+/// The same plan, over plans that were found already for vectors of this front or of others. They
+/// are copied in place of a search, and the memo is given more of them.
+#[cycle(plan)]
+pub fn plan_over<S: FrontStore>(
+    alloc: Global,
+    memo: &mut PlanMemo,
     store: &mut S,
     solver: &mut Solver,
     node: &Node,
@@ -56,6 +86,7 @@ pub fn plan_for<S: FrontStore>(
     let first = first_choice(alloc, store, solver, node, moves, target, nodes, cuts)?;
     match plan_below(
         alloc,
+        memo,
         store,
         solver,
         &first.child,
@@ -73,6 +104,7 @@ pub fn plan_for<S: FrontStore>(
 #[cycle(plan)]
 fn plan_below<S: FrontStore>(
     alloc: Global,
+    memo: &mut PlanMemo,
     store: &mut S,
     solver: &mut Solver,
     node: &Node,
@@ -92,13 +124,46 @@ fn plan_below<S: FrontStore>(
     if node.stops(moves) {
         Ok(Plan::Stop)
     } else if node.is_ours() {
-        match plan_for(alloc, store, solver, node, moves, vector, nodes, cuts) {
-            Ok(plan) => Ok(plan),
-            Err(fault) => Err(without_card(fault)),
-        }
+        remembered(alloc, memo, store, solver, node, moves, vector, nodes, cuts)
     } else {
-        let replies = replies(alloc, store, solver, node, moves, vector, nodes, cuts)?;
+        let replies = replies(alloc, memo, store, solver, node, moves, vector, nodes, cuts)?;
         Ok(Plan::Hear(replies))
+    }
+}
+
+// The plan for a vector of the front of a node where declarer's side plays, from the memo if it is
+// there.
+#[cycle(plan)]
+fn remembered<S: FrontStore>(
+    alloc: Global,
+    memo: &mut PlanMemo,
+    store: &mut S,
+    solver: &mut Solver,
+    node: &Node,
+    moves: u8,
+    vector: &WinVector,
+    nodes: u64,
+    cuts: bool,
+) -> Result<Plan, SearchFault>
+    requires ours { bridge.is_ours node.now ≡ true }
+    requires a_move { 1 ≤ moves }
+    requires few_moves { moves ≤ most_moves }
+    requires a_node { IsNode node.now }
+    requires vector { IsOfFront node.now moves vector.now }
+    ensures plan { IfOk result
+        (λ plan. IsChosenPlan bridge (plan_of plan) node.now moves vector.now) }
+    ensures spent { IsErrOf result SearchFault.Spent → nodes < tree_size bridge node.now moves }
+    ensures grown { S.grown store.old store.new }
+{
+    if let Some(plan) = memo.find(node, moves, vector)? {
+        return Ok(plan);
+    }
+    match plan_over(alloc, memo, store, solver, node, moves, vector, nodes, cuts) {
+        Ok(plan) => {
+            memo.keep(node, moves, vector, &plan)?;
+            Ok(plan)
+        }
+        Err(fault) => Err(without_card(fault)),
     }
 }
 
@@ -106,6 +171,7 @@ fn plan_below<S: FrontStore>(
 #[cycle(plan)]
 fn replies<S: FrontStore>(
     alloc: Global,
+    memo: &mut PlanMemo,
     store: &mut S,
     solver: &mut Solver,
     node: &Node,
@@ -133,7 +199,9 @@ fn replies<S: FrontStore>(
         let front = whole_front(alloc, store, solver, &child, moves, nodes, cuts)?;
         let part = vector.restrict(mask);
         let above = front.pick(&part).unwrap();
-        let plan = plan_below(alloc, store, solver, &child, moves, &above, nodes, cuts)?;
+        let plan = plan_below(
+            alloc, memo, store, solver, &child, moves, &above, nodes, cuts,
+        )?;
         replies.push(Reply { card, plan })?;
     }
     Ok(replies)

@@ -5,7 +5,9 @@
 
 mod choice;
 mod finder;
+mod memo;
 mod misses;
 mod searches;
 
-pub use finder::plan_for;
+pub use finder::{plan_for, plan_over};
+pub use memo::PlanMemo;

@@ -16,10 +16,10 @@ use Rattle.plan_finder.proofs.finder.+plan.Goals as goal
 
 -- ---- any node
 
-pub plan_below-plan_for-requires : goal.plan_below-plan_for-requires
-plan_below-plan_for-requires g t c κs within =
+pub plan_below-remembered-requires : goal.plan_below-remembered-requires
+plan_below-remembered-requires g t c κs within =
     let goes_on = open_at c.args.node.now c.args.moves c.stops.result c.stops.ensures c.if-stops.false in
-    (omega arith, (within, (sym c.is_ours.ensures ∙ c.if-is_ours.true, (a_move_left c.args.node.now c.args.moves goes_on, (c.requires.few_moves, c.requires.vector)))))
+    (omega arith, (within, (sym c.is_ours.ensures ∙ c.if-is_ours.true, (a_move_left c.args.node.now c.args.moves goes_on, (c.requires.few_moves, (c.requires.a_node, c.requires.vector))))))
 
 pub plan_below-replies-requires : goal.plan_below-replies-requires
 plan_below-replies-requires g t c κs within =
@@ -46,62 +46,62 @@ pub plan_below-returns-in_err-replies-clause-spent : goal.plan_below-returns-in_
 plan_below-returns-in_err-replies-clause-spent g t c = λ e.
     c.in_err-replies.ensures.spent (ap Err (passed_on c.from_residual.result c.in_err-replies.field-0.0 Spent c.from_residual.ensures.1 e))
 
-pub plan_below-returns-in-Err-clause-spent : goal.plan_below-returns-in-Err-clause-spent
-plan_below-returns-in-Err-clause-spent g t c = λ e.
+pub remembered-returns-in-Err-clause-spent : goal.remembered-returns-in-Err-clause-spent
+remembered-returns-in-Err-clause-spent g t c = λ e.
     let spent : c.without_card.result ≡ Spent = cc in
     let fault = c.without_card.ensures.only spent in
-    larger_than c.args.node.now c.args.moves c.args.vector.now c.args.nodes fault.0 c.requires.a_node (sym c.is_ours.ensures ∙ c.if-is_ours.true) (c.in-Err.ensures.spent fault.0 (ap Err fault.1))
+    larger_than c.args.node.now c.args.moves c.args.vector.now c.args.nodes fault.0 c.requires.a_node c.requires.ours (c.in-Err.ensures.spent fault.0 (ap Err fault.1))
 
 -- ---- declarer's side
 
-pub plan_for-returns-then-stops-clause-plan : goal.plan_for-returns-then-stops-clause-plan
-plan_for-returns-then-stops-clause-plan g t c =
+pub plan_over-returns-then-stops-clause-plan : goal.plan_over-returns-then-stops-clause-plan
+plan_over-returns-then-stops-clause-plan g t c =
     subst (λ p. IsChosenPlan bridge p c.args.node.now c.args.moves c.args.target.now) (sym plan_of-Stop) (stopped c.args.node.now c.args.moves (sym c.stops.ensures ∙ c.if-stops.true))
 
-pub plan_for-prove-unreachable-requires : goal.plan_for-prove-unreachable-requires
-plan_for-prove-unreachable-requires g t c =
+pub plan_over-prove-unreachable-requires : goal.plan_over-prove-unreachable-requires
+plan_over-prove-unreachable-requires g t c =
     let same = length-of_front c.args.node.now c.args.moves c.args.target.now c.requires.target in
     c.if-prove.true (c.width.ensures.value ∙ same ∙ sym c.width-2.ensures.value)
 
-pub plan_for-first_choice-requires-clause-goes_on : goal.plan_for-first_choice-requires-clause-goes_on
-plan_for-first_choice-requires-clause-goes_on g t c = open_at c.args.node.now c.args.moves c.stops.result c.stops.ensures c.if-stops.false
+pub plan_over-first_choice-requires-clause-goes_on : goal.plan_over-first_choice-requires-clause-goes_on
+plan_over-first_choice-requires-clause-goes_on g t c = open_at c.args.node.now c.args.moves c.stops.result c.stops.ensures c.if-stops.false
 
-pub plan_for-returns-in_err-first-clause-spent : goal.plan_for-returns-in_err-first-clause-spent
-plan_for-returns-in_err-first-clause-spent g t c = λ card e.
+pub plan_over-returns-in_err-first-clause-spent : goal.plan_over-returns-in_err-first-clause-spent
+plan_over-returns-in_err-first-clause-spent g t c = λ card e.
     let goes_on = open_at c.args.node.now c.args.moves c.stops.result c.stops.ensures c.if-stops.false in
     let fault = passed_on c.from_residual.result c.in_err-first.field-0.0 (RootSpent card) c.from_residual.ensures.1 e in
     too_large_first c.args.node.now c.args.moves c.args.target.now c.args.nodes card goes_on c.requires.target (c.in_err-first.ensures.spent card (ap Err fault))
 
-pub plan_for-plan_below-requires : goal.plan_for-plan_below-requires
-plan_for-plan_below-requires g t c κs within =
+pub plan_over-plan_below-requires : goal.plan_over-plan_below-requires
+plan_over-plan_below-requires g t c κs within =
     let sound = c.width-2.ensures.a_node in
     let first = c.in_ok-first.ensures.first in
     let less = fewer_after c.args.node.now c.args.moves c.args.target.now c.in_ok-first.first first sound in
     (omega arith, (within, (omega arith, (node_after c.args.node.now c.args.moves c.args.target.now c.in_ok-first.first first sound, vector_after c.args.node.now c.args.moves c.args.target.now c.in_ok-first.first first))))
 
-pub plan_for-returns-in-Ok-clause-plan : goal.plan_for-returns-in-Ok-clause-plan
-plan_for-returns-in-Ok-clause-plan g t c =
+pub plan_over-returns-in-Ok-clause-plan : goal.plan_over-returns-in-Ok-clause-plan
+plan_over-returns-in-Ok-clause-plan g t c =
     let goes_on = open_at c.args.node.now c.args.moves c.stops.result c.stops.ensures c.if-stops.false in
     let plan = play_chosen c.args.node.now c.args.moves c.args.target.now c.in_ok-first.first _ goes_on c.requires.ours c.requires.target c.in_ok-first.ensures.first c.in-Ok.ensures.plan in
     let meaning = plan_of-Play c.in_ok-first.first.card c.in_ok-new-in-Ok.field-0 ∙ ap (λ q. Play c.in_ok-first.first.card (plan_of q)) c.in_ok-new-in-Ok.ensures.ok in
     subst (λ p. IsChosenPlan bridge p c.args.node.now c.args.moves c.args.target.now) (sym meaning) plan
 
-pub plan_for-returns-clause-spent : goal.plan_for-returns-clause-spent
-plan_for-returns-clause-spent g t c = λ card e.
+pub plan_over-returns-clause-spent : goal.plan_over-returns-clause-spent
+plan_over-returns-clause-spent g t c = λ card e.
     let goes_on = open_at c.args.node.now c.args.moves c.stops.result c.stops.ensures c.if-stops.false in
     let named : c.at_card.result ≡ RootSpent card = cc in
     let fault = c.at_card.ensures.only card named in
     subst (λ card. IsPlanSpentAt c.args.node.now c.args.moves c.args.target.now c.args.nodes card) (sym fault.0)
     (too_large_below c.args.node.now c.args.moves c.args.target.now c.args.nodes c.in_ok-first.first goes_on c.requires.target c.in_ok-first.ensures.first (c.in-Err.ensures.spent (ap Err fault.1)))
 
-pub plan_for-returns-clause-grown : goal.plan_for-returns-clause-grown
-plan_for-returns-clause-grown g t c = g.met.S.FrontStore.grown_more c.args.store.now c.first_choice.new.store c.plan_below.new.store c.in_ok-first.ensures.grown c.in-Err.ensures.grown
+pub plan_over-returns-clause-grown : goal.plan_over-returns-clause-grown
+plan_over-returns-clause-grown g t c = g.met.S.FrontStore.grown_more c.args.store.now c.first_choice.new.store c.plan_below.new.store c.in_ok-first.ensures.grown c.in-Err.ensures.grown
 
-pub plan_for-returns-in-Ok-clause-grown : goal.plan_for-returns-in-Ok-clause-grown
-plan_for-returns-in-Ok-clause-grown g t c = g.met.S.FrontStore.grown_more c.args.store.now c.first_choice.new.store c.plan_below.new.store c.in_ok-first.ensures.grown c.in-Ok.ensures.grown
+pub plan_over-returns-in-Ok-clause-grown : goal.plan_over-returns-in-Ok-clause-grown
+plan_over-returns-in-Ok-clause-grown g t c = g.met.S.FrontStore.grown_more c.args.store.now c.first_choice.new.store c.plan_below.new.store c.in_ok-first.ensures.grown c.in-Ok.ensures.grown
 
-pub plan_for-returns-in_err-new-in-Ok-clause-grown : goal.plan_for-returns-in_err-new-in-Ok-clause-grown
-plan_for-returns-in_err-new-in-Ok-clause-grown g t c = g.met.S.FrontStore.grown_more c.args.store.now c.first_choice.new.store c.plan_below.new.store c.in_ok-first.ensures.grown c.in-Ok.ensures.grown
+pub plan_over-returns-in_err-new-in-Ok-clause-grown : goal.plan_over-returns-in_err-new-in-Ok-clause-grown
+plan_over-returns-in_err-new-in-Ok-clause-grown g t c = g.met.S.FrontStore.grown_more c.args.store.now c.first_choice.new.store c.plan_below.new.store c.in_ok-first.ensures.grown c.in-Ok.ensures.grown
 
 -- ---- a defender
 

@@ -4,14 +4,17 @@ use Rattle.plan_finder.proofs.Replied.{RepliedSoFar}
 use Rattle.plan_finder.proofs.finder.+plan.Given as goal
 
 -- each card is one fewer to play
-abbrev pub decreases-plan_for : goal.decreases-plan_for
-decreases-plan_for g l = 2 * cards_left l.node.now.position
+abbrev pub decreases-plan_over : goal.decreases-plan_over
+decreases-plan_over g l = 3 * cards_left l.node.now.position
+
+abbrev pub decreases-remembered : goal.decreases-remembered
+decreases-remembered g l = 3 * cards_left l.node.now.position + 1
 
 abbrev pub decreases-plan_below : goal.decreases-plan_below
-decreases-plan_below g l = 2 * cards_left l.node.now.position + 1
+decreases-plan_below g l = 3 * cards_left l.node.now.position + 2
 
 abbrev pub decreases-replies : goal.decreases-replies
-decreases-replies g l = 2 * cards_left l.node.now.position
+decreases-replies g l = 3 * cards_left l.node.now.position + 1
 
 abbrev pub invariant-replies-cards : goal.invariant-replies-cards
 invariant-replies-cards g l = record {
