@@ -1,0 +1,7 @@
+//! Tests of logs, by public calls alone.
+//! It stands on the crates that it tests, and nothing stands on it.
+//! It promises nothing: the log and its text were worked out by the laws of bridge, by hand.
+#![tactic(auto)]
+
+#[cfg(test)]
+mod logs;
