@@ -120,11 +120,11 @@ def main():
     print("all cards in 20 layouts, by a solver a layout\n" + head)
     for tricks in (5, 6, 7, 8, 9, 10):
         for strain in STRAINS:
-            report("sampling", tricks, strain, 20)
+            report("sampling", tricks, strain, 30)
     print("the tricks of a deal\n" + head)
-    for tricks in (11, 12, 13):
+    for tricks, deals in ((11, 30), (12, 30), (13, 20)):
         for strain in STRAINS:
-            report("tricks", tricks, strain, 10)
+            report("tricks", tricks, strain, deals)
 
 
 if __name__ == "__main__":
