@@ -6,6 +6,8 @@
 
 mod count;
 
+ghost use Rattle.std.specs.Prelude.{◌≤◌, length};
+
 use am_inputs::read_root;
 use am_outside::{FileShelf, Shelf, ShelfFault};
 use byte_text::Text;
@@ -18,7 +20,9 @@ use std::rt::Files;
 const LIMIT: u64 = 1_048_576;
 
 // A file, or nothing where it can't be read.
-fn text_of<R: Files>(shelf: &mut FileShelf<R>, alloc: Global, name: &str) -> Text {
+fn text_of<R: Files>(shelf: &mut FileShelf<R>, alloc: Global, name: &str) -> Text
+    ensures { length result ≤ 1048576 }
+{
     match shelf.read(alloc, name, LIMIT) {
         Ok(text) => text,
         Err(ShelfFault::Failed | ShelfFault::TooLong | ShelfFault::Memory) => Text::new(alloc),
