@@ -1,2 +1,5 @@
 pub mod RootSoFar
+pub mod Seen
 pub mod Stops
+pub mod Covered
+pub mod CardPlaces

@@ -1,6 +1,7 @@
 -- The first of the root cards: what they win, and which of them leads.
-use Rattle.std.proofs.Common.{◌≡◌, ◌∙◌, ◌<◌, ◌≤◌, ℕ, suc, true, false, Bool, Option, Some, None, Result, Err, List, [], ◌∷◌, ◌++◌, length, Contains, refl, sym, ap, subst, inl, inr, arith, append_assoc, nat_lt, if◌then◌else◌}
-use Rattle.std.proofs.lemmas.List.{append-nil}
+use Rattle.std.proofs.Common.{◌≡◌, ◌∙◌, ◌+◌, ◌<◌, ◌≤◌, ℕ, suc, true, false, Bool, Option, Some, None, Result, Err, List, [], ◌∷◌, ◌++◌, length, take, slice_get, Contains, refl, sym, ap, subst, inl, inr, arith, append_assoc, nat_lt, if◌then◌else◌}
+use Rattle.std.proofs.lemmas.List.{append-nil, length-append}
+use Rattle.std.proofs.Math.Seq.{take-append_seam}
 use Rattle.std.proofs.lemmas.List.Elements.{Contains-push_cases}
 use Rattle.std.proofs.lemmas.Bool.{ltb-true, ltb-false}
 use Rattle.win_vectors.specs.Vectors.{ones_of}
@@ -36,6 +37,11 @@ none_from : (vectors : List Vector) → ((v : Vector) → Contains vectors v →
 none_from [] h = refl
 none_from (v ∷ vs) h = absurd (h v (Contains-here v vs))
 
+-- the element after a list
+get_seam : (xs : List ℕ) (x : ℕ) (ys : List ℕ) → slice_get (xs ++ x ∷ ys) (length xs) ≡ Some x
+get_seam [] x ys = refl
+get_seam (y ∷ xs) x ys = get_seam xs x ys
+
 module _ (n : NodeValue) (below : ℕ) where
   -- so many layouts, which some vector after the card wins, and none after the cards wins more
   abbrev IsMost : List ℕ → ℕ → Type 0
@@ -54,6 +60,10 @@ module _ (n : NodeValue) (below : ℕ) where
     pub width : front.width ≡ length n.lefts
     pub fits : plain → (d : ℕ) → Contains tried d → tree_size bridge (child n d) below ≤ nodes
     pub leads : Leads best tried
+
+  -- the same, where so many cards were tried
+  abbrev pub RootAt : (nodes : ℕ) (plain : Type 0) (cards : List ℕ) (front : FrontValue) (best : Option (ℕ × ℕ)) → ℕ → Type 0
+  RootAt nodes plain cards front best place = (so : RootSoFar nodes plain cards front best) × (place ≡ length so.tried)
 
   -- ---- who leads
 
@@ -117,6 +127,10 @@ module _ (n : NodeValue) (below : ℕ) where
     leads = refl;
   }
 
+  pub root_none_at : (nodes : ℕ) (plain : Type 0) (cards : List ℕ) (front : FrontValue) → cards ≡ choices n → front.vectors ≡ [] → front.width ≡ length n.lefts → RootAt nodes plain cards front None 0
+  unfolding root_none
+  root_none_at nodes plain cards front e empty width = (root_none nodes plain cards front e empty width, refl)
+
   module _ {nodes : ℕ} {plain : Type 0} {cards : List ℕ} {front : FrontValue} {best : Option (ℕ × ℕ)} (so : RootSoFar nodes plain cards front best) where
     in_choices : (d : ℕ) → Contains so.tried d → Contains (choices n) d
     in_choices d inside = subst (λ ds. Contains ds d) (sym so.split) (Contains-append_first so.tried cards d inside)
@@ -161,6 +175,31 @@ module _ (n : NodeValue) (below : ℕ) where
       root_with m won more lead is_child found small (first, later, filled, leads) union width =
           subst (λ lead. RootSoFar nodes plain rest more (Some lead)) (sym leads) (root_more m won more first later is_child found small filled union width)
 
+      counted_more : (place : ℕ) → place ≡ length so.tried → place + 1 ≡ length (so.tried ++ card ∷ [])
+      counted_more place counted = omega (arith, length-append so.tried (card ∷ []))
+
+      -- the same, counted
+      pub root_with_at : (m : NodeValue) (won more : FrontValue) (lead : ℕ × ℕ) (place : ℕ) → place ≡ length so.tried → m ≡ child n card → IsFrontAt m below won → (plain → tree_size bridge m below ≤ nodes)
+          → (first : Vector) × (later : List Vector) × (won.vectors ≡ first ∷ later) × (lead ≡ leader best card (ones_of first))
+          → IsReduced (front.vectors ++ won.vectors) more.vectors → more.width ≡ front.width → RootAt nodes plain rest more (Some lead) (place + 1)
+      unfolding root_more
+      root_with_at m won more lead place counted is_child found small (first, later, filled, leads) union width =
+          subst (λ lead. RootAt nodes plain rest more (Some lead) (place + 1)) (sym leads)
+          (root_more m won more first later is_child found small filled union width, counted_more place counted)
+
+      pub root_below : (place : ℕ) → place ≡ length so.tried → place < length (choices n)
+      root_below place counted = omega (arith, ap length here, length-append so.tried (card ∷ rest))
+
+      -- where the card stands
+      pub root_here : (place : ℕ) → place ≡ length so.tried → slice_get (choices n) place ≡ Some card
+      root_here place counted = rw (here, counted) (get_seam so.tried card rest)
+
+      pub root_before : (place : ℕ) → place ≡ length so.tried → so.tried ≡ take place (choices n)
+      root_before place counted = rw (here, counted) (sym (take-append_seam so.tried (card ∷ rest)))
+
+      pub root_won : (place : ℕ) → place ≡ length so.tried → IsFrontOf (WinsByCard bridge n below (take place (choices n))) front.vectors
+      root_won place counted = subst (λ ds. IsFrontOf (WinsByCard bridge n below ds) front.vectors) (root_before place counted) so.won
+
       -- a card that the cards before it cover neither adds to the front nor takes the lead
       covered_leads : IsNode n → IsBelow bridge (child n card) below front.vectors → (old : Option (ℕ × ℕ)) → Leads old so.tried → Leads old (so.tried ++ card ∷ [])
       covered_leads sound covered None none =
@@ -186,6 +225,11 @@ module _ (n : NodeValue) (below : ℕ) where
             fits = λ is_plain. absurd (cut_off is_plain);
             leads = covered_leads sound covered_here best so.leads;
           }
+
+      pub root_covered_at : IsNode n → (m : NodeValue) (place : ℕ) → place ≡ length so.tried → m ≡ child n card → IsBelow bridge m below front.vectors → (plain → ⊥) → RootAt nodes plain rest front best (place + 1)
+      unfolding root_covered
+      root_covered_at sound m place counted is_child covered cut_off =
+          (root_covered sound m is_child covered cut_off, counted_more place counted)
 
       -- what a search of the card, and a vector of the front after it, ask of the code
       pub child_width : (m : NodeValue) → bridge.is_ours n ≡ true → m ≡ child n card → front.width ≡ length m.lefts

@@ -1,2 +1,4 @@
 pub mod Roots
 pub mod Leaders
+pub mod Rounds
+pub mod Plain

@@ -44,8 +44,8 @@ fn leader(best: Option<(Card, u16)>, card: Card, count: u16) -> (Card, u16)
     }
 }
 
-// Adds what is won after a card, and says which card leads then.
-fn with_card(
+/// Adds what is won after a card, and says which card leads then.
+pub fn with_card(
     front: &mut Front,
     best: Option<(Card, u16)>,
     card: Card,
@@ -63,8 +63,8 @@ fn with_card(
     Ok(leader(best, card, best_of(won)))
 }
 
-// Whether the cards so far are enough, by the front with a move less.
-fn is_enough(stop: Stop, front: &Front, best: u16, less: &Front) -> bool
+/// Whether the cards so far are enough, by the front with a move less.
+pub fn is_enough(stop: Stop, front: &Front, best: u16, less: &Front) -> bool
     requires { front.now.width ≡ less.now.width }
     ensures never { stop ≡ Stop.Never → result ≡ false }
     ensures front { stop ≡ Stop.SameFront → IsTrue result → (n : NodeValue) (moves : ℕ)
@@ -85,8 +85,8 @@ fn is_enough(stop: Stop, front: &Front, best: u16, less: &Front) -> bool
     }
 }
 
-// What was found at the root.
-fn found(front: Front, best: (Card, u16)) -> RootFront
+/// What was found at the root.
+pub fn found(front: Front, best: (Card, u16)) -> RootFront
     ensures front { result.front ≡ front }
     ensures card { result.card ≡ best.0 }
     ensures count { result.count ≡ best.1 }

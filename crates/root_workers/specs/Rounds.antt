@@ -1,0 +1,70 @@
+-- What a round asks, and what a worker may know of a root card.
+use Rattle.std.specs.Prelude.{◌≡◌, ◌≢◌, ◌<◌, ◌≤◌, ◌-◌, ℕ, true, false, List, Some, take, slice_get, length, Contains}
+use Rattle.win_vectors.specs.Fronts.{Vector, Dominates}
+use Rattle.trick_rules.specs.Nodes.{choices, child, most_moves}
+use Rattle.strategy_games.specs.Plans.{Fits, wins_vector, IsFront, tree_size}
+use Rattle.strategy_games.specs.Joins.{WinsByCard}
+use Rattle.strategy_tree.specs.Bridge.{bridge}
+use Rattle.cut_rules.specs.declared.Stop.TheVariants.{Never}
+use Rattle.cut_rules.specs.Rules.{no_cuts}
+use Rattle.front_table.specs.Proven.{IsFrontAt}
+use Rattle.shared_table.specs.declared.Pass.{Pass}
+use Rattle.shared_table.specs.Passes.{view_of}
+use Rattle.shared_table.specs.Stores.{HasGrownAt}
+use Rattle.root_workers.specs.declared.rounds.Round.{Round}
+use Rattle.root_workers.specs.declared.places.Known.{Known}
+use Rattle.root_workers.specs.declared.places.Known.TheVariants.{Exact, Below, Spent}
+use Rattle.root_workers.specs.declared.places.Place.{Place}
+use Rattle.root_workers.specs.declared.alpha.Own.{Own}
+
+-- a round at a node where declarer's side is to play, with the front with a move less where it may stop by that
+pub record IsRound (r : Round) : Type 0 where
+  pub ours : bridge.is_ours r.node.now ≡ true
+  pub goes_on : bridge.is_over r.node.now ≡ false
+  pub some_moves : 1 ≤ r.moves
+  pub few_moves : r.moves ≤ most_moves
+  pub width : r.less.now.width ≡ length r.node.now.lefts
+  pub less : r.rules.stop ≢ Never → IsFront bridge r.node.now (r.moves - 1) r.less.now.vectors
+
+-- the search has neither cuts nor a table
+pub record IsPlainRound (r : Round) : Type 0 where
+  pub cuts : r.rules ≡ no_cuts
+  pub table : r.looks ≡ false
+
+-- how many nodes the tree after a root card has
+abbrev pub size_after : Round → ℕ → ℕ
+size_after r card = tree_size bridge (child r.node.now card) (r.moves - 1)
+
+-- each of the vectors is won after one of the cards
+abbrev pub AreWonAfter : Round → List ℕ → List Vector → Type 0
+AreWonAfter r cards vectors = (v : Vector) → Contains vectors v → WinsByCard bridge r.node.now (r.moves - 1) cards v
+
+-- whatever is won after the card, something is won after one of the earlier cards that dominates it
+abbrev pub IsCoveredBefore : Round → List ℕ → ℕ → Type 0
+IsCoveredBefore r earlier card = (p : _) → Fits bridge p (child r.node.now card) (r.moves - 1)
+    → (w : Vector) × WinsByCard bridge r.node.now (r.moves - 1) earlier w × Dominates w (wins_vector bridge p (child r.node.now card))
+
+-- what is known of a card by itself and the cards before it
+abbrev pub IsKnownAfter : Round → List ℕ → ℕ → Known → Type 0
+IsKnownAfter r earlier card (Exact front) = IsFrontAt (child r.node.now card) (r.moves - 1) front × (IsPlainRound r → size_after r card ≤ r.nodes)
+IsKnownAfter r earlier card Below = IsCoveredBefore r earlier card × (r.rules ≢ no_cuts)
+IsKnownAfter r earlier card Spent = r.nodes < size_after r card
+
+-- what is known of the root card at a place, counted from 0
+pub record IsKnownAt (r : Round) (place : ℕ) (known : Known) : Type 0 where
+  pub card : ℕ
+  pub here : slice_get (choices r.node.now) place ≡ Some card
+  pub known_is : IsKnownAfter r (take place (choices r.node.now)) card known
+
+-- what is said at each place is so
+abbrev pub IsRight : Round → Place → Type 0
+IsRight r p = IsKnownAt r p.place p.known
+
+-- a pass has seen no less, and counted no less
+abbrev pub HasSeenMore : Pass → Pass → Type 0
+HasSeenMore early late = (i : ℕ) → HasGrownAt i (view_of early) (view_of late)
+
+-- a worker's own cards stand before the place `next`, and win each of the vectors
+pub record IsOwn (r : Round) (own : Own) : Type 0 where
+  pub won : AreWonAfter r (take own.next (choices r.node.now)) own.front.vectors
+  pub width : own.front.width ≡ length r.node.now.lefts

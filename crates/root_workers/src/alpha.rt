@@ -1,0 +1,149 @@
+//! What a worker knows that the cards before a root card win.
+ghost use Rattle.std.specs.Prelude.{◌≡◌, ◌≤◌, ◌-◌, ◌⊎◌, OnOk, IfOk, Contains, length, take};
+ghost use Rattle.win_vectors.specs.Fronts.{Vector};
+ghost use Rattle.trick_rules.specs.Nodes.{choices, child};
+ghost use Rattle.strategy_games.specs.Plans.{CanWin};
+ghost use Rattle.strategy_tree.specs.Bridge.{bridge};
+ghost use Rattle.front_table.specs.Entries.{most_entry_vectors};
+ghost use Rattle.shared_table.specs.Passes.{IsPassOf};
+ghost use Rattle.root_workers.specs.Rounds.{IsRound, IsOwn, AreWonAfter, HasSeenMore};
+
+use crate::rounds::Round;
+use card_sets::Card;
+use cut_rules::{Stop, same_count_stop, same_front_stop};
+use front_table::{Look, MOST_ENTRY_VECTORS};
+use pareto_fronts::Front;
+use shared_table::Pass;
+use std::alloc::AllocError;
+
+/// What a worker's own cards win: none of them stands at the place `next` or after it.
+#[derive(Drop)]
+pub struct Own {
+    pub front: Front,
+    pub next: u64,
+}
+
+// Adds the front after an earlier card, if the table has it.
+fn add_seen(
+    round: &Round,
+    pass: &mut Pass,
+    card: Card,
+    scratch: &mut Front,
+    alpha: &mut Front,
+) -> Result<(), AllocError>
+    requires round { IsRound round.now }
+    requires pass { IsPassOf round.now.table.now pass.old }
+    requires card { Contains (choices round.now.node.now) card }
+    requires room { most_entry_vectors ≤ scratch.old.room }
+    requires width { alpha.old.width ≡ length round.now.node.now.lefts }
+    ensures won { OnOk result ((v : Vector) → Contains alpha.new.vectors v
+        → Contains alpha.old.vectors v
+        ⊎ CanWin bridge (child round.now.node.now card) (round.now.moves - 1) v) }
+    ensures width { alpha.new.width ≡ alpha.old.width }
+    ensures room { most_entry_vectors ≤ scratch.new.room }
+    ensures pass { IsPassOf round.now.table.now pass.new }
+    ensures grown { HasSeenMore pass.old pass.new }
+{
+    let (child, _) = round.node.child(round.alloc, card)?;
+    scratch.reset(child.width());
+    match round.table.look(pass, &child, round.moves - 1, scratch) {
+        Look::Hit => alpha.union(scratch),
+        Look::Miss | Look::Busy => Ok(()),
+    }
+}
+
+// Adds the fronts of the first root cards that the table has.
+fn add_all_seen(
+    round: &Round,
+    pass: &mut Pass,
+    place: u32,
+    alpha: &mut Front,
+) -> Result<(), AllocError>
+    requires round { IsRound round.now }
+    requires pass { IsPassOf round.now.table.now pass.old }
+    requires width { alpha.old.width ≡ length round.now.node.now.lefts }
+    requires won { AreWonAfter round.now (take place (choices round.now.node.now))
+        alpha.old.vectors }
+    ensures won { OnOk result (AreWonAfter round.now (take place (choices round.now.node.now))
+        alpha.new.vectors) }
+    ensures width { alpha.new.width ≡ alpha.old.width }
+    ensures pass { IsPassOf round.now.table.now pass.new }
+    ensures grown { HasSeenMore pass.old pass.new }
+{
+    let mut scratch = Front::new(round.alloc, round.node.width());
+    scratch.reserve(MOST_ENTRY_VECTORS)?;
+    let mut cards = round.node.choices();
+    for earlier in 0..place {
+        let Some(card) = cards.pop_first() else {
+            return Ok(());
+        };
+        add_seen(round, pass, card, &mut scratch, alpha)?;
+    }
+    Ok(())
+}
+
+/// No card of its own yet.
+pub fn no_card(round: &Round) -> Own
+    requires { IsRound round.now }
+    ensures { IsOwn round.now result }
+{
+    Own {
+        front: Front::new(round.alloc, round.node.width()),
+        next: 0,
+    }
+}
+
+// What a worker's own cards win, if all of them stand before a place.
+fn own_before(round: &Round, place: u32, own: &Own) -> Result<Front, AllocError>
+    requires round { IsRound round.now }
+    requires own { IsOwn round.now own.now }
+    ensures won { IfOk result (λ alpha. AreWonAfter round.now
+        (take place (choices round.now.node.now)) alpha.vectors) }
+    ensures width { IfOk result (λ alpha. alpha.width ≡ length round.now.node.now.lefts) }
+{
+    if own.next > u64::from(place) {
+        return Ok(Front::new(round.alloc, round.node.width()));
+    }
+    own.front.copy()
+}
+
+/// What a worker knows that the cards before a place win: by its own searches, and by the table
+/// where the round looks into it. Nothing, where the round makes no cuts.
+pub fn known_before(
+    round: &Round,
+    pass: &mut Pass,
+    place: u32,
+    own: &Own,
+) -> Result<Front, AllocError>
+    requires round { IsRound round.now }
+    requires pass { IsPassOf round.now.table.now pass.old }
+    requires own { IsOwn round.now own.now }
+    ensures won { IfOk result (λ alpha. AreWonAfter round.now
+        (take place (choices round.now.node.now)) alpha.vectors) }
+    ensures width { IfOk result (λ alpha. alpha.width ≡ length round.now.node.now.lefts) }
+    ensures pass { IsPassOf round.now.table.now pass.new }
+    ensures grown { HasSeenMore pass.old pass.new }
+{
+    if !round.rules.bound {
+        return Ok(Front::new(round.alloc, round.node.width()));
+    }
+    let mut alpha = own_before(round, place, own)?;
+    if round.looks {
+        add_all_seen(round, pass, place, &mut alpha)?;
+        return Ok(alpha);
+    }
+    Ok(alpha)
+}
+
+/// Whether what some cards win shows that no later card changes the answer of the round.
+pub fn is_enough_before(round: &Round, alpha: &Front) -> bool
+    requires { alpha.now.width ≡ round.now.less.now.width }
+{
+    match round.rules.stop {
+        Stop::Never => false,
+        Stop::SameFront => same_front_stop(alpha, round.less),
+        Stop::SameCount => {
+            !alpha.is_empty() && same_count_stop(alpha.get(0).count(), round.less)
+        }
+    }
+}
