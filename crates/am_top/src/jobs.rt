@@ -7,6 +7,7 @@ ghost use Rattle.am_answer.specs.Stages.{IsFileRefusal, IsTaskRefusal, IsTextFor
 
 use am_answer::{Inputs, Root, Status, Work};
 use am_inputs::{read_deal, read_root};
+use am_outside::Gate;
 use byte_text::Text;
 use job_check::check_report;
 use job_fusion::sample_text;
@@ -19,15 +20,21 @@ use std::thread::Threads;
 
 // The text of a job at a root, or why there is none.
 #[tactic(auto, unfolding(am_answer::specs::Answers::task_at))]
-fn work<R: Threads + Sync>(rt: &R, alloc: Global, root: &Root, work: &Work) -> Result<Text, Status>
+fn work<R: Threads + Sync, G: Gate>(
+    rt: &R,
+    alloc: Global,
+    root: &Root,
+    work: &Work,
+    gate: &G,
+) -> Result<Text, Status>
     requires turn { has_choice root.now.kept.node ≡ true }
     requires within { IsWithin work.now }
     ensures text { IfOk result (IsTextFor (task_at root.now work.now)) }
     ensures refused { IfErr result (IsTaskRefusal (task_at root.now work.now)) }
 {
     match work {
-        Work::Solve { moves, search } => solve(alloc, root, *moves, search),
-        Work::Card { moves, search } => name_card(alloc, root, *moves, search),
+        Work::Solve { moves, search } => solve(rt, alloc, root, *moves, search, gate),
+        Work::Card { moves, search } => name_card(rt, alloc, root, *moves, search, gate),
         Work::Fusion => Ok(sample_text(rt, alloc, root)?),
         Work::Check { report } => check_report(alloc, root, report),
     }
@@ -46,19 +53,30 @@ fn list(alloc: Global, deal: &Text) -> Result<Text, Status>
 
 // Makes a problem from a number, reads it as files are read, and solves it.
 #[tactic(auto, unfolding(am_answer::specs::Answers::problem_of))]
-fn solve_made(alloc: Global, number: u64, search: &Search) -> Result<Text, Status>
+fn solve_made<R: Threads + Sync, G: Gate>(
+    rt: &R,
+    alloc: Global,
+    number: u64,
+    search: &Search,
+    gate: &G,
+) -> Result<Text, Status>
     requires { IsSearchWithinLimits search.now }
     ensures text { IfOk result (IsTextFor (problem_of number search.now)) }
     ensures refused { IfErr result (IsTaskRefusal (problem_of number search.now)) }
 {
     let made = made_problem(alloc, number)?;
     let root = read_root(alloc, &made.deal, &made.layouts)?;
-    summarize(alloc, number, &root, made.moves, search)
+    summarize(rt, alloc, number, &root, made.moves, search, gate)
 }
 
 /// The text of the job that the files lead to, or why there is none.
 #[tactic(auto, unfolding(am_answer::specs::Answers::task_in))]
-pub fn text_in<R: Threads + Sync>(rt: &R, alloc: Global, inputs: &Inputs) -> Result<Text, Status>
+pub fn text_in<R: Threads + Sync, G: Gate>(
+    rt: &R,
+    alloc: Global,
+    inputs: &Inputs,
+    gate: &G,
+) -> Result<Text, Status>
     requires { AreWithin inputs.now }
     ensures text { IfOk result (IsTextFor (task_in inputs.now)) }
     ensures refused { IfErr result (IsTaskRefusal (task_in inputs.now)) }
@@ -70,9 +88,9 @@ pub fn text_in<R: Threads + Sync>(rt: &R, alloc: Global, inputs: &Inputs) -> Res
             work: job,
         } => {
             let root = read_root(alloc, deal, layouts)?;
-            work(rt, alloc, &root, job)
+            work(rt, alloc, &root, job, gate)
         }
         Inputs::List { deal } => list(alloc, deal),
-        Inputs::Made { number, search } => solve_made(alloc, *number, search),
+        Inputs::Made { number, search } => solve_made(rt, alloc, *number, search, gate),
     }
 }

@@ -24,11 +24,12 @@ use std::alloc::Global;
 use std::thread::Threads;
 
 // The whole text of the job, or why there is none.
-fn text_for<R: Threads + Sync, S: Shelf>(
+fn text_for<R: Threads + Sync, S: Shelf, G: Gate>(
     rt: &R,
     alloc: Global,
     words: &[String],
     shelf: &mut S,
+    gate: &G,
 ) -> Result<Text, Status>
     ensures text { IfSome (S.told shelf.old) (λ files.
         IfOk result (IsTextFor (answer (texts_of words.now) files))) }
@@ -51,7 +52,7 @@ fn text_for<R: Threads + Sync, S: Shelf>(
     ensures same_files { S.told shelf.new ≡ S.told shelf.old }
 {
     match read_inputs(alloc, words, shelf) {
-        Ok(inputs) => text_in(rt, alloc, &inputs),
+        Ok(inputs) => text_in(rt, alloc, &inputs, gate),
         Err(status) => Err(status),
     }
 }
@@ -81,6 +82,9 @@ fn deliver<O: Sink, E: Sink>(text: &Text, out: &mut O, err: &mut E) -> Status
 /// order: words, the deal file, the layout file, the report, the board, the layouts, whose turn it
 /// is, the report's grammar, the work of the job, the output. A step that the job doesn't need is
 /// left out.
+///
+/// Each search of a root card stands between the gate's `enter` and `leave`. Neither the gate nor the
+/// number of workers changes a byte. The workers are joined, so it may wait.
 pub fn run<R: Threads + Sync, S: Shelf, O: Sink, E: Sink, G: Gate>(
     rt: &R,
     alloc: Global,
@@ -88,7 +92,7 @@ pub fn run<R: Threads + Sync, S: Shelf, O: Sink, E: Sink, G: Gate>(
     shelf: &mut S,
     out: &mut O,
     err: &mut E,
-    _gate: &G,
+    gate: &G,
 ) -> Status
     // The bytes written are the report that the definitions give for the files read, and so is the
     // status.
@@ -135,7 +139,7 @@ pub fn run<R: Threads + Sync, S: Shelf, O: Sink, E: Sink, G: Gate>(
 
     ensures same_files { S.told shelf.new ≡ S.told shelf.old }
 {
-    match text_for(rt, alloc, words, shelf) {
+    match text_for(rt, alloc, words, shelf, gate) {
         Ok(text) => deliver(&text, out, err),
         Err(status) => refuse(status, err),
     }

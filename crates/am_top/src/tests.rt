@@ -1,7 +1,7 @@
 //! Runs over files and sinks in memory: reports of small endings byte for byte, and each kind of
 //! refusal.
 use crate::{Status, run};
-use am_outside::{MemoryShelf, MemorySink, OpenGate};
+use am_outside::{Gate, MemoryShelf, MemorySink, OpenGate};
 use std::alloc::{AllocError, Global};
 use std::thread::Threads;
 
@@ -9,6 +9,7 @@ mod jobs;
 mod options;
 mod refusals;
 mod reports;
+mod workers;
 
 // Two spades opposite king and jack, with one of two tricks needed and North, dummy, to lead.
 const QUEEN: &str =
@@ -70,9 +71,20 @@ fn ran_over<R: Threads + Sync>(
     text: &str,
     shelf: &mut MemoryShelf,
 ) -> Result<Run, AllocError> {
+    ran_at(rt, alloc, text, shelf, &OpenGate)
+}
+
+// The same at a gate.
+fn ran_at<R: Threads + Sync, G: Gate>(
+    rt: &R,
+    alloc: Global,
+    text: &str,
+    shelf: &mut MemoryShelf,
+    gate: &G,
+) -> Result<Run, AllocError> {
     let words = words_of(alloc, text)?;
     let mut out = MemorySink::new(alloc, 10_000, 0)?;
     let mut err = MemorySink::new(alloc, 100, 0)?;
-    let status = run(rt, alloc, &words, shelf, &mut out, &mut err, &OpenGate);
+    let status = run(rt, alloc, &words, shelf, &mut out, &mut err, gate);
     Ok(Run { status, out, err })
 }

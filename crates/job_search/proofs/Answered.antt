@@ -30,13 +30,13 @@ solve-text root moves (Ok text) found is written = (found, is, written)
 solve-text root moves (Err e) found is written = tt
 
 -- the same root, once as it is and once as it is opened
-pub card-text : (opened root : Root) (moves : ℕ) (search' : Search) (card count : ℕ) (text : List ℕ) → opened ≡ root → (IsPlain search' → AllFit opened.kept.node moves search'.nodes) → IsNamedCard bridge opened.kept.node moves card
+pub card-text : (opened root : Root) (moves : ℕ) (search' : Search) (card count : ℕ) (text : List ℕ) → opened ≡ root → (IsPlain search' → AllFit root.kept.node moves search'.nodes) → IsNamedCard bridge opened.kept.node moves card
     → IsBestCount bridge opened.kept.node moves count → text ≡ card_text card count (length opened.kept.node.lefts) → IsTextFor (Ok (NamedCard root moves search')) text
 card-text opened root moves search' card count text same fits named best written =
     subst (λ (r : Root). IsTextFor (Ok (NamedCard r moves search')) text) same
-    (record { task = NamedCard opened moves search'; accepted = refl; is_text = (card, count, named, best, written); fits = fits })
+    (record { task = NamedCard opened moves search'; accepted = refl; is_text = (card, count, named, best, written); fits = subst (λ (r : Root). IsPlain search' → AllFit r.kept.node moves search'.nodes) (sym same) fits })
 
-pub made-text : (number : ℕ) (opened root : Root) (moves : ℕ) (search' : Search) (vectors : List Vector) (card count : ℕ) (text : List ℕ) → opened ≡ root → moves ≡ made_moves → (IsPlain search' → AllFit opened.kept.node moves search'.nodes)
+pub made-text : (number : ℕ) (opened root : Root) (moves : ℕ) (search' : Search) (vectors : List Vector) (card count : ℕ) (text : List ℕ) → opened ≡ root → moves ≡ made_moves → (IsPlain search' → AllFit root.kept.node moves search'.nodes)
     → IsFront bridge opened.kept.node moves vectors → IsNamedCard bridge opened.kept.node moves card → IsBestCount bridge opened.kept.node moves count
     → text ≡ made_text (record { number = number; layouts = length opened.kept.node.lefts; front = length vectors; best = count; card = card }) → IsTextFor (Ok (Problem number root search')) text
 made-text number opened root moves search' vectors card count text same asked fits front named best written =
@@ -45,5 +45,5 @@ made-text number opened root moves search' vectors card count text same asked fi
       task = Problem number opened search';
       accepted = refl;
       is_text = subst (λ m. IsMadeText number opened m text) asked (vectors, card, count, front, named, best, written);
-      fits = subst (λ m. IsPlain search' → AllFit opened.kept.node m search'.nodes) asked fits;
+      fits = subst (λ m. IsPlain search' → AllFit opened.kept.node m search'.nodes) asked (subst (λ (r : Root). IsPlain search' → AllFit r.kept.node moves search'.nodes) (sym same) fits);
     })

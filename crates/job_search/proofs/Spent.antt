@@ -1,9 +1,13 @@
 -- A search that ends with no answer.
-use Rattle.std.proofs.Common.{◌≡◌, ◌∙◌, ℕ, Result, Ok, Err, IsErrAnd, IsErrOf, refl, sym, arith}
+use Rattle.std.proofs.Common.{◌≡◌, ◌∙◌, ℕ, Result, Ok, Err, IsErrAnd, IsErrOf, refl, sym, subst, arith}
 use Rattle.trick_rules.specs.Nodes.{NodeValue}
 use Rattle.job_words.specs.declared.asks.Search.{Search}
+use Rattle.job_words.specs.Asks.{IsSearchWithinLimits}
 use Rattle.root_workers.specs.Roots.{IsSpentAt, IsFirstSpentAt, AllFit}
+use Rattle.root_workers.specs.declared.by_workers.Options.{Options}
+use Rattle.root_workers.specs.Plain as options
 use Rattle.alphamu_core.specs.declared.answers.RootFault as root
+use Rattle.am_answer.specs.declared.root.Root.{Root}
 use Rattle.am_answer.specs.Answers.{TaskValue}
 use Rattle.am_answer.specs.Endings.{IsPlain, IsSpentBy, IsSpentOn}
 use Rattle.am_answer.specs.Refusals.{root_status}
@@ -26,3 +30,26 @@ spent_later n moves search' card spent fits = record { spent = spent; first = λ
 pub passed_on : {T E : Type 0} (result : Result T E) (fault named : E) → IsErrAnd result (λ e. e ≡ fault) → IsErrOf result named → fault ≡ named
 passed_on (Ok x) fault named is e = absurd is
 passed_on (Err e) fault named is same = sym is ∙ (let inner : e ≡ named = cc in inner)
+
+-- how a root is searched, as the words ask
+abbrev pub asked : Search → Options
+asked s = record { nodes = s.nodes; workers = s.workers; table = s.table; cuts = s.cuts }
+
+-- what is said by the options of a root as it is opened is said by the words of the root as it is
+pub spent_as : (opened root : Root) → opened ≡ root → (o : Options) (s : Search) → o ≡ asked s → (moves card : ℕ) → IsSpentAt opened.kept.node moves o.nodes card → IsSpentAt root.kept.node moves s.nodes card
+spent_as opened root is o s same moves card spent =
+    subst (λ (r : Root). IsSpentAt r.kept.node moves s.nodes card) is
+    (subst (λ (p : Options). IsSpentAt opened.kept.node moves p.nodes card) same spent)
+
+pub first_as : (opened root : Root) → opened ≡ root → (o : Options) (s : Search) → o ≡ asked s → (moves card : ℕ) → (options.IsPlain o → IsFirstSpentAt opened.kept.node moves o.nodes card) → IsPlain s → IsFirstSpentAt root.kept.node moves s.nodes card
+first_as opened root is o s same moves card first plain =
+    subst (λ (r : Root). IsFirstSpentAt r.kept.node moves s.nodes card) is
+    (subst (λ (p : Options). options.IsPlain p → IsFirstSpentAt opened.kept.node moves p.nodes card) same first (record { table = plain.0; cuts = plain.1 }))
+
+pub fits_as : (opened root : Root) → opened ≡ root → (o : Options) (s : Search) → o ≡ asked s → (moves : ℕ) → (options.IsPlain o → AllFit opened.kept.node moves o.nodes) → IsPlain s → AllFit root.kept.node moves s.nodes
+fits_as opened root is o s same moves fits plain =
+    subst (λ (r : Root). AllFit r.kept.node moves s.nodes) is
+    (subst (λ (p : Options). options.IsPlain p → AllFit opened.kept.node moves p.nodes) same fits (record { table = plain.0; cuts = plain.1 }))
+
+pub workers_as : (o : Options) (s : Search) → o ≡ asked s → IsSearchWithinLimits s → options.HasWorkers o
+workers_as o s same within = subst (λ (p : Options). options.HasWorkers p) (sym same) (record { some = within.workers.0; few = within.workers.1 })

@@ -1,18 +1,19 @@
 //! The report of a root: the front with a plan for each vector, the named card and the best count.
-ghost use Rattle.std.specs.Prelude.{◌≡◌, ℕ, true, false, map, All, Ok, IfOk, IfErr, IsErrOf};
+ghost use Rattle.std.specs.Prelude.{◌≡◌, ℕ, true, map, All, Ok, IfOk, IfErr, IsErrOf};
 ghost use Rattle.strategy_games.specs.Choosing.{IsChosenPlan, IsBestCount, IsNamedCard};
 ghost use Rattle.strategy_tree.specs.Bridge.{bridge};
 ghost use Rattle.front_table.specs.Proven.{IsFrontAt};
-ghost use Rattle.root_workers.specs.Roots.{IsSpentAt, AllFit};
+ghost use Rattle.root_workers.specs.Roots.{IsSpentAt};
+ghost use Rattle.shared_table.specs.Passes.{IsPassOf};
 ghost use Rattle.job_words.specs.Asks.{IsMoves, IsSearchWithinLimits};
 ghost use Rattle.am_answer.specs.Answers.{has_choice, Report};
-ghost use Rattle.am_answer.specs.Endings.{IsPlain};
 ghost use Rattle.am_answer.specs.Reports.{IsSolveText};
 ghost use Rattle.am_answer.specs.Stages.{IsTaskRefusal, IsTextFor};
 
-use crate::table::table_of;
+use crate::table::{options_of, table_of};
 use alphamu_core::RootFault;
 use am_answer::{Root, Status, root_status};
+use am_outside::Gate;
 use am_report::{Entry, SolveAnswer, solve_text};
 use byte_text::Text;
 use dd_solver::Solver;
@@ -20,9 +21,10 @@ use front_table::{FrontStore, NoStore};
 use job_words::Search;
 use pareto_fronts::Front;
 use plan_finder::{PlanMemo, plan_over};
-use root_workers::{RootFront, root_front};
-use shared_table::SharedStore;
+use root_workers::{RootFront, front_by_workers};
+use shared_table::{Pass, SharedStore, SharedTable};
 use std::alloc::Global;
+use std::thread::Threads;
 use trick_rules::Node;
 
 // Each vector of the front, with the plan for it. The plans have many parts in common, which are
@@ -103,55 +105,70 @@ fn report<S: FrontStore>(
     Ok(text)
 }
 
-// The report over a store, which is blind where the search has no table. The plans are found over
-// the same store.
-fn solve_over<S: FrontStore>(
+// The report of what was found, where the plans are found over the table that the search had, if it
+// had one.
+fn report_over(
     alloc: Global,
-    store: &mut S,
+    table: &SharedTable,
+    pass: &mut Pass,
     root: &Root,
     moves: u8,
     search: &Search,
-) -> Result<Text, Status>
+    found: RootFront,
+) -> Result<Text, RootFault>
+    requires pass { IsPassOf table.now pass.old }
     requires turn { has_choice root.now.kept.node ≡ true }
     requires moves { IsMoves moves }
-    requires blind { search.now.table ≡ false → S.blind ≡ true }
-    ensures text { IfOk result (IsTextFor (Ok (Report root.now moves search.now))) }
-    ensures refused { IfErr result (IsTaskRefusal (Ok (Report root.now moves search.now))) }
+    requires front { IsFrontAt root.now.kept.node moves found.front }
+    requires card { IsNamedCard bridge root.now.kept.node moves found.card }
+    requires count { IsBestCount bridge root.now.kept.node moves found.count }
+    ensures text { IfOk result (IsSolveText root.now moves) }
+    ensures spent { (card : ℕ) → IsErrOf result (RootFault.Spent card)
+        → IsSpentAt root.now.kept.node moves search.now.nodes card }
 {
     let mut solver = Solver::new(alloc);
-    let found = match root_front(
-        alloc,
-        store,
-        &mut solver,
-        &root.kept.node,
-        moves,
-        search.nodes,
-        search.cuts,
-    ) {
-        Ok(found) => found,
-        Err(fault) => return Err(root_status(fault)),
-    };
-    match report(alloc, store, &mut solver, root, moves, search, found) {
-        Ok(text) => Ok(text),
-        Err(fault) => Err(root_status(fault)),
+    if search.table {
+        let mut store = SharedStore::new(table, pass);
+        report(alloc, &mut store, &mut solver, root, moves, search, found)
+    } else {
+        report(alloc, &mut NoStore, &mut solver, root, moves, search, found)
     }
 }
 
 /// The report of a root, by so many moves of declarer's side. Refused with `Spent` at a root card
 /// whose tree has more nodes than a search may enter, in a plain search the first such card, or with
-/// `Memory`.
-pub fn solve(alloc: Global, root: &Root, moves: u8, search: &Search) -> Result<Text, Status>
+/// `Memory`. The workers and the gate change nothing of it.
+pub fn solve<R: Threads + Sync, G: Gate>(
+    rt: &R,
+    alloc: Global,
+    root: &Root,
+    moves: u8,
+    search: &Search,
+    gate: &G,
+) -> Result<Text, Status>
     requires turn { has_choice root.now.kept.node ≡ true }
     requires moves { IsMoves moves }
     requires limits { IsSearchWithinLimits search.now }
     ensures text { IfOk result (IsTextFor (Ok (Report root.now moves search.now))) }
     ensures refused { IfErr result (IsTaskRefusal (Ok (Report root.now moves search.now))) }
 {
-    if search.table {
-        let (table, mut pass) = table_of(alloc, search)?;
-        let mut store = SharedStore::new(&table, &mut pass);
-        solve_over(alloc, &mut store, root, moves, search)
-    } else {
-        solve_over(alloc, &mut NoStore, root, moves, search)
+    let options = options_of(search);
+    let (table, mut pass) = table_of(alloc, search)?;
+    let found = match front_by_workers(
+        rt,
+        alloc,
+        &root.kept.node,
+        moves,
+        &options,
+        &table,
+        &mut pass,
+        gate,
+    ) {
+        Ok(found) => found,
+        Err(fault) => return Err(root_status(fault)),
+    };
+    match report_over(alloc, &table, &mut pass, root, moves, search, found) {
+        Ok(text) => Ok(text),
+        Err(fault) => Err(root_status(fault)),
     }
 }
