@@ -7,6 +7,10 @@
 #[cfg(test)]
 mod endings;
 #[cfg(test)]
+mod gates;
+#[cfg(test)]
+mod roots;
+#[cfg(test)]
 mod tables;
 #[cfg(test)]
 mod threads;
