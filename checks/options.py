@@ -1,10 +1,11 @@
 #!/usr/bin/env python3
-"""options.py [--jobs N] [--seconds N] [--only PATTERN] [PROGRAM]
+"""options.py [--jobs N] [--seconds N] [--only PATTERN] [--whole] [PROGRAM]
 
-Runs a program on each case in cases/ whose job searches, with each choice of the options on how to search, and compares
-the output wherever the case expects an output and the run is done. Where no program is named it is ./alphamu, as for
-cases.py. Prints the runs that wrote something else, or that ended otherwise than done or spent. The exit status is 0
-only where there is none, and some run of each choice was done.
+Runs a program on each case in cases/ whose job searches, with choices of the options on how to search, and compares
+the output wherever the case expects an output and the run is done. Each case is run with each choice for one worker,
+and with two of the choices for several workers, which go round from case to case; with --whole each is run with all.
+Where no program is named it is ./alphamu, as for cases.py. Prints the runs that wrote something else, or that ended
+otherwise than done or spent. The exit status is 0 only where there is none, and some run of each choice was done.
 """
 import argparse
 import fnmatch
@@ -14,12 +15,16 @@ from concurrent.futures import ThreadPoolExecutor
 
 from cases import LAUNCHER, expected, lacks_program, names_of_cases, run, words_of
 
-CHOICES = [
+# A table of one entry stands for a table that is always full.
+ONE_WORKER = [
     [b"--no-cuts"],
     [b"--no-table"],
     [b"--no-cuts", b"--no-table"],
     [b"--shards", b"1", b"--room", b"1"],
 ]
+SEVERAL_WORKERS = [[b"--workers", workers] + choice for workers in (b"2", b"4", b"64")
+                   for choice in [[], *ONE_WORKER, [b"--no-cuts", b"--shards", b"1", b"--room", b"1"]]]
+CHOICES = ONE_WORKER + SEVERAL_WORKERS
 SEARCHES = (b"solve", b"card", b"made")
 DONE, SPENT = 0, 7
 
@@ -37,8 +42,16 @@ def job_of(words):
 def is_fit(case, choice):
     """Whether the case is done, searches, and has none of the options yet."""
     words = words_of(case)
-    given = {word.split(b"=")[0] for word in words}
+    given = {word.split(b"=")[0] for word in words if word.startswith(b"--")}
     return expected(case)[2] == DONE and job_of(words) in SEARCHES and not given & set(choice)
+
+
+def choices_for(place, whole):
+    """The choices for the case at a place."""
+    if whole:
+        return CHOICES
+    turn = 2 * place % len(SEVERAL_WORKERS)
+    return ONE_WORKER + SEVERAL_WORKERS[turn:turn + 2]
 
 
 def judge(program, case, choice, seconds):
@@ -58,6 +71,7 @@ def main():
     parser.add_argument("--jobs", type=int, default=len(os.sched_getaffinity(0)))
     parser.add_argument("--seconds", type=float, default=300)
     parser.add_argument("--only", default="*", metavar="PATTERN")
+    parser.add_argument("--whole", action="store_true")
     given = parser.parse_args()
     lacking = lacks_program() if given.program == LAUNCHER else None
     if lacking:
@@ -65,7 +79,9 @@ def main():
         return 1
     program = os.path.abspath(given.program)
     names = fnmatch.filter(names_of_cases(), given.only)
-    runs = [(case, choice) for choice in CHOICES for case in names if is_fit(case, choice)]
+    searched = [case for case in names if is_fit(case, [])]
+    runs = [(case, choice) for place, case in enumerate(searched) for choice in choices_for(place, given.whole)
+            if is_fit(case, choice)]
     with ThreadPoolExecutor(given.jobs) as pool:
         told = list(pool.map(lambda one: judge(program, *one, given.seconds), runs))
     wrong = [line for _, line in told if line]
