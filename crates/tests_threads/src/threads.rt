@@ -103,6 +103,33 @@ fn put_by_four<R: Threads + Sync>(
     pass
 }
 
+// Eight threads put all entries.
+fn put_by_eight<R: Threads + Sync>(
+    rt: &R,
+    alloc: Global,
+    table: &SharedTable,
+    mut pass: Pass,
+    node: &Node,
+) -> Pass
+    requires { IsPassOf table.now pass }
+    ensures { IsPassOf table.now result }
+{
+    let other = table.split(&mut pass);
+    let (mut pass, other) = thread::join(
+        rt,
+        move || -> Pass
+            requires { IsSync R.row × IsPassOf table.now pass }
+            ensures { IsPassOf table.entry.now result }
+        { put_by_four(rt, alloc, table, pass, node) },
+        move || -> Pass
+            requires { IsSync R.row × IsPassOf table.now other }
+            ensures { IsPassOf table.entry.now result }
+        { put_by_four(rt, alloc, table, other, node) },
+    );
+    table.join(&mut pass, other);
+    pass
+}
+
 // How many entries of the node the table has, with each number of moves.
 fn found(
     alloc: Global,
@@ -147,11 +174,35 @@ fn two_threads_on_one_shard(rt: HostRuntime) -> Result<(), Fail> {
 }
 
 #[test]
-fn four_threads_on_many_shards(rt: HostRuntime) -> Result<(), Fail> {
+fn two_threads_on_many_shards(rt: HostRuntime) -> Result<(), Fail> {
     let alloc = rt.alloc();
     let node = after_two(&rt, alloc)?;
     let (table, pass) = SharedTable::new(alloc, 16, 64)?;
-    let pass = put_by_four(&rt, alloc, &table, pass, &node);
+    let pass = put_by_two(&rt, alloc, &table, pass, &node);
+    let mut pass = put_all(alloc, &table, pass, &node);
+    assert_eq!(rt; found(alloc, &table, &mut pass, &node)?, 8);
+    assert_eq!(rt; entries_of(&table.close(pass)?), 8);
+    Ok(())
+}
+
+#[test]
+fn eight_threads_on_one_shard(rt: HostRuntime) -> Result<(), Fail> {
+    let alloc = rt.alloc();
+    let node = after_two(&rt, alloc)?;
+    let (table, pass) = SharedTable::new(alloc, 1, 64)?;
+    let pass = put_by_eight(&rt, alloc, &table, pass, &node);
+    let mut pass = put_all(alloc, &table, pass, &node);
+    assert_eq!(rt; found(alloc, &table, &mut pass, &node)?, 8);
+    assert_eq!(rt; entries_of(&table.close(pass)?), 8);
+    Ok(())
+}
+
+#[test]
+fn eight_threads_on_many_shards(rt: HostRuntime) -> Result<(), Fail> {
+    let alloc = rt.alloc();
+    let node = after_two(&rt, alloc)?;
+    let (table, pass) = SharedTable::new(alloc, 16, 64)?;
+    let pass = put_by_eight(&rt, alloc, &table, pass, &node);
     let mut pass = put_all(alloc, &table, pass, &node);
     assert_eq!(rt; found(alloc, &table, &mut pass, &node)?, 8);
     assert_eq!(rt; entries_of(&table.close(pass)?), 8);
