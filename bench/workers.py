@@ -1,0 +1,83 @@
+#!/usr/bin/env python3
+"""workers.py [RUNS]
+
+Times alphamu's job `card` with 1, 2 and 4 workers, in one run on one machine, and prints ratios: the best of RUNS runs (default 3).
+
+- Without cuts, on an ending with eight root cards of like size: two in each suit, and the suits alike. Wall clock with one worker to that
+  with 2 and 4.
+- With cuts, on random endings: the same, and the time of all processors with 4 workers to that with one. Cuts spare later cards by what
+  earlier ones have shown, so workers side by side do more in all.
+
+The job is `card`, since what follows the search in `solve`, a plan for each vector, has one worker. On a machine with fewer than four
+processors, or one that does other work, the ratios say little: it prints how many processors there are and how much other work waits.
+
+The program must be built: ./build."""
+import os
+import pathlib
+import random
+import resource
+import subprocess
+import sys
+import tempfile
+import time
+
+from search import random_ending
+
+PROGRAM = pathlib.Path(__file__).resolve().parent.parent / "crates" / "alphamu" / "out" / "alphamu"
+RANKS = "AKQJT98765432"
+# Tricks, layouts, moves and seeds of the random endings.
+RANDOM = [(8, 20, 6, seed) for seed in (1, 2, 3, 4)]
+
+
+def hand(cards):
+    return ".".join("".join(sorted((card[1] for card in cards if card[0] == suit), key=RANKS.index)) for suit in "SHDC")
+
+
+def eight_cards(moves):
+    """Eight tricks at no trump: dummy leads from A5 in each suit, South has K4, and the defenders' sixteen cards are drawn."""
+    draws, unseen, layouts = random.Random(7), [suit + rank for suit in "SHDC" for rank in "QJ97"], set()
+    while len(layouts) < 20:
+        draws.shuffle(unseen)
+        layouts.add(f"N:{'.'.join(['A5'] * 4)} {hand(unseen[:8])} {'.'.join(['K4'] * 4)} {hand(unseen[8:])}\n")
+    deal = f'[Deal "N:{".".join(["A5"] * 4)} - {".".join(["K4"] * 4)} -"]\n[Declarer "S"]\n[Contract "1NT"]\n[EndNeed "7"]\n[EndLead "N"]\n'
+    return "eight like cards", deal, "".join(sorted(layouts)), moves
+
+
+def timed(words):
+    """Seconds by the wall clock and of all processors, and what was printed."""
+    before, start = resource.getrusage(resource.RUSAGE_CHILDREN), time.monotonic()
+    done = subprocess.run([str(word) for word in words], capture_output=True, text=True)
+    wall, after = time.monotonic() - start, resource.getrusage(resource.RUSAGE_CHILDREN)
+    if done.returncode != 0:
+        sys.exit(f"{words}: status {done.returncode}, {done.stderr}")
+    return wall, after.ru_utime - before.ru_utime, done.stdout
+
+
+def row(name, deal, layouts, moves, more, runs):
+    """Prints the ratios of an ending."""
+    with tempfile.TemporaryDirectory() as folder:
+        files = pathlib.Path(folder) / "deal.pbn", pathlib.Path(folder) / "layouts.lay"
+        files[0].write_text(deal)
+        files[1].write_text(layouts)
+        words = [PROGRAM, "--job", "card", "--deal", files[0], "--layouts", files[1], "--moves", moves, "--nodes", 2 ** 60, *more]
+        told = {workers: [timed([*words, "--workers", workers]) for _ in range(runs)] for workers in (1, 2, 4)}
+    if len({out for runs_of in told.values() for _, _, out in runs_of}) != 1:
+        sys.exit(f"{name}: the runs print different bytes")
+    wall = {workers: min(it[0] for it in runs_of) for workers, runs_of in told.items()}
+    user = {workers: min(it[1] for it in runs_of) for workers, runs_of in told.items()}
+    print("%-20s%6s%7d%10.2f s%10.2f%10.2f%12.2f" % (
+        name, "no" if more else "yes", moves, wall[1], wall[1] / wall[2], wall[1] / wall[4], user[4] / user[1]), flush=True)
+
+
+def main():
+    runs = int(sys.argv[1]) if len(sys.argv) > 1 else 3
+    print(f"{os.cpu_count()} processors, {os.getloadavg()[0]:.1f} processes at work or waiting before the run")
+    print("ending                cuts  moves  one worker  2 workers 4 workers  user, 4 to 1")
+    row(*eight_cards(6), ["--no-cuts"], runs)
+    for tricks, layouts, moves, seed in RANDOM:
+        ending = random_ending(tricks, layouts, moves, seed)
+        row(ending.name, ending.deal, ending.layouts, moves, [], runs)
+
+
+if __name__ == "__main__":
+    main()
