@@ -65,7 +65,7 @@ def main():
     runs = int(sys.argv[1]) if len(sys.argv) > 1 else 5
     THEIRS.parent.mkdir(exist_ok=True)
     subprocess.run(["g++", "-O2", "-o", THEIRS, HERE / "store_baseline.cpp"], check=True)
-    subprocess.run(["rt", "run"], cwd=CRATE, check=True, stdout=subprocess.DEVNULL, stderr=subprocess.DEVNULL)
+    subprocess.run(["rt", "run", "--", "local", "1", "1", "hits"], cwd=CRATE, check=True, stdout=subprocess.DEVNULL, stderr=subprocess.DEVNULL)
     print_looks(runs)
     with tempfile.TemporaryDirectory() as folder:
         print_entries(pathlib.Path(folder))
