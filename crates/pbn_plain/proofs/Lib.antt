@@ -1,0 +1,10 @@
+pub mod Runs
+pub mod Quoted
+pub mod Scanned
+pub mod Bytes
+pub mod Items
+pub mod Lines
+pub mod Groups
+pub mod Texts
+pub mod ReadBack
+pub mod ExampleRead

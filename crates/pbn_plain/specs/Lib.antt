@@ -1,0 +1,4 @@
+pub mod PlainText
+pub mod WellWritten
+pub mod Numbered
+pub mod Example
