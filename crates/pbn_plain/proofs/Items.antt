@@ -10,7 +10,7 @@ use Rattle.pbn_text.specs.declared.fault.Syntax.TheVariants.{OpenBrace}
 use Rattle.pbn_text.specs.Strings.{string_len}
 use Rattle.pbn_text.specs.Pieces.{Piece, passed, tag, token, fault, ahead_of, is_name_byte, ends_name, ends_token, comment_ahead, string_ahead, closed_tag, quoted_tag, named_tag, tag_ahead, token_ahead, in_line_ahead, past_line, piece_ahead}
 use Rattle.pbn_plain.specs.PlainText.{PlainTag, PlainItem, blank, tag_pair, word, quoted, comment, escaped, string_text, tag_text, item_text}
-use Rattle.pbn_plain.specs.WellWritten.{is_line_byte, is_word_byte, is_comment_byte, is_run, is_plain_tag, is_plain_item}
+use Rattle.pbn_plain.specs.WellWritten.{is_line_byte, is_word_byte, is_comment_byte, is_name_letter, begins_with_percent, is_run, is_plain_tag, is_plain_item}
 use Rattle.pbn_plain.proofs.Runs.{stops, lacks, position-behind, before-behind, rest-behind, after_blanks-behind, drop-past, all_weaker}
 use Rattle.pbn_plain.proofs.Quoted.{string_len-escaped, characters-back}
 use Rattle.pbn_plain.proofs.Bytes.{blank-ends_name, name-no_blank, name-stays, word-stays, comment-stays, InToken, in_token}
@@ -105,20 +105,20 @@ value-read line byte bytes value blanks rest each each_blank =
 tag-read : (line : ℕ) (pair : PlainTag) (rest : List ℕ) → is_plain_tag pair ≡ true → tag_ahead line (tag_rest pair rest) ≡ ahead_of (tag pair.name pair.value line) rest
 unfolding tag_ahead
 tag-read line pair rest plain =
-    let halves = and_parts (is_run is_name_byte pair.name && list_all is_line_byte pair.value) (list_all is_blank pair.before_name && (list_all is_blank pair.before_value && list_all is_blank pair.before_end)) plain in
-    let one = and_parts (is_run is_name_byte pair.name) (list_all is_line_byte pair.value) halves.0 in
+    let halves = and_parts (is_run is_name_letter pair.name && list_all is_line_byte pair.value) (list_all is_blank pair.before_name && (list_all is_blank pair.before_value && list_all is_blank pair.before_end)) plain in
+    let one = and_parts (is_run is_name_letter pair.name) (list_all is_line_byte pair.value) halves.0 in
     let two = and_parts (list_all is_blank pair.before_name) (list_all is_blank pair.before_value && list_all is_blank pair.before_end) halves.1 in
     let three = and_parts (list_all is_blank pair.before_value) (list_all is_blank pair.before_end) two.1 in
     named pair.name one.0 one.1 two.0 three.0 three.1 where
-      named : (name : List ℕ) → is_run is_name_byte name ≡ true → list_all is_line_byte pair.value ≡ true → list_all is_blank pair.before_name ≡ true → list_all is_blank pair.before_value ≡ true → list_all is_blank pair.before_end ≡ true
+      named : (name : List ℕ) → is_run is_name_letter name ≡ true → list_all is_line_byte pair.value ≡ true → list_all is_blank pair.before_name ≡ true → list_all is_blank pair.before_value ≡ true → list_all is_blank pair.before_end ≡ true
           → tag_ahead line (pair.before_name ++ (name ++ (pair.before_value ++ (34 ∷ (escaped pair.value ++ (34 ∷ (pair.before_end ++ (93 ∷ rest)))))))) ≡ ahead_of (tag name pair.value line) rest
       named [] run value a b c = absurd cc
       named (byte ∷ bytes) run value a b c =
           let behind = escaped pair.value ++ (34 ∷ (pair.before_end ++ (93 ∷ rest))) in
           let tail = pair.before_value ++ (34 ∷ behind) in
-          let each = (and_parts (nat_lt 0 (length (byte ∷ bytes))) (list_all is_name_byte (byte ∷ bytes)) run).1 in
-          let none : lacks ends_name (byte ∷ bytes) ≡ true = all_weaker is_name_byte (λ x. not (ends_name x)) name-stays (byte ∷ bytes) each in
-          let first = (and_parts (is_name_byte byte) (list_all is_name_byte bytes) each).0 in
+          let each = (and_parts (nat_lt 0 (length (byte ∷ bytes))) (list_all is_name_letter (byte ∷ bytes)) run).1 in
+          let none : lacks ends_name (byte ∷ bytes) ≡ true = all_weaker is_name_letter (λ x. not (ends_name x)) name-stays (byte ∷ bytes) each in
+          let first = (and_parts (is_name_letter byte) (list_all is_name_letter bytes) each).0 in
           let at = after_name pair.before_value behind b in
           let start : after_blanks (pair.before_name ++ (byte ∷ (bytes ++ tail))) ≡ byte ∷ (bytes ++ tail) = after_blanks-behind pair.before_name byte (bytes ++ tail) a (name-no_blank byte first) in
           ap (λ (text : List ℕ). named_tag line (before_first ends_name text) (after_blanks (drop (position_or_len ends_name text) text))) start

@@ -1,6 +1,6 @@
 -- Lines that are written are read piece by piece.
-use Rattle.std.proofs.Common.{◌≡◌, ℕ, Bool, true, false, not, ◌&&◌, cond, List, [], ◌∷◌, ◌++◌, length, take, flat_map, refl, ap, sym, ◌∙◌, arith, append_assoc}
-use Rattle.std.specs.Prelude.{nat_lt}
+use Rattle.std.proofs.Common.{◌≡◌, ℕ, Bool, true, false, not, ◌&&◌, ◌||◌, cond, List, [], ◌∷◌, ◌++◌, length, take, flat_map, refl, ap, sym, ◌∙◌, arith, append_assoc}
+use Rattle.std.specs.Prelude.{◌==◌, nat_lt}
 use Rattle.std.specs.List.{list_all, position_or_len, after_first}
 use Rattle.std.proofs.lemmas.Bool.{and_parts, and_left, and_right, not-true, lt-ltb}
 use Rattle.std.proofs.lemmas.List.Sums.{sum_by-append}
@@ -9,7 +9,7 @@ use Rattle.byte_text.specs.Lines.{is_line_end, line_of}
 use Rattle.byte_text.proofs.Places.{position_or_len-cons}
 use Rattle.pbn_text.specs.Pieces.{Piece, passed, game_end, Ahead, ahead_of, ends_token, past_line, piece_ahead, in_line_ahead, is_skipped_line, is_blank_line, pieces}
 use Rattle.pbn_plain.specs.PlainText.{PlainItem, blank, tag_pair, word, quoted, comment, PlainLine, items_line, commented, skipped, escaped, string_text, item_text, line_text}
-use Rattle.pbn_plain.specs.WellWritten.{is_line_byte, is_word_byte, is_run, is_plain_item, is_word, is_blank_item, are_apart, are_plain_items, is_plain_line}
+use Rattle.pbn_plain.specs.WellWritten.{is_line_byte, is_word_byte, is_run, is_plain_item, is_word, is_blank_item, are_apart, are_plain_items, is_plain_line, begins_with_percent}
 use Rattle.pbn_plain.specs.Numbered.{line_after}
 use Rattle.pbn_plain.proofs.Runs.{stops, lacks, before-behind, rest-behind, after-behind, all_weaker}
 use Rattle.pbn_plain.proofs.Scanned.{front_after, front_after-append, one_piece, front_inside}
@@ -115,6 +115,13 @@ kept_line : (xs rest : List ℕ) → is_skipped_line xs ≡ false → is_skipped
 kept_line [] rest first behind = behind
 kept_line (x ∷ xs) rest first behind = first
 
+percent_first : (text : List ℕ) → is_skipped_line text ≡ begins_with_percent text
+percent_first [] = refl
+percent_first (byte ∷ rest) = either (byte == 37) where
+  either : (b : Bool) → b ≡ (b || false)
+  either true = refl
+  either false = refl
+
 from_front : (line : ℕ) (text : List ℕ) → is_skipped_line text ≡ false → is_blank_line text ≡ false → pieces true line 0 text ≡ pieces false line 0 text
 unfolding pieces
 from_front line [] kept ink = refl
@@ -125,9 +132,9 @@ front_read : (line : ℕ) (items : List PlainItem) (rest : List ℕ) → are_pla
     → pieces true line 0 (flat_map item_text items ++ rest) ≡ items_pieces line items ++ pieces false (line_after line (flat_map item_text items)) 0 rest
 front_read line items rest plain at kept ink =
     let text = flat_map item_text items in
-    let one = and_parts (list_all is_plain_item items) (are_apart items && not (is_skipped_line text)) plain in
-    let two = and_parts (are_apart items) (not (is_skipped_line text)) one.1 in
-    from_front line (text ++ rest) (kept_line text rest (not-true (is_skipped_line text) two.1) kept) (has_ink items rest one.0 ink)
+    let one = and_parts (list_all is_plain_item items) (are_apart items && not (begins_with_percent text)) plain in
+    let two = and_parts (are_apart items) (not (begins_with_percent text)) one.1 in
+    from_front line (text ++ rest) (kept_line text rest (percent_first text ∙ not-true (begins_with_percent text) two.1) kept) (has_ink items rest one.0 ink)
     ∙ items_read line items rest one.0 two.0 at
 
 -- ---- a line

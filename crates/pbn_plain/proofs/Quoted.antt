@@ -7,6 +7,7 @@ use Rattle.byte_text.specs.Lines.{is_line_end}
 use Rattle.pbn_text.specs.Strings.{string_len, unescaped}
 use Rattle.pbn_plain.specs.PlainText.{needs_backslash, escaped}
 use Rattle.pbn_plain.specs.WellWritten.{is_text_byte, is_line_byte}
+use Rattle.pbn_plain.proofs.Bytes.{IsItself, is_itself}
 use Rattle.pbn_plain.proofs.Runs.{take-behind}
 
 quote_first : (rest : List ℕ) → string_len (34 ∷ rest) ≡ Some 1
@@ -37,8 +38,8 @@ string_len-escaped (byte ∷ characters) rest each =
     cond_both (needs_backslash byte) (92 ∷ byte ∷ more) (byte ∷ more) (λ text. string_len (text ++ 34 ∷ rest) ≡ Some (length text + 1))
     (λ taken. taken_first byte (more ++ 34 ∷ rest) inside ∙ ap (option_map (λ len. len + 2)) so_far ∙ ap (λ (n : ℕ). Some n) (omega arith))
     (λ other.
-    let two = or_parts (byte == 34) (byte == 92) other in
-    other_first byte (more ++ 34 ∷ rest) two.0 inside two.1 ∙ ap (option_map (λ len. len + 1)) so_far ∙ ap (λ (n : ℕ). Some n) (omega arith))
+    let itself = is_itself byte other in
+    other_first byte (more ++ 34 ∷ rest) itself.quote inside itself.backslash ∙ ap (option_map (λ len. len + 1)) so_far ∙ ap (λ (n : ℕ). Some n) (omega arith))
 
 kept_first : (byte : ℕ) (rest : List ℕ) → (byte == 92) ≡ false → unescaped (byte ∷ rest) ≡ byte ∷ unescaped rest
 unfolding unescaped
@@ -58,7 +59,7 @@ unescaped-escaped (byte ∷ characters) =
     let so_far = ap (λ rest. byte ∷ rest) (unescaped-escaped characters) in
     cond_both (needs_backslash byte) (92 ∷ byte ∷ more) (byte ∷ more) (λ text. unescaped text ≡ byte ∷ characters)
     (λ taken. unescaped_first byte more ∙ so_far)
-    (λ other. kept_first byte more (or_parts (byte == 34) (byte == 92) other).1 ∙ so_far)
+    (λ other. kept_first byte more (is_itself byte other).backslash ∙ so_far)
 
 -- the characters of a string that was written, and what follows it
 pub characters-back : (characters rest : List ℕ) (len : ℕ) → len ≡ length (escaped characters) + 1 → unescaped (take (len - 1) (escaped characters ++ 34 ∷ rest)) ≡ characters

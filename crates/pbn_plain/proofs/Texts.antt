@@ -12,10 +12,10 @@ use Rattle.pbn_text.specs.declared.fault.Syntax.TheVariants.{NotText}
 use Rattle.pbn_text.specs.Pieces.{is_name_byte}
 use Rattle.pbn_text.specs.Grammar.{is_no_text, no_text_fault, without_mark}
 use Rattle.pbn_plain.specs.PlainText.{PlainTag, PlainItem, blank, tag_pair, word, quoted, comment, PlainLine, items_line, commented, skipped, PlainGroup, needs_backslash, escaped, string_text, tag_text, item_text, line_text, group_text}
-use Rattle.pbn_plain.specs.WellWritten.{is_text_byte, is_line_byte, is_word_byte, is_comment_byte, is_run, is_plain_tag, is_plain_item, are_apart, are_plain_items, is_blank_item, is_plain_line, items_of, has_tag_first, is_plain_group}
+use Rattle.pbn_plain.specs.WellWritten.{is_text_byte, is_line_byte, is_word_byte, is_comment_byte, is_name_letter, begins_with_percent, is_run, is_plain_tag, is_plain_item, are_apart, are_plain_items, is_blank_item, is_plain_line, items_of, has_tag_first, is_plain_group}
 use Rattle.pbn_text.specs.Pieces.{is_skipped_line}
 use Rattle.pbn_plain.proofs.Runs.{position-behind, all_weaker}
-use Rattle.pbn_plain.proofs.Bytes.{blank-text, name-text, line-text, word-text, comment-text}
+use Rattle.pbn_plain.proofs.Bytes.{text-allowed, blank-text, name-text, line-text, word-text, comment-text}
 use Rattle.pbn_plain.proofs.Groups.{plain_parts}
 
 -- ---- each byte may stand in a text
@@ -47,11 +47,11 @@ blanks_text blanks each = all_weaker is_blank is_text_byte blank-text blanks eac
 
 tag_is_text : (pair : PlainTag) → is_plain_tag pair ≡ true → is_text (tag_text pair) ≡ true
 tag_is_text pair plain =
-    let halves = and_parts (is_run is_name_byte pair.name && list_all is_line_byte pair.value) (list_all is_blank pair.before_name && (list_all is_blank pair.before_value && list_all is_blank pair.before_end)) plain in
-    let one = and_parts (is_run is_name_byte pair.name) (list_all is_line_byte pair.value) halves.0 in
+    let halves = and_parts (is_run is_name_letter pair.name && list_all is_line_byte pair.value) (list_all is_blank pair.before_name && (list_all is_blank pair.before_value && list_all is_blank pair.before_end)) plain in
+    let one = and_parts (is_run is_name_letter pair.name) (list_all is_line_byte pair.value) halves.0 in
     let two = and_parts (list_all is_blank pair.before_name) (list_all is_blank pair.before_value && list_all is_blank pair.before_end) halves.1 in
     let three = and_parts (list_all is_blank pair.before_value) (list_all is_blank pair.before_end) two.1 in
-    let name = all_weaker is_name_byte is_text_byte name-text pair.name (and_parts (nat_lt 0 (length pair.name)) (list_all is_name_byte pair.name) one.0).1 in
+    let name = all_weaker is_name_letter is_text_byte name-text pair.name (and_parts (nat_lt 0 (length pair.name)) (list_all is_name_letter pair.name) one.0).1 in
     let start = 91 ∷ pair.before_name in
     let named = start ++ pair.name in
     let spaced = named ++ pair.before_value in
@@ -66,7 +66,7 @@ item_is_text (quoted characters) plain = string_is_text characters plain
 item_is_text (comment text) plain = both_text text (125 ∷ []) (all_weaker is_comment_byte is_text_byte comment-text text plain) refl
 
 items_text : (items : List PlainItem) → are_plain_items items ≡ true → is_text (flat_map item_text items) ≡ true
-items_text items plain = each_text is_plain_item item_text item_is_text items (and_parts (list_all is_plain_item items) (are_apart items && not (is_skipped_line (flat_map item_text items))) plain).0
+items_text items plain = each_text is_plain_item item_text item_is_text items (and_parts (list_all is_plain_item items) (are_apart items && not (begins_with_percent (flat_map item_text items))) plain).0
 
 whole_line : (text : List ℕ) → list_all is_line_byte text ≡ true → is_text (line_of text) ≡ true
 whole_line text each = both_text text (10 ∷ []) (all_weaker is_line_byte is_text_byte line-text text each) refl
@@ -93,7 +93,7 @@ groups_are_text groups plain = each_text is_plain_group group_text group_is_text
 pub no_text_fault-none : (text : List ℕ) → is_text text ≡ true → no_text_fault text ≡ None
 unfolding no_text_fault
 no_text_fault-none text each =
-    let len : position_or_len is_no_text text ≡ length text = ap (position_or_len is_no_text) (sym (append-nil text)) ∙ position-behind is_no_text text [] each refl in
+    let len : position_or_len is_no_text text ≡ length text = ap (position_or_len is_no_text) (sym (append-nil text)) ∙ position-behind is_no_text text [] (all_weaker is_text_byte (λ b. not (is_no_text b)) text-allowed text each) refl in
     ap (λ n. cond (nat_lt n (length text)) (Some (line_number text n, NotText)) None) len ∙ rw (le-ltb (length text) (length text) (omega arith)) refl
 
 -- ---- no byte order mark stands at the front
@@ -120,7 +120,7 @@ items_no_mark (quoted characters ∷ items) others rest plain first behind = abs
 items_no_mark (comment text ∷ items) others rest plain first behind = refl
 
 plain_items : (items : List PlainItem) → are_plain_items items ≡ true → list_all is_plain_item items ≡ true
-plain_items items plain = (and_parts (list_all is_plain_item items) (are_apart items && not (is_skipped_line (flat_map item_text items))) plain).0
+plain_items items plain = (and_parts (list_all is_plain_item items) (are_apart items && not (begins_with_percent (flat_map item_text items))) plain).0
 
 line_no_mark : (line : PlainLine) (others : List PlainItem) (rest : List ℕ) → is_plain_line line ≡ true → has_tag_first (items_of line ++ others) ≡ true → no_mark (line_text line ++ rest) ≡ true
 line_no_mark (items_line items) others rest plain first =

@@ -1,5 +1,6 @@
 -- Games as they are written: lines with what stands in them, and lines of blanks between them.
-use Rattle.std.specs.Prelude.{ℕ, Bool, ◌||◌, ◌==◌, List, [], ◌∷◌, ◌++◌, flat_map, if◌then◌else◌}
+use Rattle.std.specs.Prelude.{ℕ, Bool, ◌==◌, List, [], ◌∷◌, ◌++◌, flat_map, codes, if◌then◌else◌}
+use Rattle.std.specs.List.{list_any}
 use Rattle.byte_text.specs.Lines.{line_of}
 
 -- a tag pair: its name and its value, and the blanks before the name, the value and the closing bracket
@@ -29,33 +30,37 @@ pub record PlainGroup : Type 0 where
   pub lines : List PlainLine
   pub blank_lines : List (List ℕ)
 
+-- a byte among these
+abbrev pub is_one_of : List ℕ → ℕ → Bool
+is_one_of bytes byte = list_any (λ b. byte == b) bytes
+
 -- a quote or a backslash
 abbrev pub needs_backslash : ℕ → Bool
-needs_backslash byte = byte == 34 || byte == 92
+needs_backslash byte = is_one_of (codes "\"\\") byte
 
 -- characters, with a backslash before each quote and each backslash
 abbrev pub escaped : List ℕ → List ℕ
 escaped [] = []
-escaped (byte ∷ rest) = if needs_backslash byte then 92 ∷ byte ∷ escaped rest else byte ∷ escaped rest
+escaped (byte ∷ rest) = if needs_backslash byte then codes "\\" ++ byte ∷ escaped rest else byte ∷ escaped rest
 
 -- a string of these characters
 abbrev pub string_text : List ℕ → List ℕ
-string_text characters = 34 ∷ escaped characters ++ 34 ∷ []
+string_text characters = codes "\"" ++ escaped characters ++ codes "\""
 
 abbrev pub tag_text : PlainTag → List ℕ
-tag_text tag = 91 ∷ tag.before_name ++ tag.name ++ tag.before_value ++ string_text tag.value ++ tag.before_end ++ 93 ∷ []
+tag_text tag = codes "[" ++ tag.before_name ++ tag.name ++ tag.before_value ++ string_text tag.value ++ tag.before_end ++ codes "]"
 
 abbrev pub item_text : PlainItem → List ℕ
 item_text (blank byte) = byte ∷ []
 item_text (tag_pair tag) = tag_text tag
 item_text (word text) = text
 item_text (quoted characters) = string_text characters
-item_text (comment text) = 123 ∷ text ++ 125 ∷ []
+item_text (comment text) = codes "{" ++ text ++ codes "}"
 
 abbrev pub line_text : PlainLine → List ℕ
 line_text (items_line items) = line_of (flat_map item_text items)
-line_text (commented items text) = flat_map item_text items ++ 59 ∷ line_of text
-line_text (skipped text) = 37 ∷ line_of text
+line_text (commented items text) = flat_map item_text items ++ (codes ";" ++ line_of text)
+line_text (skipped text) = codes "%" ++ line_of text
 
 abbrev pub group_text : PlainGroup → List ℕ
 group_text group = flat_map line_text group.lines ++ flat_map line_of group.blank_lines

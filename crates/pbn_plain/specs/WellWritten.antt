@@ -1,15 +1,13 @@
 -- When a text is written well.
-use Rattle.std.specs.Prelude.{ℕ, Bool, true, false, not, ◌&&◌, ◌==◌, nat_lt, List, [], ◌∷◌, length, flat_map}
+use Rattle.std.specs.Prelude.{ℕ, Bool, true, false, not, ◌&&◌, ◌||◌, ◌==◌, nat_lt, nat_le, List, [], ◌∷◌, length, flat_map, codes}
 use Rattle.std.specs.List.{list_all}
 use Rattle.byte_text.specs.Blanks.{is_blank}
 use Rattle.byte_text.specs.Lines.{is_line_end}
-use Rattle.pbn_text.specs.Pieces.{is_name_byte, ends_token, is_skipped_line}
-use Rattle.pbn_text.specs.Grammar.{is_no_text}
-use Rattle.pbn_plain.specs.PlainText.{PlainTag, PlainItem, blank, tag_pair, word, quoted, comment, PlainLine, items_line, commented, skipped, PlainGroup, item_text}
+use Rattle.pbn_plain.specs.PlainText.{PlainTag, PlainItem, blank, tag_pair, word, quoted, comment, PlainLine, items_line, commented, skipped, PlainGroup, is_one_of, item_text}
 
--- a byte that may stand in a text
+-- a byte that may stand in a text: from a space on, or a tab, a line feed, a vertical tab or a carriage return
 abbrev pub is_text_byte : ℕ → Bool
-is_text_byte byte = not (is_no_text byte)
+is_text_byte byte = nat_le 32 byte || is_one_of (codes "\t\n\x0b\r") byte
 
 -- a byte that may stand in a line
 abbrev pub is_line_byte : ℕ → Bool
@@ -17,11 +15,15 @@ is_line_byte byte = is_text_byte byte && not (is_line_end byte)
 
 -- a byte that may stand in a word
 abbrev pub is_word_byte : ℕ → Bool
-is_word_byte byte = is_text_byte byte && not (ends_token byte)
+is_word_byte byte = is_text_byte byte && not (is_one_of (codes " \t\r\n[{;\"") byte)
 
 -- a byte that may stand in a comment in braces
 abbrev pub is_comment_byte : ℕ → Bool
-is_comment_byte byte = is_text_byte byte && not (byte == 125)
+is_comment_byte byte = is_text_byte byte && not (is_one_of (codes "}") byte)
+
+-- a byte that may stand in a name
+abbrev pub is_name_letter : ℕ → Bool
+is_name_letter byte = is_one_of (codes "ABCDEFGHIJKLMNOPQRSTUVWXYZabcdefghijklmnopqrstuvwxyz0123456789_") byte
 
 -- one such byte at least, and no others
 abbrev pub is_run : (ℕ → Bool) → List ℕ → Bool
@@ -29,7 +31,7 @@ is_run passes text = nat_lt 0 (length text) && list_all passes text
 
 abbrev pub is_plain_tag : PlainTag → Bool
 is_plain_tag tag =
-    (is_run is_name_byte tag.name && list_all is_line_byte tag.value)
+    (is_run is_name_letter tag.name && list_all is_line_byte tag.value)
     && (list_all is_blank tag.before_name && (list_all is_blank tag.before_value && list_all is_blank tag.before_end))
 
 abbrev pub is_plain_item : PlainItem → Bool
@@ -59,9 +61,14 @@ are_apart [] = true
 are_apart (item ∷ []) = true
 are_apart (item ∷ next ∷ rest) = not (is_word item && is_word next) && are_apart (next ∷ rest)
 
+-- a text that begins with a percent sign
+abbrev pub begins_with_percent : List ℕ → Bool
+begins_with_percent [] = false
+begins_with_percent (byte ∷ rest) = is_one_of (codes "%") byte
+
 -- such items, of which no word begins the line with a percent sign
 abbrev pub are_plain_items : List PlainItem → Bool
-are_plain_items items = list_all is_plain_item items && (are_apart items && not (is_skipped_line (flat_map item_text items)))
+are_plain_items items = list_all is_plain_item items && (are_apart items && not (begins_with_percent (flat_map item_text items)))
 
 -- a line that isn't of blanks alone
 abbrev pub is_plain_line : PlainLine → Bool
