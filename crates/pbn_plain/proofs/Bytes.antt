@@ -1,12 +1,12 @@
 -- What the kinds of bytes have to do with each other.
-use Rattle.std.proofs.Common.{◌≡◌, ℕ, Bool, true, false, not, ◌&&◌, ◌||◌, List, [], ◌∷◌, refl, sym, ap, arith, inl, inr, ◌∙◌}
-use Rattle.std.specs.Prelude.{◌==◌, nat_le, codes}
+use Rattle.std.proofs.Common.{◌≡◌, ℕ, Bool, true, false, not, ◌||◌, List, [], ◌∷◌, refl, ap, arith, inl, inr, ◌∙◌}
+use Rattle.std.specs.Prelude.{◌==◌, codes}
 use Rattle.std.specs.List.{list_all}
 use Rattle.std.proofs.lemmas.Bool.{and_parts, not-true, not_from_false, or_parts, eqb-true, or_cases}
 use Rattle.std.proofs.lemmas.Bool.Decides.{nat_tests}
 use Rattle.byte_text.specs.Blanks.{is_blank}
 use Rattle.byte_text.specs.Lines.{is_line_end}
-use Rattle.pbn_text.specs.Pieces.{is_name_byte, ends_name, ends_token}
+use Rattle.pbn_text.specs.Pieces.{ends_name, ends_token}
 use Rattle.pbn_text.specs.Grammar.{is_no_text}
 use Rattle.pbn_plain.specs.PlainText.{is_one_of, needs_backslash}
 use Rattle.pbn_plain.specs.WellWritten.{is_text_byte, is_line_byte, is_word_byte, is_comment_byte, is_name_letter}

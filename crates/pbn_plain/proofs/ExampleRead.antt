@@ -1,5 +1,5 @@
 -- The example, worked out.
-use Rattle.std.proofs.Common.{◌≡◌, true, Ok, refl, ap, sym, ◌∙◌, List}
+use Rattle.std.proofs.Common.{◌≡◌, true, Ok, refl, inl, ap, sym, ◌∙◌, List}
 use Rattle.pbn_text.specs.Games.{GameValue}
 use Rattle.pbn_text.specs.Grammar.{games_read}
 use Rattle.pbn_plain.specs.PlainText.{plain_text}
@@ -21,4 +21,4 @@ unfolding numbered example example_games
 example-games = refl
 
 pub example-read : games_read example_text ≡ Ok example_games
-example-read = ap games_read (sym example-text) ∙ plain_text-read example example-written ∙ ap (λ (games : List GameValue). Ok games) example-games
+example-read = ap games_read (sym example-text) ∙ plain_text-read example (plain_text example) example-written (inl refl) ∙ ap (λ (games : List GameValue). Ok games) example-games

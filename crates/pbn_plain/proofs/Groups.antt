@@ -19,18 +19,18 @@ use Rattle.pbn_plain.proofs.Lines.{line_after-append, items_pieces, line_pieces,
 
 -- ---- all pieces of a text
 
-abbrev lines_pieces : ℕ → List PlainLine → List Piece
+abbrev pub lines_pieces : ℕ → List PlainLine → List Piece
 lines_pieces line [] = []
 lines_pieces line (next ∷ lines) = line_pieces line next ++ lines_pieces (line_after line (line_text next)) lines
 
-abbrev ends : List (List ℕ) → List Piece
+abbrev pub ends : List (List ℕ) → List Piece
 ends blank_lines = map (λ blanks. game_end) blank_lines
 
 abbrev pub text_pieces : ℕ → List PlainGroup → List Piece
 text_pieces line [] = []
 text_pieces line (group ∷ groups) = lines_pieces line group.lines ++ (ends group.blank_lines ++ text_pieces (line_after line (group_text group)) groups)
 
-lines_read : (line : ℕ) (lines : List PlainLine) (rest : List ℕ) → list_all is_plain_line lines ≡ true → pieces true line 0 (flat_map line_text lines ++ rest) ≡ lines_pieces line lines ++ pieces true (line_after line (flat_map line_text lines)) 0 rest
+pub lines_read : (line : ℕ) (lines : List PlainLine) (rest : List ℕ) → list_all is_plain_line lines ≡ true → pieces true line 0 (flat_map line_text lines ++ rest) ≡ lines_pieces line lines ++ pieces true (line_after line (flat_map line_text lines)) 0 rest
 lines_read line [] rest plain = ap (λ n. pieces true n 0 rest) (omega arith)
 lines_read line (next ∷ lines) rest plain =
     let parts = and_parts (is_plain_line next) (list_all is_plain_line lines) plain in
@@ -42,7 +42,7 @@ lines_read line (next ∷ lines) rest plain =
     ∙ ap (λ behind. line_pieces line next ++ behind) (lines_read after lines rest parts.1 ∙ ap (λ n. lines_pieces after lines ++ pieces true n 0 rest) (line_after-append line text more))
     ∙ sym (append_assoc (line_pieces line next) (lines_pieces after lines) (pieces true (line_after line (text ++ more)) 0 rest))
 
-ends_read : (line : ℕ) (blank_lines : List (List ℕ)) (rest : List ℕ) → list_all (list_all is_blank) blank_lines ≡ true → pieces true line 0 (flat_map line_of blank_lines ++ rest) ≡ ends blank_lines ++ pieces true (line_after line (flat_map line_of blank_lines)) 0 rest
+pub ends_read : (line : ℕ) (blank_lines : List (List ℕ)) (rest : List ℕ) → list_all (list_all is_blank) blank_lines ≡ true → pieces true line 0 (flat_map line_of blank_lines ++ rest) ≡ ends blank_lines ++ pieces true (line_after line (flat_map line_of blank_lines)) 0 rest
 ends_read line [] rest each = ap (λ n. pieces true n 0 rest) (omega arith)
 ends_read line (blanks ∷ blank_lines) rest each =
     let parts = and_parts (list_all is_blank blanks) (list_all (list_all is_blank) blank_lines) each in
@@ -63,20 +63,25 @@ plain_parts group plain =
     let two = and_parts (has_tag_first (flat_map items_of group.lines)) (list_all (list_all is_blank) group.blank_lines) one.1 in
     record { lines = one.0; first = two.0; blanks = two.1 }
 
+pub group_read : (line : ℕ) (group : PlainGroup) (rest : List ℕ) → PlainParts group
+    → pieces true line 0 (group_text group ++ rest) ≡ (lines_pieces line group.lines ++ ends group.blank_lines) ++ pieces true (line_after line (group_text group)) 0 rest
+group_read line group rest parts =
+    let lines = flat_map line_text group.lines in
+    let blanks = flat_map line_of group.blank_lines in
+    ap (pieces true line 0) (append_assoc lines blanks rest)
+    ∙ lines_read line group.lines (blanks ++ rest) parts.lines
+    ∙ ap (λ behind. lines_pieces line group.lines ++ behind) (ends_read (line_after line lines) group.blank_lines rest parts.blanks ∙ ap (λ n. ends group.blank_lines ++ pieces true n 0 rest) (line_after-append line lines blanks))
+    ∙ sym (append_assoc (lines_pieces line group.lines) (ends group.blank_lines) (pieces true (line_after line (group_text group)) 0 rest))
+
 pub groups_read : (line : ℕ) (groups : List PlainGroup) → list_all is_plain_group groups ≡ true → pieces true line 0 (flat_map group_text groups) ≡ text_pieces line groups
 unfolding pieces
 groups_read line [] plain = refl
 groups_read line (group ∷ groups) plain =
     let both = and_parts (is_plain_group group) (list_all is_plain_group groups) plain in
-    let parts = plain_parts group both.0 in
-    let lines = flat_map line_text group.lines in
-    let blanks = flat_map line_of group.blank_lines in
-    let more = flat_map group_text groups in
-    ap (pieces true line 0) (append_assoc lines blanks more)
-    ∙ lines_read line group.lines (blanks ++ more) parts.lines
-    ∙ ap (λ behind. lines_pieces line group.lines ++ behind)
-    (ends_read (line_after line lines) group.blank_lines more parts.blanks
-    ∙ ap (λ behind. ends group.blank_lines ++ behind) (ap (λ n. pieces true n 0 more) (line_after-append line lines blanks) ∙ groups_read (line_after line (lines ++ blanks)) groups both.1))
+    let after = line_after line (group_text group) in
+    group_read line group (flat_map group_text groups) (plain_parts group both.0)
+    ∙ ap (λ behind. (lines_pieces line group.lines ++ ends group.blank_lines) ++ behind) (groups_read after groups both.1)
+    ∙ append_assoc (lines_pieces line group.lines) (ends group.blank_lines) (text_pieces after groups)
 
 -- ---- the pieces of one group
 

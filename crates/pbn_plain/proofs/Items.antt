@@ -8,9 +8,9 @@ use Rattle.byte_text.specs.Blanks.{is_blank, after_blanks}
 use Rattle.byte_text.specs.Lines.{is_line_end}
 use Rattle.pbn_text.specs.declared.fault.Syntax.TheVariants.{OpenBrace}
 use Rattle.pbn_text.specs.Strings.{string_len}
-use Rattle.pbn_text.specs.Pieces.{Piece, passed, tag, token, fault, ahead_of, is_name_byte, ends_name, ends_token, comment_ahead, string_ahead, closed_tag, quoted_tag, named_tag, tag_ahead, token_ahead, in_line_ahead, past_line, piece_ahead}
+use Rattle.pbn_text.specs.Pieces.{Piece, passed, tag, token, fault, ahead_of, ends_name, ends_token, comment_ahead, string_ahead, closed_tag, quoted_tag, named_tag, tag_ahead, token_ahead, in_line_ahead, past_line, piece_ahead}
 use Rattle.pbn_plain.specs.PlainText.{PlainTag, PlainItem, blank, tag_pair, word, quoted, comment, escaped, string_text, tag_text, item_text}
-use Rattle.pbn_plain.specs.WellWritten.{is_line_byte, is_word_byte, is_comment_byte, is_name_letter, begins_with_percent, is_run, is_plain_tag, is_plain_item}
+use Rattle.pbn_plain.specs.WellWritten.{is_line_byte, is_word_byte, is_comment_byte, is_name_letter, is_run, is_plain_tag, is_plain_item}
 use Rattle.pbn_plain.proofs.Runs.{stops, lacks, position-behind, before-behind, rest-behind, after_blanks-behind, drop-past, all_weaker}
 use Rattle.pbn_plain.proofs.Quoted.{string_len-escaped, characters-back}
 use Rattle.pbn_plain.proofs.Bytes.{blank-ends_name, name-no_blank, name-stays, word-stays, comment-stays, InToken, in_token}

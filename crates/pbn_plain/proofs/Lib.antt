@@ -8,3 +8,4 @@ pub mod Groups
 pub mod Texts
 pub mod ReadBack
 pub mod ExampleRead
+pub mod OpenLines

@@ -88,7 +88,7 @@ items_read line (item ∷ items) rest plain parted at =
 
 -- ---- the front of a line
 
-ink_first : (byte : ℕ) (rest : List ℕ) → is_line_end byte ≡ false → is_blank byte ≡ false → is_blank_line (byte ∷ rest) ≡ false
+pub ink_first : (byte : ℕ) (rest : List ℕ) → is_line_end byte ≡ false → is_blank byte ≡ false → is_blank_line (byte ∷ rest) ≡ false
 ink_first byte rest inside other = ap (λ n. list_all is_blank (take n (byte ∷ rest))) (position_or_len-cons is_line_end byte rest inside) ∙ and_left (is_blank byte) (list_all is_blank (take (position_or_len is_line_end rest) rest)) other
 
 blank_first : (byte : ℕ) (rest : List ℕ) → is_blank byte ≡ true → is_blank_line (byte ∷ rest) ≡ is_blank_line rest
@@ -128,7 +128,7 @@ from_front line [] kept ink = refl
 from_front line (byte ∷ rest) kept ink = front_inside line byte rest kept ink
 
 -- what stands in a line, from its front
-front_read : (line : ℕ) (items : List PlainItem) (rest : List ℕ) → are_plain_items items ≡ true → stops ends_token rest ≡ true → is_skipped_line rest ≡ false → (list_all is_blank_item items && is_blank_line rest) ≡ false
+pub front_read : (line : ℕ) (items : List PlainItem) (rest : List ℕ) → are_plain_items items ≡ true → stops ends_token rest ≡ true → is_skipped_line rest ≡ false → (list_all is_blank_item items && is_blank_line rest) ≡ false
     → pieces true line 0 (flat_map item_text items ++ rest) ≡ items_pieces line items ++ pieces false (line_after line (flat_map item_text items)) 0 rest
 front_read line items rest plain at kept ink =
     let text = flat_map item_text items in
@@ -189,6 +189,9 @@ line_read line (skipped text) rest plain = ap (λ more. pieces true line 0 (37 �
 
 -- ---- a line of blanks alone
 
+pub picked : (a b : Bool) (p q r : Ahead) → a ≡ false → b ≡ true → cond a p (cond b q r) ≡ q
+picked a b p q r first second = rw (first, second) refl
+
 blank_line-is : (line byte : ℕ) (blanks rest : List ℕ) → list_all is_blank (byte ∷ blanks) ≡ true → piece_ahead true line (byte ∷ (blanks ++ (10 ∷ rest))) ≡ ahead_of game_end rest
 unfolding piece_ahead
 blank_line-is line byte blanks rest each =
@@ -197,9 +200,7 @@ blank_line-is line byte blanks rest each =
     let kept = blank-kept byte (and_parts (is_blank byte) (list_all is_blank blanks) each).0 in
     let all : is_blank_line text ≡ true = ap (list_all is_blank) (before-behind is_line_end (byte ∷ blanks) (10 ∷ rest) none refl) ∙ each in
     picked (is_skipped_line text) (is_blank_line text) (ahead_of passed (past_line text)) (ahead_of game_end (after_first is_line_end text)) (in_line_ahead line text) kept all
-    ∙ ap (ahead_of game_end) (after-behind is_line_end (byte ∷ blanks) 10 rest none refl) where
-      picked : (a b : Bool) (p q r : Ahead) → a ≡ false → b ≡ true → cond a p (cond b q r) ≡ q
-      picked a b p q r first second = rw (first, second) refl
+    ∙ ap (ahead_of game_end) (after-behind is_line_end (byte ∷ blanks) 10 rest none refl)
 
 pub blank_line_read : (line : ℕ) (blanks rest : List ℕ) → list_all is_blank blanks ≡ true → pieces true line 0 (line_of blanks ++ rest) ≡ game_end ∷ pieces true (line_after line (line_of blanks)) 0 rest
 unfolding piece_ahead

@@ -2,12 +2,12 @@
 use Rattle.std.proofs.Common.{◌≡◌, ℕ, ◌+◌, ◌-◌, true, false, not, List, [], ◌∷◌, ◌++◌, length, take, Some, option_map, refl, ap, ◌∙◌, arith}
 use Rattle.std.specs.Prelude.{◌==◌}
 use Rattle.std.specs.List.{list_all}
-use Rattle.std.proofs.lemmas.Bool.{and_parts, not-true, or_parts, cond_both}
+use Rattle.std.proofs.lemmas.Bool.{and_parts, not-true, cond_both}
 use Rattle.byte_text.specs.Lines.{is_line_end}
 use Rattle.pbn_text.specs.Strings.{string_len, unescaped}
 use Rattle.pbn_plain.specs.PlainText.{needs_backslash, escaped}
 use Rattle.pbn_plain.specs.WellWritten.{is_text_byte, is_line_byte}
-use Rattle.pbn_plain.proofs.Bytes.{IsItself, is_itself}
+use Rattle.pbn_plain.proofs.Bytes.{is_itself}
 use Rattle.pbn_plain.proofs.Runs.{take-behind}
 
 quote_first : (rest : List ℕ) → string_len (34 ∷ rest) ≡ Some 1

@@ -9,11 +9,9 @@ use Rattle.std.proofs.lemmas.List.Folds.{list_all-append}
 use Rattle.byte_text.specs.Blanks.{is_blank}
 use Rattle.byte_text.specs.Lines.{line_of, line_number}
 use Rattle.pbn_text.specs.declared.fault.Syntax.TheVariants.{NotText}
-use Rattle.pbn_text.specs.Pieces.{is_name_byte}
 use Rattle.pbn_text.specs.Grammar.{is_no_text, no_text_fault, without_mark}
 use Rattle.pbn_plain.specs.PlainText.{PlainTag, PlainItem, blank, tag_pair, word, quoted, comment, PlainLine, items_line, commented, skipped, PlainGroup, needs_backslash, escaped, string_text, tag_text, item_text, line_text, group_text}
 use Rattle.pbn_plain.specs.WellWritten.{is_text_byte, is_line_byte, is_word_byte, is_comment_byte, is_name_letter, begins_with_percent, is_run, is_plain_tag, is_plain_item, are_apart, are_plain_items, is_blank_item, is_plain_line, items_of, has_tag_first, is_plain_group}
-use Rattle.pbn_text.specs.Pieces.{is_skipped_line}
 use Rattle.pbn_plain.proofs.Runs.{position-behind, all_weaker}
 use Rattle.pbn_plain.proofs.Bytes.{text-allowed, blank-text, name-text, line-text, word-text, comment-text}
 use Rattle.pbn_plain.proofs.Groups.{plain_parts}
@@ -98,7 +96,7 @@ no_text_fault-none text each =
 
 -- ---- no byte order mark stands at the front
 
-abbrev no_mark : List ℕ → Bool
+abbrev pub no_mark : List ℕ → Bool
 no_mark [] = true
 no_mark (byte ∷ rest) = not (byte == 239)
 

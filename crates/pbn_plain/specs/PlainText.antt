@@ -1,5 +1,5 @@
 -- Games as they are written: lines with what stands in them, and lines of blanks between them.
-use Rattle.std.specs.Prelude.{ℕ, Bool, ◌==◌, List, [], ◌∷◌, ◌++◌, flat_map, codes, if◌then◌else◌}
+use Rattle.std.specs.Prelude.{◌≡◌, ◌⊎◌, ℕ, Bool, ◌==◌, List, [], ◌∷◌, ◌++◌, flat_map, codes, if◌then◌else◌}
 use Rattle.std.specs.List.{list_any}
 use Rattle.byte_text.specs.Lines.{line_of}
 
@@ -68,6 +68,10 @@ group_text group = flat_map line_text group.lines ++ flat_map line_of group.blan
 -- the bytes of a text
 unfoldable pub plain_text : List PlainGroup → List ℕ
 plain_text groups = flat_map group_text groups
+
+-- the text of these groups, whose last line may lack its end
+abbrev pub IsTextOf : List ℕ → List PlainGroup → Type 0
+IsTextOf text groups = (text ≡ plain_text groups) ⊎ (line_of text ≡ plain_text groups)
 
 -- the UTF-8 byte order mark
 abbrev pub byte_order_mark : List ℕ

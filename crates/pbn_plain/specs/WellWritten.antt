@@ -1,5 +1,5 @@
 -- When a text is written well.
-use Rattle.std.specs.Prelude.{ℕ, Bool, true, false, not, ◌&&◌, ◌||◌, ◌==◌, nat_lt, nat_le, List, [], ◌∷◌, length, flat_map, codes}
+use Rattle.std.specs.Prelude.{ℕ, Bool, true, false, not, ◌&&◌, ◌||◌, nat_lt, nat_le, List, [], ◌∷◌, length, flat_map, codes}
 use Rattle.std.specs.List.{list_all}
 use Rattle.byte_text.specs.Blanks.{is_blank}
 use Rattle.byte_text.specs.Lines.{is_line_end}
@@ -7,7 +7,7 @@ use Rattle.pbn_plain.specs.PlainText.{PlainTag, PlainItem, blank, tag_pair, word
 
 -- a byte that may stand in a text: from a space on, or a tab, a line feed, a vertical tab or a carriage return
 abbrev pub is_text_byte : ℕ → Bool
-is_text_byte byte = nat_le 32 byte || is_one_of (codes "\t\n\x0b\r") byte
+is_text_byte byte = nat_le 32 byte || is_one_of (codes "\t\n\u{b}\r") byte
 
 -- a byte that may stand in a line
 abbrev pub is_line_byte : ℕ → Bool
