@@ -1,1 +1,3 @@
 pub mod LogText
+pub mod Reading
+pub mod ReadBack

@@ -1,8 +1,16 @@
-//! Logs in text: a line for each line of a log.
+//! Logs in text: a line for each line of a log, and a text read back as a log.
 //! It stands on logs and on bytes as text.
-//! What is written is the text of the definition, byte for byte.
+//! What is written is the text of the definition, byte for byte; what a text says or its first
+//! line at fault is the answer, unless memory is refused; and what is written is read back.
 #![tactic(auto)]
 
+mod fault;
+pub mod laws;
+mod marks;
+mod reading;
+mod words;
 mod writing;
 
+pub use fault::LogFault;
+pub use reading::read_log;
 pub use writing::log_text;
