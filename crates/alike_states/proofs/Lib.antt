@@ -1,0 +1,4 @@
+pub mod Likes
+pub mod Trick
+pub mod Cards
+pub mod Answers
