@@ -1,0 +1,17 @@
+-- Of a state's legal cards, those that are enough to try.
+use Rattle.std.specs.Prelude.{◌≡◌, ◌⊎◌, ℕ, true, List}
+use Rattle.card_sets.specs.SetWords.{has_card}
+use Rattle.trick_rules.specs.Positions.{State}
+use Rattle.trick_rules.specs.Play.{legal_in}
+use Rattle.dd_solver.specs.Equals.{AreEqual}
+
+-- a lower card is equal to this one, and counts if this one does
+pub record HasLowerEqual (counting : List ℕ) (s : State) (card : ℕ) : Type 0 where
+  pub lower : ℕ
+  pub equal : AreEqual s lower card
+  pub counts : has_card counting card ≡ true → has_card counting lower ≡ true
+
+-- each legal card is one of these or has a lower equal
+abbrev pub AreEnough : List ℕ → State → List ℕ → Type 0
+AreEnough counting s cards = (card : ℕ) → has_card (legal_in s) card ≡ true
+    → (has_card cards card ≡ true) ⊎ HasLowerEqual counting s card
