@@ -1,10 +1,9 @@
 //! What the definitions come to. Each function does nothing: its contract is the law, proved from
 //! the definitions alone.
-ghost use Rattle.std.specs.Prelude.{◌≡◌, ℕ, Bool, true, false, List};
+ghost use Rattle.std.specs.Prelude.{◌≡◌, ℕ, ◌≤◌, Bool, true, false, List};
 ghost use Rattle.card_sets.specs.SetWords.{has_card};
 ghost use Rattle.trick_rules.specs.Positions.{State, IsState};
 ghost use Rattle.trick_rules.specs.Play.{is_over, legal_in};
-ghost use Rattle.dd_solver.specs.Keys.{IsSettled};
 ghost use Rattle.dd_solver.specs.Needs.{with_need};
 ghost use Rattle.alike_states.specs.Alike.{IsClosedUp, AreAlike, HasAnswer, GivesAnswer};
 ghost use Rattle.alike_choices.specs.Enough.{AreEnough};
@@ -25,7 +24,10 @@ pub fn one_of_equals_answers()
 pub fn an_answer_settles_other_needs()
     ensures alike { (counting : List ℕ) (s t : State) (need : ℕ) → AreAlike counting s t
         → AreAlike counting (with_need s need) (with_need t need) }
-    ensures answer { (counting : List ℕ) (s : State) (made : Bool) (need : ℕ) → IsState s
-        → HasAnswer counting s made → IsSettled made s.position.need need
-        → HasAnswer counting (with_need s need) made }
+    ensures lower { (counting : List ℕ) (s : State) (need : ℕ) → IsState s
+        → need ≤ s.position.need → HasAnswer counting s true
+        → HasAnswer counting (with_need s need) true }
+    ensures higher { (counting : List ℕ) (s : State) (need : ℕ) → IsState s
+        → s.position.need ≤ need → need ≤ 13 → HasAnswer counting s false
+        → HasAnswer counting (with_need s need) false }
 {}
