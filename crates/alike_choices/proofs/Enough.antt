@@ -65,10 +65,10 @@ module _ (counting : List ℕ) (s t : State) (ok : IsState s) (ok' : IsState t) 
       let hands = or_parts (has_card p.declarer c || has_card p.dummy c) (has_card p.unseen c) parts.0 in
       let ours = or_parts (has_card p.declarer c) (has_card p.dummy c) hands.0 in
       let unseen : has_card q.unseen c ≡ false =
-      unseen_is t ok' c ∙ sym (ap₂ (λ x y. x || y) (a.hands Left c counts) (a.hands Right c counts)) ∙ sym (unseen_is s ok c) ∙ hands.1 in
+      unseen_is t ok' c ∙ sym (ap₂ (λ x y. x || y) ((a.hands Left).same c counts) ((a.hands Right).same c counts)) ∙ sym (unseen_is s ok c) ∙ hands.1 in
       or_from (has_card q.declarer c || has_card q.dummy c || has_card q.unseen c) (has_card q.trick.cards c)
       (or_from (has_card q.declarer c || has_card q.dummy c) (has_card q.unseen c)
-      (or_from (has_card q.declarer c) (has_card q.dummy c) (sym (a.hands Declarer c counts) ∙ ours.0) (sym (a.hands Dummy c counts) ∙ ours.1))
+      (or_from (has_card q.declarer c) (has_card q.dummy c) (sym ((a.hands Declarer).same c counts) ∙ ours.0) (sym ((a.hands Dummy).same c counts) ∙ ours.1))
       unseen)
       (false_from_ne_true (has_card q.trick.cards c) (λ h. both_ways (has_card p.trick.cards c) parts.1 (in_trick c counts h)))
 
@@ -87,7 +87,7 @@ equal_there counting s t low high closed ok ok' a eq counts legal =
     let turn = alike_turn counting s t a in
     let fits = held_low s.position ok.sound high (to_play s.position) (legal_can_play s ok high eq.high_legal) in
     let held : has_card (hand_of t (to_play t.position)) low ≡ true =
-    subst (λ seat. has_card (hand_of t seat) low ≡ true) turn (sym (a.hands (to_play s.position) low counts) ∙ legal_held s low eq.low_legal) in
+    subst (λ seat. has_card (hand_of t seat) low ≡ true) turn (sym ((a.hands (to_play s.position)).same low counts) ∙ legal_held s low eq.low_legal) in
     record {
       low_legal = legal_alike counting s t a low low refl eq.low_legal held;
       high_legal = legal;

@@ -15,7 +15,6 @@ another_need_keeps_states_alike counting s t need a = record {
   played = a.played;
   trick = a.trick;
   hands = a.hands;
-  lengths = a.lengths;
 }
 
 pub an_answer_settles_other_needs : (counting : List ℕ) (s : State) (made : Bool) (need : ℕ) → IsState s → HasAnswer counting s made → IsSettled made s.position.need need

@@ -1,5 +1,5 @@
 -- What double dummy says of alike states.
-use Rattle.std.proofs.Common.{◌≡◌, ◌⊎◌, ℕ, ◌+◌, ◌<◌, ◌≤◌, Bool, true, false, List, [], length, Some, refl, sym, ap, subst, ◌∙◌, inl, inr, arith}
+use Rattle.std.proofs.Common.{◌≡◌, ◌⊎◌, ℕ, ◌+◌, ◌<◌, ◌≤◌, Bool, true, false, List, [], length, min, Some, refl, sym, ap, subst, ◌∙◌, inl, inr, arith}
 use Rattle.std.proofs.lemmas.Bool.{cases_Bool, ne_eqb}
 use Rattle.std.proofs.lemmas.List.{nil_from_length}
 use Rattle.card_sets.specs.declared.card.Suit.{Suit}
@@ -11,16 +11,17 @@ use Rattle.card_sets.proofs.SetCounts.{has_card-length}
 use Rattle.card_sets.proofs.Suits.{same_suit-true}
 use Rattle.trick_rules.specs.declared.trump.Trump.{Trump}
 use Rattle.trick_rules.specs.declared.trump.Trump.TheVariants.{NoTrump, Suit as Suited}
-use Rattle.trick_rules.specs.Positions.{State, to_play, tricks_left, IsState}
+use Rattle.trick_rules.specs.Positions.{State, seat_after, to_play, tricks_left, IsState}
 use Rattle.trick_rules.specs.Play.{of_suit, is_declarers, is_over, decided, hand_of, legal_in, after, makes}
 use Rattle.trick_rules.proofs.States.{after-IsState, hand_length}
 use Rattle.trick_rules.proofs.PlayLaws.{makes_where_decided}
 use Rattle.sure_tricks.specs.Sure.{above, trumps_of, AreHigh, AreSafe, AreSure}
 use Rattle.sure_tricks.proofs.Hands.{by_card, by_each, hand_set}
 use Rattle.sure_tricks.proofs.Cash.{our_sure_cards_win, their_sure_cards_win}
+use Rattle.sure_tricks.proofs.Together.{our_cards_win_together, their_cards_win_together}
 use Rattle.alike_states.specs.Alike.{IsClosedUp, IsLike, AreAlike, HasAnswer, GivesAnswer}
-use Rattle.alike_states.proofs.Likes.{like_back, like_less, below_counting, alike_back, alike_on, alike_less, alike_turn, alike_tricks, alike_decided, alike_over}
-use Rattle.alike_states.proofs.Cards.{legal_held, a_like_card_is_legal, alike_after}
+use Rattle.alike_states.proofs.Likes.{like_suit, like_back, like_less, below_counting, alike_back, alike_on, alike_less, alike_turn, alike_tricks, alike_decided, alike_over}
+use Rattle.alike_states.proofs.Cards.{legal_held, like_held, a_like_card_is_legal, alike_after}
 
 -- ---- answers passed on
 
@@ -32,6 +33,15 @@ an_alike_state_answers counting s t made a answer = λ u ok b. answer u ok (alik
 
 pub more_cards_answer : (part counting : List ℕ) (s : State) (made : Bool) → IsSubset part counting → HasAnswer part s made → HasAnswer counting s made
 more_cards_answer part counting s made within answer = λ t ok a. answer t ok (alike_less part counting s t within a)
+
+pub more_cards_give_the_answer : (part counting : List ℕ) (s : State) (card : ℕ) (made : Bool) → IsSubset part counting → GivesAnswer part s card made → GivesAnswer counting s card made
+more_cards_give_the_answer part counting s card made within g = record {
+  part = g.part;
+  within = λ c h. within c (g.within c h);
+  closed = g.closed;
+  settles = g.settles;
+  answer = g.answer;
+}
 
 -- ---- answers from those after a card
 
@@ -91,11 +101,11 @@ pub sure_cards_stay_sure : (counting : List ℕ) (s t : State) (x : Seat) (sure 
     → IsSubset sure counting → AreSure s x sure → AreSure t x sure
 sure_cards_stay_sure counting s t x sure closed ok a within are = record {
   set = are.set;
-  held = λ c h. sym (a.hands x c (within c h)) ∙ are.held c h;
-  high = λ seat differ. high_alike counting closed sure (hand_of s seat) (hand_of t seat) within (a.hands seat) (a.lengths seat)
+  held = λ c h. sym ((a.hands x).same c (within c h)) ∙ are.held c h;
+  high = λ seat differ. high_alike counting closed sure (hand_of s seat) (hand_of t seat) within ((a.hands seat).same) ((a.hands seat).lengths)
       (λ c h. has_card-below (hand_of t seat) c (hand_set t ok seat) h) (are.high seat differ);
   safe = λ seat differ. subst (λ trump. AreSafe trump sure (hand_of t seat)) a.trump
-      (safe_alike counting closed sure (hand_of s seat) (hand_of t seat) within (a.hands seat) (a.lengths seat)
+      (safe_alike counting closed sure (hand_of s seat) (hand_of t seat) within ((a.hands seat).same) ((a.hands seat).lengths)
       (λ c h. has_card-below (hand_of t seat) c (hand_set t ok seat) h) s.position.trump (are.safe seat differ));
 }
 
@@ -119,3 +129,38 @@ pub their_sure_cards_answer : (counting : List ℕ) (s : State) (sure : List ℕ
 their_sure_cards_answer counting s sure closed within none are side many = λ t ok a.
     their_sure_cards_win t sure ok (none_there counting s t a none) (sure_there counting s t sure closed ok a within are)
     (ap is_declarers (sym (alike_turn counting s t a)) ∙ side) (let need = a.need in let tricks = alike_tricks counting s t a in omega arith)
+
+-- ---- sure cards of both hands, at no trump
+
+-- a card that leads over, in an alike state
+link_there : (counting : List ℕ) (s t : State) (link card : ℕ) → IsState s → IsState t → AreAlike counting s t → has_card (hand_of s (to_play s.position)) link ≡ true → suit_of card ≡ suit_of link
+    → (there : ℕ) × (has_card (hand_of t (to_play t.position)) there ≡ true) × (suit_of card ≡ suit_of there)
+link_there counting s t link card ok ok' a held suit =
+    let turn = to_play s.position in
+    let found : (d : ℕ) × (has_card (hand_of t turn) d ≡ true) × IsLike counting link d =
+    like_held counting (hand_of s turn) (hand_of t turn) (hand_set s ok turn) (hand_set t ok' turn) ((a.hands turn).same) ((a.hands turn).lengths) link held in
+    (found.0, subst (λ seat. has_card (hand_of t seat) found.0 ≡ true) (alike_turn counting s t a) found.1, suit ∙ like_suit counting link found.0 found.2)
+
+module _ (counting : List ℕ) (s : State) (sure partners : List ℕ) (link card : ℕ) (closed : IsClosedUp counting) (within : IsSubset sure counting) (more : IsSubset partners counting)
+    (ok : IsState s) (none : s.position.trick.cards ≡ []) (no_trump : s.position.trump ≡ NoTrump) (are : AreSure s (to_play s.position) sure)
+    (theirs : AreSure s (seat_after 2 (to_play s.position)) partners) (held : has_card (hand_of s (to_play s.position)) link ≡ true)
+    (over : has_card partners card ≡ true) (suit : suit_of card ≡ suit_of link) where
+  -- the partner's sure cards, in an alike state
+  partners_there : (t : State) → IsState t → AreAlike counting s t → AreSure t (seat_after 2 (to_play t.position)) partners
+  partners_there t ok' a =
+      subst (λ x. AreSure t (seat_after 2 x) partners) (alike_turn counting s t a) (sure_cards_stay_sure counting s t (seat_after 2 (to_play s.position)) partners closed ok' a more theirs)
+
+  pub our_cards_answer_together : is_declarers (to_play s.position) ≡ true → s.position.need ≤ min (tricks_left s.position) (length sure + length partners) → HasAnswer counting s true
+  our_cards_answer_together side few = λ t ok' a.
+      let linked = link_there counting s t link card ok ok' a held suit in
+      our_cards_win_together t sure partners linked.0 card ok' (none_there counting s t a none) (sym a.trump ∙ no_trump) (sure_there counting s t sure closed ok' a within are) (partners_there t ok' a)
+      linked.1 over linked.2 (ap is_declarers (sym (alike_turn counting s t a)) ∙ side)
+      (subst (λ n. t.position.need ≤ min n (length sure + length partners)) (alike_tricks counting s t a) (subst (λ n. n ≤ min (tricks_left s.position) (length sure + length partners)) a.need few))
+
+  pub their_cards_answer_together : is_declarers (to_play s.position) ≡ false → tricks_left s.position < s.position.need + min (tricks_left s.position) (length sure + length partners) → HasAnswer counting s false
+  their_cards_answer_together side many = λ t ok' a.
+      let linked = link_there counting s t link card ok ok' a held suit in
+      their_cards_win_together t sure partners linked.0 card ok' (none_there counting s t a none) (sym a.trump ∙ no_trump) (sure_there counting s t sure closed ok' a within are) (partners_there t ok' a)
+      linked.1 over linked.2 (ap is_declarers (sym (alike_turn counting s t a)) ∙ side)
+      (subst (λ n. n < t.position.need + min n (length sure + length partners)) (alike_tricks counting s t a)
+      (subst (λ n. tricks_left s.position < n + min (tricks_left s.position) (length sure + length partners)) a.need many))

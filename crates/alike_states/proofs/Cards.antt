@@ -103,7 +103,7 @@ legal_alike counting s t a c d kind legal held =
     legal_kept s.position.trick.cards t.position.trick.cards a.played
     (λ some. like_suit counting (get_or s.position.trick.cards 0 0) (get_or t.position.trick.cards 0 0) (a.trick 0 some))
     (hand_of s (to_play s.position)) (hand_of t (to_play t.position))
-    (λ suit. a.lengths (to_play s.position) suit ∙ ap (λ seat. length (of_suit suit (hand_of t seat))) (alike_turn counting s t a)) c d kind legal held
+    (λ suit. (a.hands (to_play s.position)).lengths suit ∙ ap (λ seat. length (of_suit suit (hand_of t seat))) (alike_turn counting s t a)) c d kind legal held
 
 pub legal_held : (s : State) (c : ℕ) → has_card (legal_in s) c ≡ true → has_card (hand_of s (to_play s.position)) c ≡ true
 legal_held s c h = legal_cards-low s.position.trick.cards (hand_of s (to_play s.position)) c h
@@ -114,7 +114,7 @@ pub a_like_card_is_legal : (counting : List ℕ) (s t : State) (c : ℕ) → IsS
 a_like_card_is_legal counting s t c ok ok' a legal =
     let turn = to_play s.position in
     let found : (d : ℕ) × (has_card (hand_of t turn) d ≡ true) × IsLike counting c d =
-    like_held counting (hand_of s turn) (hand_of t turn) (hand_set s ok turn) (hand_set t ok' turn) (λ x h. a.hands turn x h) (λ suit. a.lengths turn suit) c (legal_held s c legal) in
+    like_held counting (hand_of s turn) (hand_of t turn) (hand_set s ok turn) (hand_set t ok' turn) ((a.hands turn).same) ((a.hands turn).lengths) c (legal_held s c legal) in
     let held : has_card (hand_of t (to_play t.position)) found.0 ≡ true = subst (λ seat. has_card (hand_of t seat) found.0 ≡ true) (alike_turn counting s t a) found.1 in
     (found.0, legal_alike counting s t a c found.0 (like_suit counting c found.0 found.2) legal held, found.2)
 
@@ -161,7 +161,7 @@ module _ (counting : List ℕ) (s t : State) (ok : IsState s) (ok' : IsState t) 
   hands_after seat x counts =
       ap (λ (l : List ℕ). has_card l x) (hand_after s c seat)
       ∙ has_card-take_out c (hand_of s seat) x
-      ∙ ap₂ (λ p q. p && not q) (a.hands seat x counts) (like_eqb counting c d x counts like)
+      ∙ ap₂ (λ p q. p && not q) ((a.hands seat).same x counts) (like_eqb counting c d x counts like)
       ∙ sym (has_card-take_out d (hand_of t seat) x)
       ∙ sym (ap (λ (l : List ℕ). has_card l x) (hand_after t d seat))
 
@@ -174,9 +174,9 @@ module _ (counting : List ℕ) (s t : State) (ok : IsState s) (ok' : IsState t) 
       elim (seat_cases seat (to_play s.position)) as (λ _. count (hand_of (after s c) seat) ≡ count (hand_of (after t d) seat)) [
         | inl e ↦ ap count (hand_after s c seat)
             ∙ one_fewer suit (hand_of s seat) (hand_of t seat) c d (hand_set s ok seat) (hand_set t ok' seat) (like_suit counting c d like)
-            (subst (λ y. has_card (hand_of s y) c ≡ true) (sym e) held) (subst (λ y. has_card (hand_of t y) d ≡ true) (sym (e ∙ turn)) held') (a.lengths seat suit)
+            (subst (λ y. has_card (hand_of s y) c ≡ true) (sym e) held) (subst (λ y. has_card (hand_of t y) d ≡ true) (sym (e ∙ turn)) held') ((a.hands seat).lengths suit)
             ∙ sym (ap count (hand_after t d seat))
-        | inr other ↦ ap count (hand_stays s c seat ok held other) ∙ a.lengths seat suit ∙ sym (ap count (hand_stays t d seat ok' held' (λ e. other (e ∙ sym turn))))
+        | inr other ↦ ap count (hand_stays s c seat ok held other) ∙ (a.hands seat).lengths suit ∙ sym (ap count (hand_stays t d seat ok' held' (λ e. other (e ∙ sym turn))))
       ]
 
 -- ---- the table after them
@@ -282,6 +282,8 @@ module _ (counting : List ℕ) (closed : IsClosedUp counting) (s t : State) (ok 
         need = tables.need;
         played = tables.played;
         trick = tables.trick;
-        hands = hands_after counting s t ok ok' a c d legal legal' like;
-        lengths = lengths_after counting s t ok ok' a c d legal legal' like;
+        hands = λ seat. record {
+          same = hands_after counting s t ok ok' a c d legal legal' like seat;
+          lengths = lengths_after counting s t ok ok' a c d legal legal' like seat;
+        };
       }

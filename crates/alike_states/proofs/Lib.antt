@@ -2,3 +2,4 @@ pub mod Likes
 pub mod Trick
 pub mod Cards
 pub mod Answers
+pub mod Counting

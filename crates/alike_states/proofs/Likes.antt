@@ -70,8 +70,7 @@ alike_self counting s = record {
   need = refl;
   played = refl;
   trick = λ place h. inl refl;
-  hands = λ seat card h. refl;
-  lengths = λ seat suit. refl;
+  hands = λ seat. record { same = λ card h. refl; lengths = λ suit. refl };
 }
 
 pub alike_back : (counting : List ℕ) (s t : State) → AreAlike counting s t → AreAlike counting t s
@@ -81,8 +80,7 @@ alike_back counting s t a = record {
   need = sym a.need;
   played = sym a.played;
   trick = λ place h. like_back counting (get_or s.position.trick.cards place 0) (get_or t.position.trick.cards place 0) (a.trick place (omega (arith, a.played)));
-  hands = λ seat card h. sym (a.hands seat card h);
-  lengths = λ seat suit. sym (a.lengths seat suit);
+  hands = λ seat. record { same = λ card h. sym ((a.hands seat).same card h); lengths = λ suit. sym ((a.hands seat).lengths suit) };
 }
 
 pub alike_on : (counting : List ℕ) (s t u : State) → AreAlike counting s t → AreAlike counting t u → AreAlike counting s u
@@ -93,8 +91,7 @@ alike_on counting s t u a b = record {
   played = a.played ∙ b.played;
   trick = λ place h. like_on counting (get_or s.position.trick.cards place 0) (get_or t.position.trick.cards place 0) (get_or u.position.trick.cards place 0)
       (a.trick place h) (b.trick place (omega (arith, a.played)));
-  hands = λ seat card h. a.hands seat card h ∙ b.hands seat card h;
-  lengths = λ seat suit. a.lengths seat suit ∙ b.lengths seat suit;
+  hands = λ seat. record { same = λ card h. (a.hands seat).same card h ∙ (b.hands seat).same card h; lengths = λ suit. (a.hands seat).lengths suit ∙ (b.hands seat).lengths suit };
 }
 
 pub alike_less : (part counting : List ℕ) (s t : State) → IsSubset part counting → AreAlike counting s t → AreAlike part s t
@@ -104,8 +101,7 @@ alike_less part counting s t within a = record {
   need = a.need;
   played = a.played;
   trick = λ place h. like_less part counting (get_or s.position.trick.cards place 0) (get_or t.position.trick.cards place 0) within (a.trick place h);
-  hands = λ seat card h. a.hands seat card (within card h);
-  lengths = a.lengths;
+  hands = λ seat. record { same = λ card h. (a.hands seat).same card (within card h); lengths = (a.hands seat).lengths };
 }
 
 -- ---- whose turn it is, and how many tricks are left
@@ -118,7 +114,7 @@ same_length xs ys same = omega (arith, by_suits xs, by_suits ys, same Spades, sa
 
 pub alike_tricks : (counting : List ℕ) (s t : State) → AreAlike counting s t → tricks_left s.position ≡ tricks_left t.position
 alike_tricks counting s t a =
-    let hand = same_length s.position.declarer t.position.declarer (a.lengths Declarer) in
+    let hand = same_length s.position.declarer t.position.declarer ((a.hands Declarer).lengths) in
     let played : played_count s.position Declarer ≡ played_count t.position Declarer = rw (a.leader, a.played) refl in
     omega arith
 

@@ -19,8 +19,14 @@ IsLike counting card other = (card ≡ other)
     ⊎ ((has_card counting card ≡ false) × (has_card counting other ≡ false)
     × (suit_of card ≡ suit_of other))
 
--- The same leader, trumps and need; each hand has the same of the cards that count, and as many
--- cards of each suit; the cards of the trick are like each other, place by place.
+-- the same of the cards that count, and as many cards of each suit
+pub record IsLikeHand (counting these those : List ℕ) : Type 0 where
+  pub same : (card : ℕ) → has_card counting card ≡ true
+      → has_card these card ≡ has_card those card
+  pub lengths : (suit : Suit) → length (of_suit suit these) ≡ length (of_suit suit those)
+
+-- the same leader, trumps and need; each hand is like that of the same seat, and each card of the
+-- trick like that at its place
 pub record AreAlike (counting : List ℕ) (s t : State) : Type 0 where
   pub leader : s.position.trick.leader ≡ t.position.trick.leader
   pub trump : s.position.trump ≡ t.position.trump
@@ -29,10 +35,7 @@ pub record AreAlike (counting : List ℕ) (s t : State) : Type 0 where
   pub trick : (place : ℕ) → place < length s.position.trick.cards
       → IsLike counting (slice_index s.position.trick.cards place)
       (slice_index t.position.trick.cards place)
-  pub hands : (seat : Seat) (card : ℕ) → has_card counting card ≡ true
-      → has_card (hand_of s seat) card ≡ has_card (hand_of t seat) card
-  pub lengths : (seat : Seat) (suit : Suit)
-      → length (of_suit suit (hand_of s seat)) ≡ length (of_suit suit (hand_of t seat))
+  pub hands : (seat : Seat) → IsLikeHand counting (hand_of s seat) (hand_of t seat)
 
 -- the card that wins a trick counts, or is the only one of its suit in it
 abbrev pub SettlesTrick : List ℕ → Trump → List ℕ → Type 0

@@ -1,12 +1,15 @@
 //! What the definitions come to. Each function does nothing: its contract is the law, proved from
 //! the definitions alone.
-ghost use Rattle.std.specs.Prelude.{◌≡◌, ℕ, ◌+◌, ◌<◌, ◌≤◌, Bool, true, false, Some, List, [], length};
+ghost use Rattle.std.specs.Prelude.{◌≡◌, ◌≢◌, ℕ, ◌+◌, ◌<◌, ◌≤◌, Bool, true, false, not, ◌&&◌, ◌||◌, Some, List, [], length, min, nat_lt, slice_index, All, AllPairs};
+ghost use Rattle.card_sets.specs.Cards.{suit_of, same_suit};
 ghost use Rattle.card_sets.specs.declared.seat.Seat.{Seat};
-ghost use Rattle.card_sets.specs.SetWords.{has_card, IsSubset};
-ghost use Rattle.trick_rules.specs.Positions.{State, to_play, tricks_left, IsState};
-ghost use Rattle.trick_rules.specs.Play.{after, decided, is_declarers, is_over, legal_in, makes};
+ghost use Rattle.card_sets.specs.SetWords.{has_card, cards_where, IsSubset};
+ghost use Rattle.trick_rules.specs.declared.trump.Trump.{Trump};
+ghost use Rattle.trick_rules.specs.declared.trump.Trump.TheVariants.{NoTrump};
+ghost use Rattle.trick_rules.specs.Positions.{State, seat_after, to_play, tricks_left, IsState};
+ghost use Rattle.trick_rules.specs.Play.{after, decided, hand_of, is_declarers, is_over, legal_in, IsWonBy};
 ghost use Rattle.sure_tricks.specs.Sure.{AreSure};
-ghost use Rattle.alike_states.specs.Alike.{IsClosedUp, IsLike, AreAlike, SettlesEnd, HasAnswer, GivesAnswer};
+ghost use Rattle.alike_states.specs.Alike.{IsClosedUp, IsLike, IsLikeHand, AreAlike, SettlesTrick, SettlesEnd, HasAnswer, GivesAnswer};
 
 // ---- alike states
 
@@ -38,6 +41,39 @@ pub fn alike_states_are_decided_alike()
         → tricks_left s.position ≡ tricks_left t.position }
     ensures result { (counting : List ℕ) (s t : State) → AreAlike counting s t
         → decided s.position ≡ decided t.position }
+{}
+
+/// Between two tricks, where the trick, trumps and need are the same, it is enough to look at
+/// declarer's hand, dummy's, the unseen cards and Left's.
+pub fn like_hands_make_alike_states()
+    ensures { (counting : List ℕ) (s t : State) → IsState s → IsState t
+        → s.position.trick ≡ t.position.trick → s.position.trump ≡ t.position.trump
+        → s.position.need ≡ t.position.need
+        → IsLikeHand counting s.position.declarer t.position.declarer
+        → IsLikeHand counting s.position.dummy t.position.dummy
+        → IsLikeHand counting s.position.unseen t.position.unseen
+        → IsLikeHand counting s.left t.left
+        → AreAlike counting s t }
+{}
+
+// ---- cards that count
+
+/// Closed up are: no card; a card with all higher ones of its suit; and the cards of two sets that
+/// are closed up.
+pub fn sets_that_are_closed_up()
+    ensures none { IsClosedUp [] }
+    ensures higher { (low : ℕ) → IsClosedUp
+        (cards_where (λ card. same_suit (suit_of card) (suit_of low) && not (nat_lt card low))) }
+    ensures both { (these those : List ℕ) → IsClosedUp these → IsClosedUp those
+        → IsClosedUp (cards_where (λ card. has_card these card || has_card those card)) }
+{}
+
+/// A trick is settled where the card that wins it counts.
+pub fn the_winner_settles_its_trick()
+    ensures { (counting : List ℕ) (trump : Trump) (cards : List ℕ) (place : ℕ)
+        → All (λ card. card < 52) cards → AllPairs (λ card other. card ≢ other) cards
+        → IsWonBy trump cards place → has_card counting (slice_index cards place) ≡ true
+        → SettlesTrick counting trump cards }
 {}
 
 // ---- a card
@@ -88,13 +124,42 @@ pub fn sure_cards_answer()
         → tricks_left s.position < s.position.need + length sure → HasAnswer counting s false }
 {}
 
-/// An answer goes from a state to an alike one, and from some of the cards that count to all.
+/// At no trump, so do the sure cards of both hands of the side on lead, where a card leads over.
+pub fn sure_cards_answer_together()
+    ensures ours { (counting : List ℕ) (s : State) (sure partners : List ℕ) (link card : ℕ)
+        → IsClosedUp counting → IsSubset sure counting → IsSubset partners counting → IsState s
+        → s.position.trick.cards ≡ [] → s.position.trump ≡ NoTrump
+        → AreSure s (to_play s.position) sure
+        → AreSure s (seat_after 2 (to_play s.position)) partners
+        → has_card (hand_of s (to_play s.position)) link ≡ true → has_card partners card ≡ true
+        → suit_of card ≡ suit_of link
+        → is_declarers (to_play s.position) ≡ true
+        → s.position.need ≤ min (tricks_left s.position) (length sure + length partners)
+        → HasAnswer counting s true }
+    ensures theirs { (counting : List ℕ) (s : State) (sure partners : List ℕ) (link card : ℕ)
+        → IsClosedUp counting → IsSubset sure counting → IsSubset partners counting → IsState s
+        → s.position.trick.cards ≡ [] → s.position.trump ≡ NoTrump
+        → AreSure s (to_play s.position) sure
+        → AreSure s (seat_after 2 (to_play s.position)) partners
+        → has_card (hand_of s (to_play s.position)) link ≡ true → has_card partners card ≡ true
+        → suit_of card ≡ suit_of link
+        → is_declarers (to_play s.position) ≡ false
+        → tricks_left s.position
+        < s.position.need + min (tricks_left s.position) (length sure + length partners)
+        → HasAnswer counting s false }
+{}
+
+/// An answer goes from a state to an alike one, and from some of the cards that count to all; so
+/// does what a card gives.
 #[tactic(auto, using(crate::proofs::Answers::an_alike_state_answers, crate::proofs::Answers::more_cards_answer))]
 pub fn an_answer_is_passed_on()
     ensures state { (counting : List ℕ) (s t : State) (made : Bool) → AreAlike counting s t
         → HasAnswer counting s made → HasAnswer counting t made }
     ensures cards { (part counting : List ℕ) (s : State) (made : Bool) → IsSubset part counting
         → HasAnswer part s made → HasAnswer counting s made }
+    ensures card { (part counting : List ℕ) (s : State) (card : ℕ) (made : Bool)
+        → IsSubset part counting → GivesAnswer part s card made
+        → GivesAnswer counting s card made }
 {}
 
 /// Where the side to play wants the answer that one of its cards gives, that is the answer.
