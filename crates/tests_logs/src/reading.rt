@@ -1,6 +1,6 @@
 //! Logs read from their text, and texts that are none, each with its first line at fault.
 use card_letters::read_card;
-use log_check::Rule;
+use log_check::{Log, Rule};
 use log_texts::{LogFault, log_text, read_log};
 use std::alloc::{AllocError, Global};
 use std::test::Fail;
@@ -8,9 +8,17 @@ use std::test::Fail;
 /// The log of an ending with two layouts and one move.
 const QUEEN_LOG: &str = "alphamu log 1\nleaf S2 0 - 11\nleaf S3 0 - 11\nunion - 1 1,2 11\nend\n";
 
+/// The log that a short text writes.
+fn log_in(alloc: Global, text: &[u8]) -> Result<Log, LogFault> {
+    if text.len() > 10_000 {
+        return Err(LogFault::Memory);
+    }
+    read_log(alloc, text)
+}
+
 /// The first line at fault of a text; None where it is a log, or memory ran out.
 fn fault_line(alloc: Global, text: &[u8]) -> Option<u32> {
-    match read_log(alloc, text) {
+    match log_in(alloc, text) {
         Ok(_) | Err(LogFault::Memory) => None,
         Err(LogFault::Line(line)) => Some(line),
     }
@@ -25,7 +33,7 @@ fn fault_in(alloc: Global, line: &str) -> Result<Option<u32>, AllocError> {
 #[test]
 fn each_part_of_a_line_is_read(rt: HostRuntime) -> Result<(), Fail> {
     let alloc = rt.alloc();
-    let log = read_log(alloc, QUEEN_LOG.as_bytes()).expect(&rt, "a log");
+    let log = log_in(alloc, QUEEN_LOG.as_bytes()).expect(&rt, "a log");
     assert_eq!(rt; log.len(), 3);
     let first = &log.as_slice()[0];
     assert_eq!(rt; first.rule, Rule::Leaf);
@@ -39,6 +47,7 @@ fn each_part_of_a_line_is_read(rt: HostRuntime) -> Result<(), Fail> {
     assert_eq!(rt; last.path.len(), 0);
     assert_eq!(rt; last.moves, 1);
     assert_eq!(rt; last.from.as_slice(), [1u32, 2].as_slice());
+    assert_eq!(rt; last.vectors.as_slice().len(), 1);
     assert_eq!(rt; last.vectors.as_slice()[0].count(), 2);
     Ok(())
 }
@@ -47,10 +56,10 @@ fn each_part_of_a_line_is_read(rt: HostRuntime) -> Result<(), Fail> {
 fn what_is_read_is_written_again(rt: HostRuntime) -> Result<(), Fail> {
     let alloc = rt.alloc();
     let text = "alphamu log 1\njoin S2.HT.DA 26 1,4294967295 0,101,11\nleaf - 0 - 1\nend\n";
-    let log = read_log(alloc, text.as_bytes()).expect(&rt, "a log");
+    let log = log_in(alloc, text.as_bytes()).expect(&rt, "a log");
     assert_eq!(rt; log_text(alloc, &log)?.bytes(), text.as_bytes());
     // The letters of a card are read in either case.
-    let low = read_log(alloc, b"alphamu log 1\nleaf s2.hT 0 - 11\nend\n").expect(&rt, "a log");
+    let low = log_in(alloc, b"alphamu log 1\nleaf s2.hT 0 - 11\nend\n").expect(&rt, "a log");
     let high = b"alphamu log 1\nleaf S2.HT 0 - 11\nend\n";
     assert_eq!(rt; log_text(alloc, &low)?.bytes(), high.as_slice());
     Ok(())
@@ -59,11 +68,17 @@ fn what_is_read_is_written_again(rt: HostRuntime) -> Result<(), Fail> {
 #[test]
 fn a_text_that_breaks_off_is_named_by_its_next_line(rt: HostRuntime) -> Result<(), Fail> {
     let alloc = rt.alloc();
-    let whole = QUEEN_LOG.as_bytes();
-    assert_eq!(rt; fault_line(alloc, whole), None);
+    assert_eq!(rt; fault_line(alloc, QUEEN_LOG.as_bytes()), None);
     // Without the last line end, without the last line, and without all lines.
-    assert_eq!(rt; fault_line(alloc, &whole[..whole.len() - 1]), Some(5));
-    assert_eq!(rt; fault_line(alloc, &whole[..whole.len() - 4]), Some(5));
+    assert_eq!(rt;
+        fault_line(alloc, b"alphamu log 1\nleaf - 0 - 1\nend"),
+        Some(3)
+    );
+    assert_eq!(rt;
+        fault_line(alloc, b"alphamu log 1\nleaf - 0 - 1\n"),
+        Some(3)
+    );
+    assert_eq!(rt; fault_line(alloc, b"alphamu log 1\nleaf - 0 - 1"), Some(2));
     assert_eq!(rt; fault_line(alloc, b"alphamu log 1\n"), Some(2));
     assert_eq!(rt; fault_line(alloc, b"alphamu log 1"), Some(1));
     assert_eq!(rt; fault_line(alloc, b""), Some(1));
