@@ -1,0 +1,10 @@
+pub mod LogSizes
+pub mod Growing
+pub mod CitedChildren
+pub mod NodeLogs
+pub mod OneLog
+pub mod RootCards
+pub mod Faults
+pub mod Depths
+pub mod FrontsSoFar
+pub mod RootLogs

@@ -1,0 +1,2 @@
+pub mod LogsFor
+pub mod Steps

@@ -1,0 +1,12 @@
+-- A log that is being written.
+use Rattle.std.specs.Prelude.{◌≡◌, ◌++◌, ℕ, List, length}
+use Rattle.trick_rules.specs.Nodes.{NodeValue}
+use Rattle.log_check.specs.declared.lines.LogLine.{LogLine}
+use Rattle.log_maker.specs.LogsFor.{IsLogFrom}
+
+-- it has grown by the lines of a node
+pub record HasGrown (n : NodeValue) (moves : ℕ) (path : List ℕ) (before after : List LogLine)
+    : Type 0 where
+  pub lines : List LogLine
+  pub longer : after ≡ before ++ lines
+  pub are : IsLogFrom n moves path (length before) lines

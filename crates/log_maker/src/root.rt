@@ -1,0 +1,150 @@
+//! The log of a root, in which each card has so many nodes for itself.
+ghost use Rattle.std.specs.Prelude.{◌≡◌, ◌≤◌, ◌<◌, ◌+◌, ◌-◌, ◌∷◌, [], ℕ, true, false, length};
+ghost use Rattle.std.specs.Prelude.{Contains, IfOk, IsErrOf};
+ghost use Rattle.trick_rules.specs.Positions.{to_play};
+ghost use Rattle.trick_rules.specs.Play.{is_declarers};
+ghost use Rattle.trick_rules.specs.Nodes.{IsNode, stops, choices, child, most_moves};
+ghost use Rattle.strategy_games.specs.Plans.{tree_size};
+ghost use Rattle.strategy_games.specs.Choosing.{IsFirstOf};
+ghost use Rattle.strategy_tree.specs.Bridge.{bridge};
+ghost use Rattle.front_table.specs.Proven.{IsFrontAt};
+ghost use Rattle.log_check.specs.Limits.{most_lines};
+ghost use Rattle.log_maker.specs.LogsFor.{IsLogFor};
+ghost use Rattle.log_maker.specs.Steps.{HasGrown};
+
+use crate::lines::{line_with, path_after};
+use crate::tree::{leaf, write_node};
+use alphamu_core::{RootFault, SearchFault};
+use card_sets::Card;
+use dd_solver::Solver;
+use log_check::{LineList, Log, Rule};
+use pareto_fronts::Front;
+use std::alloc::Global;
+use trick_rules::{CardLine, Node};
+
+/// The most nodes that a root card may be given. So the lines of thirteen cards can be numbered.
+pub const MOST_NODES: u64 = 268_435_456;
+
+/// The log of a node where declarer's side is to play and a card is left, with 1 to 26 moves of
+/// declarer's side. It proves that no strategy wins a vector that the node's front doesn't
+/// dominate.
+///
+/// The tree after each root card, with a move less, may have so many nodes, at most
+/// [`MOST_NODES`]. `Spent` comes exactly where one has more, and names the first such card, unless
+/// memory is wanted before.
+pub fn log_of(
+    alloc: Global,
+    solver: &mut Solver,
+    node: &Node,
+    moves: u8,
+    nodes: u64,
+) -> Result<Log, RootFault>
+    requires ours { bridge.is_ours node.now ≡ true }
+    requires goes_on { bridge.is_over node.now ≡ false }
+    requires some_moves { 1 ≤ moves }
+    requires few_moves { moves ≤ most_moves }
+    requires few_nodes { nodes ≤ MOST_NODES }
+    ensures log { IfOk result (IsLogFor node.now moves) }
+    ensures fits { IfOk result (λ _. (card : ℕ) → Contains (choices node.now) card
+        → tree_size bridge (child node.now card) (moves - 1) ≤ nodes) }
+    ensures spent { (card : ℕ) → IsErrOf result (RootFault.Spent card)
+        → IsFirstOf (λ c. nodes < tree_size bridge (child node.now c) (moves - 1))
+        (choices node.now) card }
+{
+    if node.stops(moves) {
+        log_where_decided(alloc, solver, node, moves, nodes)
+    } else {
+        log_by_cards(alloc, solver, node, moves, nodes as u32)
+    }
+}
+
+// Where the result is decided: a leaf. The tree after each card has one node.
+fn log_where_decided(
+    alloc: Global,
+    solver: &mut Solver,
+    node: &Node,
+    moves: u8,
+    nodes: u64,
+) -> Result<Log, RootFault>
+    requires some_moves { 1 ≤ moves }
+    requires stops { stops node.now moves ≡ true }
+    ensures log { IfOk result (IsLogFor node.now moves) }
+    ensures fits { IfOk result (λ _. (card : ℕ) → Contains (choices node.now) card
+        → tree_size bridge (child node.now card) (moves - 1) ≤ nodes) }
+    ensures spent { (card : ℕ) → IsErrOf result (RootFault.Spent card)
+        → IsFirstOf (λ c. nodes < tree_size bridge (child node.now c) (moves - 1))
+        (choices node.now) card }
+{
+    let mut cards = node.choices();
+    if let Some(card) = cards.pop_first() {
+        if nodes == 0 {
+            return Err(RootFault::Spent(card));
+        }
+    }
+    let (line, _) = leaf(alloc, solver, node, moves, CardLine::new())?;
+    let mut log = Log::new(alloc);
+    log.push(line)?;
+    Ok(log)
+}
+
+// Where it is open: the lines after each card, and a union of them.
+fn log_by_cards(
+    alloc: Global,
+    solver: &mut Solver,
+    node: &Node,
+    moves: u8,
+    nodes: u32,
+) -> Result<Log, RootFault>
+    requires ours { is_declarers (to_play node.now.position) ≡ true }
+    requires goes_on { stops node.now moves ≡ false }
+    requires few_nodes { nodes ≤ MOST_NODES }
+    ensures log { IfOk result (IsLogFor node.now moves) }
+    ensures fits { IfOk result (λ _. (card : ℕ) → Contains (choices node.now) card
+        → tree_size bridge (child node.now card) (moves - 1) ≤ nodes) }
+    ensures spent { (card : ℕ) → IsErrOf result (RootFault.Spent card)
+        → IsFirstOf (λ c. nodes < tree_size bridge (child node.now c) (moves - 1))
+        (choices node.now) card }
+{
+    let mut log = Log::new(alloc);
+    let mut front = Front::new(alloc, node.width());
+    let mut from = LineList::new(alloc);
+    let mut cards = node.choices();
+    'cards: while let Some(card) = cards.pop_first() {
+        let won = write_after(alloc, solver, node, card, moves - 1, nodes, &mut log)?;
+        front.union(&won)?;
+        from.push(log.len())?;
+    }
+    let line = line_with(alloc, Rule::Union, CardLine::new(), moves, from, &front)?;
+    log.push(line)?;
+    Ok(log)
+}
+
+// The lines after a root card, with so many moves left.
+fn write_after(
+    alloc: Global,
+    solver: &mut Solver,
+    node: &Node,
+    card: Card,
+    moves: u8,
+    nodes: u32,
+    log: &mut Log,
+) -> Result<Front, RootFault>
+    requires a_node { IsNode node.now }
+    requires card { Contains (choices node.now) card }
+    requires room { length log.old + nodes ≤ most_lines }
+    ensures front { IfOk result (IsFrontAt (child node.now card) moves) }
+    ensures grown { IfOk result (λ _.
+        HasGrown (child node.now card) moves (card ∷ []) log.old log.new) }
+    ensures fits { IfOk result (λ _. length log.new ≤ length log.old + nodes) }
+    ensures spent { (other : ℕ) → IsErrOf result (RootFault.Spent other)
+        → (other ≡ card) × (nodes < tree_size bridge (child node.now card) moves) }
+{
+    let (child, _) = node.child(alloc, card)?;
+    let behind = path_after(&CardLine::new(), card);
+    let limit = log.len() + nodes;
+    match write_node(alloc, solver, &child, moves, behind, limit, log) {
+        Ok(front) => Ok(front),
+        Err(SearchFault::Spent) => Err(RootFault::Spent(card)),
+        Err(SearchFault::Memory) => Err(RootFault::Memory),
+    }
+}
