@@ -1,5 +1,5 @@
 //! Plans that were found already.
-ghost use Rattle.std.specs.Prelude.{◌≡◌, ◌≤◌, length, IsTrue, IfOk, IfSome};
+ghost use Rattle.std.specs.Prelude.{◌≡◌, ◌≤◌, [], length, IsTrue, IfOk, IfSome};
 ghost use Rattle.strategy_games.specs.Choosing.{IsChosenPlan};
 ghost use Rattle.strategy_tree.specs.Bridge.{bridge};
 ghost use Rattle.strategy_tree.specs.PlanMeaning.{plan_of};
@@ -86,6 +86,16 @@ pub struct PlanMemo {
     slots: Vec<Option<FoundPlan>>,
 }
 
+// It is seen as what stands in its slots.
+impl Model for PlanMemo {
+    ghost use Rattle.std.specs.Prelude.{List, Option};
+    ghost use Rattle.plan_finder.specs.FoundPlans.{SoughtPlan};
+
+    ghost Value = { List (Option SoughtPlan) };
+
+    ghost view = { λ memo. memo.slots.items };
+}
+
 // A number that differs between most nodes with their moves and vectors.
 fn digest(node: &Node, moves: u8, vector: &WinVector) -> u64 {
     let position = node.position();
@@ -95,8 +105,17 @@ fn digest(node: &Node, moves: u8, vector: &WinVector) -> u64 {
     position.unseen.hash(&mut hasher);
     node.lefts().hash(&mut hasher);
     hasher.write_u8(moves);
-    hasher.write_u16(vector.count());
+    hasher.write_u64(mixed(vector));
     hasher.finish()
+}
+
+// A number that differs between most vectors of one width.
+fn mixed(vector: &WinVector) -> u64 {
+    let mut bits = 0u64;
+    for place in 0..vector.width() {
+        bits = bits.rotate_left(1) ^ u64::from(vector.get(place));
+    }
+    bits
 }
 
 // A slot with nothing in it, as often as there are slots.
@@ -113,7 +132,9 @@ fn empty_slots(alloc: Global) -> Result<Vec<Option<FoundPlan>>, AllocError>
 
 impl PlanMemo {
     /// No plan yet. It takes no memory.
-    pub fn new(alloc: Global) -> PlanMemo {
+    pub fn new(alloc: Global) -> PlanMemo
+        ensures { result ≡ [] }
+    {
         PlanMemo {
             alloc,
             slots: Vec::new(alloc),
