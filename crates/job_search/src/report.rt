@@ -26,6 +26,7 @@ use shared_table::{Pass, SharedStore, SharedTable};
 use std::alloc::Global;
 use std::thread::Threads;
 use trick_rules::Node;
+use wide_store::WideStore;
 
 // Each vector of the front, with the plan for it. The plans have many parts in common, which are
 // found once.
@@ -106,7 +107,7 @@ fn report<S: FrontStore>(
 }
 
 // The report of what was found, where the plans are found over the table that the search had, if it
-// had one.
+// had one, and beside it the fronts that are too wide for a table.
 fn report_over(
     alloc: Global,
     table: &SharedTable,
@@ -128,7 +129,7 @@ fn report_over(
 {
     let mut solver = Solver::new(alloc);
     if search.table {
-        let mut store = SharedStore::new(table, pass);
+        let mut store = WideStore::new(alloc, SharedStore::new(table, pass));
         report(alloc, &mut store, &mut solver, root, moves, search, found)
     } else {
         report(alloc, &mut NoStore, &mut solver, root, moves, search, found)
