@@ -4,6 +4,10 @@
 #![tactic(auto)]
 
 #[cfg(test)]
+mod endings;
+#[cfg(test)]
 mod logs;
+#[cfg(test)]
+mod made;
 #[cfg(test)]
 mod reading;

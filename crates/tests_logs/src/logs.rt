@@ -1,40 +1,13 @@
 //! The log of an ending with two layouts and one move, judged and written.
+use crate::endings::ending;
 use card_letters::read_card;
-use card_sets::{CardSet, Seat};
 use log_check::{LineList, Log, LogLine, LogVerdict, Rule, VectorList, check_log};
 use log_texts::log_text;
 use std::alloc::{AllocError, Global};
 use std::process::Abort;
 use std::test::Fail;
-use trick_rules::{CardLine, Node, Position, Trump};
+use trick_rules::CardLine;
 use win_vectors::WinVector;
-
-/// The spades of these ranks.
-fn spades(rt: &impl Abort, ranks: &[u8]) -> CardSet {
-    let mut set = CardSet::empty();
-    for rank in ranks {
-        set = set.with(read_card(b'S', *rank).expect(rt, "the letters of a card"));
-    }
-    set
-}
-
-/// Declarer holds the king and the jack, and dummy is to lead the three or the two. One trick is
-/// needed. Left has the queen and the five, or the ace and the five.
-fn ending(rt: &impl Abort, alloc: Global) -> Result<Node, AllocError> {
-    let position = Position::between_tricks(
-        spades(rt, b"KJ"),
-        spades(rt, b"32"),
-        spades(rt, b"AQ75"),
-        Seat::Dummy,
-        1,
-        Trump::NoTrump,
-    )
-    .expect(rt, "the ending is sound");
-    let one = spades(rt, b"Q5");
-    let other = spades(rt, b"A5");
-    assert!(rt; position.fits(one) && position.fits(other));
-    Node::new(alloc, position, [one, other].as_slice())
-}
 
 /// A line at the node behind a spade of this rank, or at the root, with the vector `11`.
 fn line(
@@ -77,7 +50,7 @@ fn log_of(rt: &impl Abort, alloc: Global, numbers: &[u32]) -> Result<Log, AllocE
 
 /// The verdict on such a log.
 fn judge(rt: &impl Abort, alloc: Global, moves: u8, numbers: &[u32]) -> Result<LogVerdict, Fail> {
-    let node = ending(rt, alloc)?;
+    let node = ending(rt, alloc, 1)?;
     let log = log_of(rt, alloc, numbers)?;
     Ok(check_log(alloc, &log, &node, moves, [WinVector::all(2)].as_slice())?)
 }
