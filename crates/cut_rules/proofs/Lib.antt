@@ -1,1 +1,1 @@
-pub mod GreatestCounts
+pub mod GreatestWeights

@@ -3,17 +3,19 @@
 //! A cut's yes means that no strategy wins a vector which alpha doesn't dominate already; a stop's yes, that the cards left out change nothing.
 #![tactic(auto)]
 
-ghost use Rattle.std.specs.Prelude.{◌≡◌, ◌↔◌, ℕ, suc, List, IsTrue};
-ghost use Rattle.win_vectors.specs.Vectors.{ones_of};
+ghost use Rattle.std.specs.Prelude.{◌≡◌, ◌↔◌, ◌⊎◌, ◌≤◌, ℕ, suc, List, Some, None};
+ghost use Rattle.std.specs.Prelude.{IsTrue, length};
 ghost use Rattle.win_vectors.specs.Fronts.{Vector, CoversAll, IsFrontOf};
+ghost use Rattle.win_vectors.specs.Weights.{weight_of};
 ghost use Rattle.trick_rules.specs.Nodes.{NodeValue};
 ghost use Rattle.strategy_games.specs.Plans.{IsFront};
 ghost use Rattle.strategy_games.specs.Joins.{WinsByCard};
-ghost use Rattle.strategy_games.specs.Choosing.{IsBestCount};
+ghost use Rattle.strategy_games.specs.Choosing.{IsBestWeight};
 ghost use Rattle.strategy_tree.specs.Bridge.{bridge};
-ghost use Rattle.cut_rules.specs.Stops.{AreOurCards, IsGreatestCount};
+ghost use Rattle.cut_rules.specs.Stops.{AreOurCards, IsGreatestWeight, IsGreatestOf};
 
 use pareto_fronts::Front;
+use win_vectors::Weights;
 
 /// Where a loop over root cards may stop early.
 #[derive(Clone, Copy, Debug, PartialEq, Eq)]
@@ -22,8 +24,8 @@ pub enum Stop {
     Never,
     /// The cards so far win what all cards win with a move less: the front can't grow.
     SameFront,
-    /// One card wins as many layouts as any wins with a move less: the best count can't rise.
-    SameCount,
+    /// One card wins as much weight as any wins with a move less: the best weight can't rise.
+    SameWeight,
 }
 
 /// Which cuts a search makes. No rule changes an answer.
@@ -90,16 +92,45 @@ pub fn same_front_stop(union: &Front, less: &Front) -> bool
     cut(less, union)
 }
 
-/// Whether this is the greatest count of the vectors of the front with a move less: then, where a
-/// vector of some card has it, it is the best count, and the other cards don't raise it.
-pub fn same_count_stop(best: u16, less: &Front) -> bool
-    ensures greatest { IsTrue result ↔ IsGreatestCount less.now.vectors best }
+// The greater of a weight and of the greatest so far.
+fn greater(greatest: Option<u32>, weight: u32) -> u32
+    ensures none { greatest ≡ None → result ≡ weight }
+    ensures some { (most : ℕ) → greatest ≡ Some most → (result ≡ most) ⊎ (result ≡ weight) }
+    ensures most { (most : ℕ) → greatest ≡ Some most → most ≤ result }
+    ensures weight { weight ≤ result }
+{
+    match greatest {
+        Some(most) if weight <= most => most,
+        _ => weight,
+    }
+}
+
+/// The greatest weight of a front's vectors. `None` exactly where it has none.
+pub fn greatest_weight(front: &Front, weights: &Weights) -> Option<u32>
+    requires { length weights.now ≡ front.now.width }
+    ensures { IsGreatestOf weights.now front.now.vectors result }
+{
+    let mut greatest = None;
+    for place in 0..front.len() {
+        greatest = Some(greater(greatest, weights.total(front.get(place))));
+    }
+    greatest
+}
+
+/// Whether this is the greatest weight of the vectors of the front with a move less: then, where a
+/// vector of some card has it, it is the best weight, and the other cards don't raise it.
+pub fn same_weight_stop(best: u32, less: &Front, weights: &Weights) -> bool
+    requires { length weights.now ≡ less.now.width }
+    ensures greatest { IsTrue result ↔ IsGreatestWeight weights.now less.now.vectors best }
     ensures enough { IsTrue result → (n : NodeValue) (moves : ℕ) (cards : List ℕ)
         → AreOurCards n cards
         → IsFront bridge n moves less.now.vectors
-        → (vector : Vector) → WinsByCard bridge n moves cards vector → ones_of vector ≡ best
-        → IsBestCount bridge n (suc moves) best }
+        → (vector : Vector) → WinsByCard bridge n moves cards vector
+        → weight_of weights.now vector ≡ best
+        → IsBestWeight bridge weights.now n (suc moves) best }
 {
-    // The vectors stand in order of their counts.
-    less.len() > 0 && less.get(0).count() == best
+    match greatest_weight(less, weights) {
+        Some(greatest) => greatest == best,
+        None => false,
+    }
 }

@@ -42,7 +42,7 @@ fn no_cut_and_each_cut(rt: HostRuntime) {
     let none = CutRules::none();
     assert!(rt; !none.early && !none.deepen && !none.bound);
     assert_eq!(rt; none.stop, Stop::Never);
-    let all = CutRules::all(Stop::SameCount);
+    let all = CutRules::all(Stop::SameWeight);
     assert!(rt; all.early && all.deepen && all.bound);
-    assert_eq!(rt; all.stop, Stop::SameCount);
+    assert_eq!(rt; all.stop, Stop::SameWeight);
 }
