@@ -1,3 +1,4 @@
 pub mod Answered
 pub mod Entries
 pub mod Spent
+pub mod Counts

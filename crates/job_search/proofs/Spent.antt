@@ -4,7 +4,7 @@ use Rattle.trick_rules.specs.Nodes.{NodeValue}
 use Rattle.job_words.specs.declared.asks.Search.{Search}
 use Rattle.job_words.specs.Asks.{IsSearchWithinLimits}
 use Rattle.root_workers.specs.Roots.{IsSpentAt, IsFirstSpentAt, AllFit}
-use Rattle.root_workers.specs.declared.by_workers.Options.{Options}
+use Rattle.root_workers.specs.declared.root.Options.{Options}
 use Rattle.root_workers.specs.Plain as options
 use Rattle.alphamu_core.specs.declared.answers.RootFault as root
 use Rattle.am_answer.specs.declared.root.Root.{Root}

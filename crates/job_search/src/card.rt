@@ -4,13 +4,13 @@ ghost use Rattle.job_words.specs.Asks.{IsMoves, IsSearchWithinLimits};
 ghost use Rattle.am_answer.specs.Answers.{has_choice, NamedCard};
 ghost use Rattle.am_answer.specs.Stages.{IsTaskRefusal, IsTextFor};
 
+use crate::counted::counted_card;
 use crate::table::{options_of, table_of};
 use am_answer::{Root, Status, root_status};
 use am_outside::Gate;
 use am_report::card_text;
 use byte_text::Text;
 use job_words::Search;
-use root_workers::card_by_workers;
 use std::alloc::Global;
 use std::thread::Threads;
 
@@ -33,7 +33,7 @@ pub fn name_card<R: Threads + Sync, G: Gate>(
     let node = &root.kept.node;
     let options = options_of(search);
     let (table, mut pass) = table_of(alloc, search)?;
-    match card_by_workers(rt, alloc, node, moves, &options, &table, &mut pass, gate) {
+    match counted_card(rt, alloc, node, moves, &options, &table, &mut pass, gate) {
         Ok(found) => Ok(card_text(alloc, found.card, found.count, node.width())?),
         Err(fault) => Err(root_status(fault)),
     }

@@ -4,6 +4,7 @@
 #![tactic(auto)]
 
 mod card;
+mod counted;
 mod made;
 mod report;
 mod table;

@@ -5,13 +5,13 @@ ghost use Rattle.am_answer.specs.Answers.{has_choice, Problem};
 ghost use Rattle.am_answer.specs.Reports.{made_moves};
 ghost use Rattle.am_answer.specs.Stages.{IsTaskRefusal, IsTextFor};
 
+use crate::counted::counted_front;
 use crate::table::{options_of, table_of};
 use am_answer::{Root, Status, root_status};
 use am_outside::Gate;
 use am_report::{MadeSummary, made_text};
 use byte_text::Text;
 use job_words::Search;
-use root_workers::front_by_workers;
 use std::alloc::Global;
 use std::thread::Threads;
 
@@ -35,7 +35,7 @@ pub fn summarize<R: Threads + Sync, G: Gate>(
     let node = &root.kept.node;
     let options = options_of(search);
     let (table, mut pass) = table_of(alloc, search)?;
-    match front_by_workers(rt, alloc, node, moves, &options, &table, &mut pass, gate) {
+    match counted_front(rt, alloc, node, moves, &options, &table, &mut pass, gate) {
         Ok(found) => {
             let summary = MadeSummary {
                 number,

@@ -10,6 +10,7 @@ ghost use Rattle.am_answer.specs.Answers.{has_choice, Report};
 ghost use Rattle.am_answer.specs.Reports.{IsSolveText};
 ghost use Rattle.am_answer.specs.Stages.{IsTaskRefusal, IsTextFor};
 
+use crate::counted::{CountedFront, counted_front};
 use crate::table::{options_of, table_of};
 use alphamu_core::RootFault;
 use am_answer::{Root, Status, root_status};
@@ -21,7 +22,6 @@ use front_table::{FrontStore, NoStore};
 use job_words::Search;
 use pareto_fronts::Front;
 use plan_finder::{PlanMemo, plan_over};
-use root_workers::{RootFront, front_by_workers};
 use shared_table::{Pass, SharedStore, SharedTable};
 use std::alloc::Global;
 use std::thread::Threads;
@@ -77,7 +77,7 @@ fn report<S: FrontStore>(
     root: &Root,
     moves: u8,
     search: &Search,
-    found: RootFront,
+    found: CountedFront,
 ) -> Result<Text, RootFault>
     requires turn { has_choice root.now.kept.node ≡ true }
     requires moves { IsMoves moves }
@@ -115,7 +115,7 @@ fn report_over(
     root: &Root,
     moves: u8,
     search: &Search,
-    found: RootFront,
+    found: CountedFront,
 ) -> Result<Text, RootFault>
     requires pass { IsPassOf table.now pass.old }
     requires turn { has_choice root.now.kept.node ≡ true }
@@ -155,7 +155,7 @@ pub fn solve<R: Threads + Sync, G: Gate>(
 {
     let options = options_of(search);
     let (table, mut pass) = table_of(alloc, search)?;
-    let found = match front_by_workers(
+    let found = match counted_front(
         rt,
         alloc,
         &root.kept.node,

@@ -1,53 +1,37 @@
 -- Where the cards so far are enough.
 use Rattle.std.proofs.Common.{◌≡◌, ◌∙◌, ◌≤◌, ◌+◌, ◌-◌, ℕ, zero, suc, true, false, Bool, Option, Some, Result, Ok, Err, IsErrAnd, IsErrOf, IsTrue, List, refl, sym, subst, arith, true≢false}
-use Rattle.win_vectors.specs.Vectors.{ones_of}
-use Rattle.win_vectors.specs.Fronts.{Vector, IsFrontOf}
+use Rattle.win_vectors.specs.Fronts.{Vector, CoversAll}
 use Rattle.pareto_fronts.specs.FrontValue.{FrontValue}
 use Rattle.trick_rules.specs.Nodes.{NodeValue, IsNode, child}
 use Rattle.strategy_games.specs.Plans.{IsFront, tree_size}
-use Rattle.strategy_games.specs.Joins.{WinsByCard}
-use Rattle.strategy_games.specs.Choosing.{IsBestCount}
 use Rattle.cut_rules.specs.declared.Stop.{Stop}
-use Rattle.cut_rules.specs.declared.Stop.TheVariants.{Never, SameFront, SameCount}
-use Rattle.cut_rules.specs.Stops.{AreOurCards}
+use Rattle.cut_rules.specs.declared.Stop.TheVariants.{Never, SameFront, SameWeight}
+use Rattle.cut_rules.specs.Stops.{IsGreatestWeight}
 use Rattle.strategy_tree.specs.Bridge.{bridge}
 use Rattle.strategy_tree.proofs.BridgeLaws.{sizes}
 use Rattle.root_workers.specs.Roots.{IsSpentAt}
-use Rattle.root_workers.proofs.RootSoFar.{RootSoFar, our_cards, lead_wins, whole_best}
+use Rattle.root_workers.proofs.RootSoFar.{RootSoFar, IsBest, whole_by_front, best_by_front, best_by_weight}
 
--- a front of some cards is the whole front where it covers this one with a move less
-abbrev pub IsFrontEnough : List Vector → List Vector → Type 0
-IsFrontEnough union less = (n : NodeValue) (moves : ℕ) (cards : List ℕ) → AreOurCards n cards
-    → IsFrontOf (WinsByCard bridge n moves cards) union → IsFront bridge n moves less → IsFront bridge n (suc moves) union
+module _ (n : NodeValue) (below : ℕ) (ws : List ℕ) {nodes : ℕ} {plain : Type 0} {cards : List ℕ} {front : FrontValue} {best : Option (ℕ × ℕ)}
+    (so : RootSoFar n below ws nodes plain cards front best) (sound : IsNode n) (over : bridge.is_over n ≡ false) (ours : bridge.is_ours n ≡ true)
+    (lead : ℕ × ℕ) (is : best ≡ Some lead) (less : List Vector) (stop : Stop) (is_less : (stop ≡ Never → ⊥) → IsFront bridge n below less) (says_so : Bool) (says : says_so ≡ true)
+    (never : stop ≡ Never → says_so ≡ false) (covers : stop ≡ SameFront → IsTrue says_so → CoversAll front.vectors less) where
+  front_at : (s : Stop) → stop ≡ s → (s ≡ SameWeight → ⊥) → IsFront bridge n (suc below) front.vectors
+  front_at Never e other = absurd (true≢false (sym says ∙ never e))
+  front_at SameFront e other = whole_by_front n below ws so sound over ours less (is_less (λ f. let no : SameFront ≡ Never = sym e ∙ f in cc)) (covers e says)
+  front_at SameWeight e other = absurd (other refl)
 
--- a count that some cards reach is the best where it is the greatest with a move less
-abbrev pub IsCountEnough : ℕ → List Vector → Type 0
-IsCountEnough best less = (n : NodeValue) (moves : ℕ) (cards : List ℕ) → AreOurCards n cards → IsFront bridge n moves less
-    → (vector : Vector) → WinsByCard bridge n moves cards vector → ones_of vector ≡ best → IsBestCount bridge n (suc moves) best
+  pub stop_front : (stop ≡ SameWeight → ⊥) → IsFront bridge n (suc below) front.vectors
+  stop_front other = front_at stop refl other
 
-module _ (n : NodeValue) (below : ℕ) {nodes : ℕ} {plain : Type 0} {cards : List ℕ} {front : FrontValue} {best : Option (ℕ × ℕ)}
-    (so : RootSoFar n below nodes plain cards front best) (sound : IsNode n) (over : bridge.is_over n ≡ false) (ours : bridge.is_ours n ≡ true)
-    (lead : ℕ × ℕ) (is : best ≡ Some lead) (less : List Vector) (stop : Stop) (is_less : (stop ≡ Never → ⊥) → IsFront bridge n below less) (says_so : Bool) (says : says_so ≡ true) where
-  module _ (never : stop ≡ Never → says_so ≡ false) (enough : stop ≡ SameFront → IsTrue says_so → IsFrontEnough front.vectors less) where
-    front_at : (s : Stop) → stop ≡ s → (s ≡ SameCount → ⊥) → IsFront bridge n (suc below) front.vectors
-    front_at Never e other = absurd (true≢false (sym says ∙ never e))
-    front_at SameFront e other = enough e says n below so.tried (our_cards n below so sound over ours) so.won (is_less (λ f. let no : SameFront ≡ Never = sym e ∙ f in cc))
-    front_at SameCount e other = absurd (other refl)
+  module _ (weighed : stop ≡ SameWeight → IsTrue says_so → IsGreatestWeight ws less lead.1) where
+    best_at : (s : Stop) → stop ≡ s → IsBest n below ws (suc below) lead
+    best_at Never e = absurd (true≢false (sym says ∙ never e))
+    best_at SameFront e = best_by_front n below ws so sound over ours lead is less (is_less (λ f. let no : SameFront ≡ Never = sym e ∙ f in cc)) (covers e says)
+    best_at SameWeight e = best_by_weight n below ws so sound over ours lead is less (is_less (λ f. let no : SameWeight ≡ Never = sym e ∙ f in cc)) (weighed e says)
 
-    pub stop_front : (stop ≡ SameCount → ⊥) → IsFront bridge n (suc below) front.vectors
-    stop_front other = front_at stop refl other
-
-    module _ (counted : stop ≡ SameCount → IsTrue says_so → IsCountEnough lead.1 less) where
-      best_at : (s : Stop) → stop ≡ s → (moves : ℕ) → suc below ≡ moves → IsBestCount bridge n moves lead.1
-      best_at Never e moves steps = absurd (true≢false (sym says ∙ never e))
-      best_at SameFront e moves steps = whole_best n below so sound over ours moves steps lead is (front_at SameFront e (λ f. let no : SameFront ≡ SameCount = f in cc))
-      best_at SameCount e moves steps =
-          let wins = lead_wins n below so sound over ours lead is in
-          subst (λ moves. IsBestCount bridge n moves lead.1) steps
-          (counted e says n below so.tried (our_cards n below so sound over ours) (is_less (λ f. let no : SameCount ≡ Never = sym e ∙ f in cc)) wins.0 wins.1 wins.2)
-
-      pub stop_best : (moves : ℕ) → suc below ≡ moves → IsBestCount bridge n moves lead.1
-      stop_best moves steps = best_at stop refl moves steps
+    pub stop_best : (moves : ℕ) → suc below ≡ moves → IsBest n below ws moves lead
+    stop_best moves steps = subst (λ moves. IsBest n below ws moves lead) steps (best_at stop refl)
 
 -- ---- rounds with fewer moves
 

@@ -1,7 +1,7 @@
 -- The card that leads so far.
 use Rattle.std.specs.Prelude.{ℕ, Option, Some, None, nat_lt, if◌then◌else◌}
 
--- a card with its best count takes the lead where it wins more layouts than each card before it
+-- a card with its best weight takes the lead where it wins more than each card before it
 abbrev pub leader : Option (ℕ × ℕ) → ℕ → ℕ → ℕ × ℕ
-leader None card count = (card, count)
-leader (Some best) card count = if nat_lt best.1 count then (card, count) else best
+leader None card weight = (card, weight)
+leader (Some best) card weight = if nat_lt best.1 weight then (card, weight) else best

@@ -2,3 +2,5 @@ pub mod Roots
 pub mod Leaders
 pub mod Rounds
 pub mod Plain
+pub mod Founds
+pub mod Reports

@@ -1,6 +1,6 @@
 -- How a root is searched.
 use Rattle.std.specs.Prelude.{◌≡◌, ◌≤◌, false}
-use Rattle.root_workers.specs.declared.by_workers.Options.{Options}
+use Rattle.root_workers.specs.declared.root.Options.{Options}
 
 -- the search has neither table nor cuts
 pub record IsPlain (o : Options) : Type 0 where

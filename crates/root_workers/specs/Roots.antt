@@ -1,7 +1,9 @@
 -- What is to be found at a root.
-use Rattle.std.specs.Prelude.{◌<◌, ◌≤◌, ◌-◌, ℕ, Contains}
+use Rattle.std.specs.Prelude.{◌<◌, ◌≤◌, ◌-◌, ℕ, List, Contains}
+use Rattle.win_vectors.specs.Fronts.{Vector, Dominates}
 use Rattle.trick_rules.specs.Nodes.{NodeValue, choices, child}
-use Rattle.strategy_games.specs.Plans.{tree_size}
+use Rattle.strategy_games.specs.Plans.{Fits, wins_vector, tree_size}
+use Rattle.strategy_games.specs.Joins.{WinsByCard}
 use Rattle.strategy_games.specs.Choosing.{IsFirstOf}
 use Rattle.strategy_tree.specs.Bridge.{bridge}
 
@@ -20,3 +22,13 @@ IsFirstSpentAt n moves nodes card = IsFirstOf (IsTooLarge n moves nodes) (choice
 -- no root card's tree is too large
 abbrev pub AllFit : NodeValue → ℕ → ℕ → Type 0
 AllFit n moves nodes = (card : ℕ) → Contains (choices n) card → tree_size bridge (child n card) (moves - 1) ≤ nodes
+
+-- whatever a strategy wins after the card, something is won after one of the earlier cards that dominates it
+abbrev pub IsCoveredBefore : NodeValue → ℕ → List ℕ → ℕ → Type 0
+IsCoveredBefore n moves earlier card = (p : _) → Fits bridge p (child n card) (moves - 1)
+    → (w : Vector) × WinsByCard bridge n (moves - 1) earlier w × Dominates w (wins_vector bridge p (child n card))
+
+-- whatever a strategy wins with a move less, something is won after one of these cards that dominates it
+abbrev pub AreEnough : NodeValue → ℕ → List ℕ → Type 0
+AreEnough n moves cards = (p : _) → Fits bridge p n (moves - 1)
+    → (w : Vector) × WinsByCard bridge n (moves - 1) cards w × Dominates w (wins_vector bridge p n)

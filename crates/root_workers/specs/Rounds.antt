@@ -1,8 +1,8 @@
 -- What a round asks, and what a worker may know of a root card.
 use Rattle.std.specs.Prelude.{◌≡◌, ◌≢◌, ◌<◌, ◌≤◌, ◌-◌, ℕ, true, false, List, Some, take, slice_get, length, Contains}
-use Rattle.win_vectors.specs.Fronts.{Vector, Dominates}
+use Rattle.win_vectors.specs.Fronts.{Vector}
 use Rattle.trick_rules.specs.Nodes.{choices, child, most_moves}
-use Rattle.strategy_games.specs.Plans.{Fits, wins_vector, IsFront, tree_size}
+use Rattle.strategy_games.specs.Plans.{IsFront, tree_size}
 use Rattle.strategy_games.specs.Joins.{WinsByCard}
 use Rattle.strategy_tree.specs.Bridge.{bridge}
 use Rattle.cut_rules.specs.declared.Stop.TheVariants.{Never}
@@ -11,6 +11,7 @@ use Rattle.front_table.specs.Proven.{IsFrontAt}
 use Rattle.shared_table.specs.declared.Pass.{Pass}
 use Rattle.shared_table.specs.Passes.{view_of}
 use Rattle.shared_table.specs.Stores.{HasGrownAt}
+use Rattle.root_workers.specs.Roots.{IsCoveredBefore}
 use Rattle.root_workers.specs.declared.rounds.Round.{Round}
 use Rattle.root_workers.specs.declared.places.Known.{Known}
 use Rattle.root_workers.specs.declared.places.Known.TheVariants.{Exact, Below, Spent}
@@ -23,6 +24,7 @@ pub record IsRound (r : Round) : Type 0 where
   pub goes_on : bridge.is_over r.node.now ≡ false
   pub some_moves : 1 ≤ r.moves
   pub few_moves : r.moves ≤ most_moves
+  pub weights : length r.weights.now ≡ length r.node.now.lefts
   pub width : r.less.now.width ≡ length r.node.now.lefts
   pub less : r.rules.stop ≢ Never → IsFront bridge r.node.now (r.moves - 1) r.less.now.vectors
 
@@ -39,15 +41,10 @@ size_after r card = tree_size bridge (child r.node.now card) (r.moves - 1)
 abbrev pub AreWonAfter : Round → List ℕ → List Vector → Type 0
 AreWonAfter r cards vectors = (v : Vector) → Contains vectors v → WinsByCard bridge r.node.now (r.moves - 1) cards v
 
--- whatever is won after the card, something is won after one of the earlier cards that dominates it
-abbrev pub IsCoveredBefore : Round → List ℕ → ℕ → Type 0
-IsCoveredBefore r earlier card = (p : _) → Fits bridge p (child r.node.now card) (r.moves - 1)
-    → (w : Vector) × WinsByCard bridge r.node.now (r.moves - 1) earlier w × Dominates w (wins_vector bridge p (child r.node.now card))
-
 -- what is known of a card by itself and the cards before it
 abbrev pub IsKnownAfter : Round → List ℕ → ℕ → Known → Type 0
 IsKnownAfter r earlier card (Exact front) = IsFrontAt (child r.node.now card) (r.moves - 1) front × (IsPlainRound r → size_after r card ≤ r.nodes)
-IsKnownAfter r earlier card Below = IsCoveredBefore r earlier card × (r.rules ≢ no_cuts)
+IsKnownAfter r earlier card Below = IsCoveredBefore r.node.now r.moves earlier card × (r.rules ≢ no_cuts)
 IsKnownAfter r earlier card Spent = r.nodes < size_after r card
 
 -- what is known of the root card at a place, counted from 0

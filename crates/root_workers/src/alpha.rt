@@ -1,16 +1,17 @@
 //! What a worker knows that the cards before a root card win.
-ghost use Rattle.std.specs.Prelude.{◌≡◌, ◌≤◌, ◌-◌, ◌⊎◌, OnOk, IfOk, Contains, length, take};
-ghost use Rattle.win_vectors.specs.Fronts.{Vector};
+ghost use Rattle.std.specs.Prelude.{◌≡◌, ◌≤◌, ◌-◌, ◌⊎◌, ℕ, false, OnOk, IfOk, IsTrue, Contains, length, take};
+ghost use Rattle.win_vectors.specs.Fronts.{Vector, CoversAll};
 ghost use Rattle.trick_rules.specs.Nodes.{choices, child};
 ghost use Rattle.strategy_games.specs.Plans.{CanWin};
 ghost use Rattle.strategy_tree.specs.Bridge.{bridge};
+ghost use Rattle.cut_rules.specs.Stops.{IsGreatestWeight};
 ghost use Rattle.front_table.specs.Entries.{most_entry_vectors};
 ghost use Rattle.shared_table.specs.Passes.{IsPassOf};
 ghost use Rattle.root_workers.specs.Rounds.{IsRound, IsOwn, AreWonAfter, HasSeenMore};
 
 use crate::rounds::Round;
 use card_sets::Card;
-use cut_rules::{Stop, same_count_stop, same_front_stop};
+use cut_rules::{Stop, greatest_weight, same_front_stop, same_weight_stop};
 use front_table::{Look, MOST_ENTRY_VECTORS};
 use pareto_fronts::Front;
 use shared_table::Pass;
@@ -137,13 +138,21 @@ pub fn known_before(
 
 /// Whether what some cards win shows that no later card changes the answer of the round.
 pub fn is_enough_before(round: &Round, alpha: &Front) -> bool
-    requires { alpha.now.width ≡ round.now.less.now.width }
+    requires round { IsRound round.now }
+    requires width { alpha.now.width ≡ length round.now.node.now.lefts }
+    ensures never { round.now.rules.stop ≡ Stop.Never → result ≡ false }
+    ensures front { round.now.rules.stop ≡ Stop.SameFront → IsTrue result
+        → CoversAll alpha.now.vectors round.now.less.now.vectors }
+    ensures weight { round.now.rules.stop ≡ Stop.SameWeight → IsTrue result → (weight : ℕ)
+        × IsGreatestWeight round.now.weights.now alpha.now.vectors weight
+        × IsGreatestWeight round.now.weights.now round.now.less.now.vectors weight }
 {
     match round.rules.stop {
         Stop::Never => false,
         Stop::SameFront => same_front_stop(alpha, round.less),
-        Stop::SameCount => {
-            !alpha.is_empty() && same_count_stop(alpha.get(0).count(), round.less)
-        }
+        Stop::SameWeight => match greatest_weight(alpha, round.weights) {
+            Some(weight) => same_weight_stop(weight, round.less, round.weights),
+            None => false,
+        },
     }
 }

@@ -4,20 +4,20 @@ ghost use Rattle.std.specs.Prelude.{length, take, slice_get, Some, All, IfOk, Is
 ghost use Rattle.win_vectors.specs.Fronts.{IsFrontOf};
 ghost use Rattle.trick_rules.specs.Nodes.{choices, child};
 ghost use Rattle.strategy_games.specs.Joins.{WinsByCard};
-ghost use Rattle.strategy_games.specs.Choosing.{IsBestCount, IsNamedCard};
+ghost use Rattle.strategy_games.specs.Choosing.{IsBestWeight, IsNamedByWeight};
 ghost use Rattle.strategy_tree.specs.Bridge.{bridge};
 ghost use Rattle.cut_rules.specs.Rules.{no_cuts};
 ghost use Rattle.front_table.specs.Proven.{IsFrontAt};
 ghost use Rattle.alphamu_core.specs.Findings.{IsFound, IsExact};
 ghost use Rattle.shared_table.specs.Passes.{IsPassOf};
 ghost use Rattle.root_workers.specs.Roots.{IsSpentAt, IsFirstSpentAt, AllFit};
+ghost use Rattle.root_workers.specs.Founds.{AreFound};
 ghost use Rattle.root_workers.specs.Rounds.{IsRound, IsPlainRound, IsRight, HasSeenMore, size_after};
 
 use crate::cards::search_card;
+use crate::leading::{found, is_enough, with_card};
 use crate::places::{Known, Place, taken};
-use crate::root::RootFront;
-use crate::round::{found, is_enough, with_card};
-use crate::rounds::Round;
+use crate::rounds::{Round, RoundFront};
 use crate::share::{Done, share};
 use alphamu_core::{Found, RootFault};
 use am_outside::Gate;
@@ -75,23 +75,26 @@ fn after_place<G: Gate>(
 /// nothing is known is searched now, and what the cards before it win is its alpha. The loop stops
 /// by the front with a move less, as the rules say.
 ///
-/// Where it stops by the count, the front is that of the cards until then.
+/// Where it stops by the weight, the front is that of the cards until then.
 pub fn best_over<G: Gate>(
     round: &Round,
     gate: &G,
     solver: &mut Solver,
     pass: &mut Pass,
     mut places: Vec<Place>,
-) -> Result<RootFront, RootFault>
+) -> Result<RoundFront, RootFault>
     requires round { IsRound round.now }
     requires pass { IsPassOf round.now.table.now pass.old }
     requires right { All (IsRight round.now) places.items }
-    ensures front { round.now.rules.stop ≢ Stop.SameCount
+    ensures front { round.now.rules.stop ≢ Stop.SameWeight
         → IfOk result (λ root. IsFrontAt round.now.node.now round.now.moves root.front) }
-    ensures card { IfOk result (λ root.
-        IsNamedCard bridge round.now.node.now round.now.moves root.card) }
-    ensures count { IfOk result (λ root.
-        IsBestCount bridge round.now.node.now round.now.moves root.count) }
+    ensures card { IfOk result (λ root. IsNamedByWeight bridge round.now.weights.now
+        round.now.node.now round.now.moves root.card) }
+    ensures weight { IfOk result (λ root. IsBestWeight bridge round.now.weights.now
+        round.now.node.now round.now.moves root.weight) }
+    ensures founds { round.now.rules.stop ≢ Stop.SameWeight → IfOk result (λ root.
+        AreFound round.now.node.now round.now.moves (round.now.rules ≢ no_cuts)
+        root.founds.items) }
     ensures fits { IsPlainRound round.now
         → IfOk result (λ _. AllFit round.now.node.now round.now.moves round.now.nodes) }
     ensures spent { (card : ℕ) → IsErrOf result (RootFault.Spent card)
@@ -104,6 +107,7 @@ pub fn best_over<G: Gate>(
 {
     let mut front = Front::new(round.alloc, round.node.width());
     let mut best = None;
+    let mut founds = Vec::new(round.alloc);
     let mut place = 0;
     let mut cards = round.node.choices();
     'cards: while let Some(card) = cards.pop_first() {
@@ -111,17 +115,18 @@ pub fn best_over<G: Gate>(
         place += 1;
         match below {
             Found::Exact(won) => {
-                let lead = with_card(&mut front, best, card, &won)?;
-                if is_enough(round.rules.stop, &front, lead.1, round.less) {
-                    return Ok(found(front, lead));
+                let lead = with_card(&mut front, round.weights, best, card, &won)?;
+                founds.push(Found::Exact(won))?;
+                if is_enough(round.rules.stop, &front, lead.1, round.less, round.weights) {
+                    return Ok(found(front, lead, founds));
                 }
                 best = Some(lead);
             }
-            Found::Below => {}
+            Found::Below => founds.push(Found::Below)?,
         }
     }
     match best {
-        Some(best) => Ok(found(front, best)),
+        Some(best) => Ok(found(front, best, founds)),
         None => unreachable!(),
     }
 }
@@ -133,17 +138,20 @@ pub fn run_round<R: Threads + Sync, G: Gate>(
     gate: &G,
     solvers: &mut [Solver],
     pass: &mut Pass,
-) -> Result<RootFront, RootFault>
+) -> Result<RoundFront, RootFault>
     requires round { IsRound round.now }
     requires some { 1 ≤ length solvers.old }
     requires few { length solvers.old ≤ 64 }
     requires pass { IsPassOf round.now.table.now pass.old }
-    ensures front { round.now.rules.stop ≢ Stop.SameCount
+    ensures front { round.now.rules.stop ≢ Stop.SameWeight
         → IfOk result (λ root. IsFrontAt round.now.node.now round.now.moves root.front) }
-    ensures card { IfOk result (λ root.
-        IsNamedCard bridge round.now.node.now round.now.moves root.card) }
-    ensures count { IfOk result (λ root.
-        IsBestCount bridge round.now.node.now round.now.moves root.count) }
+    ensures card { IfOk result (λ root. IsNamedByWeight bridge round.now.weights.now
+        round.now.node.now round.now.moves root.card) }
+    ensures weight { IfOk result (λ root. IsBestWeight bridge round.now.weights.now
+        round.now.node.now round.now.moves root.weight) }
+    ensures founds { round.now.rules.stop ≢ Stop.SameWeight → IfOk result (λ root.
+        AreFound round.now.node.now round.now.moves (round.now.rules ≢ no_cuts)
+        root.founds.items) }
     ensures fits { IsPlainRound round.now
         → IfOk result (λ _. AllFit round.now.node.now round.now.moves round.now.nodes) }
     ensures spent { (card : ℕ) → IsErrOf result (RootFault.Spent card)

@@ -1,166 +1,164 @@
 //! What is found at a root: over all its cards, or no more than the card to play.
-ghost use Rattle.std.specs.Prelude.{◌≡◌, ◌≢◌, ◌≤◌, ℕ, true, false, IfOk, IsErrOf};
+ghost use Rattle.std.specs.Prelude.{◌≡◌, ◌≤◌, ℕ, true, false, IfOk, IsErrOf, length};
 ghost use Rattle.trick_rules.specs.Nodes.{most_moves};
-ghost use Rattle.strategy_games.specs.Choosing.{IsBestCount, IsNamedCard};
+ghost use Rattle.strategy_games.specs.Choosing.{IsBestWeight, IsNamedByWeight};
 ghost use Rattle.strategy_tree.specs.Bridge.{bridge};
 ghost use Rattle.front_table.specs.Proven.{IsFrontAt};
+ghost use Rattle.shared_table.specs.Passes.{IsPassOf};
 ghost use Rattle.root_workers.specs.Roots.{IsSpentAt, IsFirstSpentAt, AllFit};
+ghost use Rattle.root_workers.specs.Plain.{IsPlain, HasWorkers};
+ghost use Rattle.root_workers.specs.Rounds.{HasSeenMore};
+ghost use Rattle.root_workers.specs.Reports.{AreReports, course_of};
 
-use crate::round::round;
-use crate::searches::double_dummy;
+use crate::deepening::rounds;
+use crate::reports::{CardReport, Reported, reports};
 use alphamu_core::RootFault;
+use am_outside::Gate;
 use card_sets::Card;
-use cut_rules::{CutRules, Stop};
-use dd_solver::Solver;
-use front_table::FrontStore;
+use cut_rules::Stop;
 use pareto_fronts::Front;
+use shared_table::{Pass, SharedTable};
 use std::alloc::Global;
+use std::thread::Threads;
 use trick_rules::Node;
+use win_vectors::Weights;
 
-/// The front of a root, the card to play, and how many layouts it wins.
+/// How a root is searched.
+#[derive(Clone, Copy, Debug, PartialEq, Eq)]
+pub struct Options {
+    /// How many nodes the search of each root card may enter.
+    pub nodes: u64,
+    /// How many workers share the root cards: 1 to 64.
+    pub workers: u32,
+    /// Whether the searches look into the table.
+    pub table: bool,
+    /// Whether the searches make cuts.
+    pub cuts: bool,
+}
+
+/// The front of a root, the card to play, the weight of the layouts that it wins, and what became of
+/// each root card, in card order.
 #[derive(Drop)]
 pub struct RootFront {
     pub front: Front,
     pub card: Card,
-    pub count: u16,
+    pub weight: u32,
+    pub cards: Vec<CardReport>,
 }
 
-/// The card to play at a root, and how many layouts it wins.
+/// The card to play at a root, and the weight of the layouts that it wins.
 #[derive(Clone, Copy, Debug, PartialEq, Eq)]
 pub struct RootCard {
     pub card: Card,
-    pub count: u16,
-}
-
-// The front by rounds: with no moves it is double dummy, and each round has a move more.
-fn deepened<S: FrontStore>(
-    alloc: Global,
-    store: &mut S,
-    solver: &mut Solver,
-    node: &Node,
-    moves: u8,
-    nodes: u64,
-) -> Result<Front, RootFault>
-    requires ours { bridge.is_ours node.now ≡ true }
-    requires goes_on { bridge.is_over node.now ≡ false }
-    requires few_moves { moves ≤ most_moves }
-    ensures front { IfOk result (IsFrontAt node.now moves) }
-    ensures spent { (card : ℕ) → IsErrOf result (RootFault.Spent card)
-        → IsSpentAt node.now moves nodes card }
-    ensures grown { S.grown store.old store.new }
-{
-    let rules = CutRules::all(Stop::SameFront);
-    let mut front = double_dummy(alloc, store, solver, node)?;
-    for fewer in 0..moves {
-        front = round(alloc, store, solver, node, fewer + 1, nodes, rules, &front)?.front;
-    }
-    Ok(front)
-}
-
-// The last round, after those with fewer moves; or, without cuts, the only one.
-fn last_round<S: FrontStore>(
-    alloc: Global,
-    store: &mut S,
-    solver: &mut Solver,
-    node: &Node,
-    moves: u8,
-    nodes: u64,
-    cuts: bool,
-    stop: Stop,
-) -> Result<RootFront, RootFault>
-    requires ours { bridge.is_ours node.now ≡ true }
-    requires goes_on { bridge.is_over node.now ≡ false }
-    requires some_moves { 1 ≤ moves }
-    requires few_moves { moves ≤ most_moves }
-    ensures front { stop ≢ Stop.SameCount
-        → IfOk result (λ root. IsFrontAt node.now moves root.front) }
-    ensures card { IfOk result (λ root. IsNamedCard bridge node.now moves root.card) }
-    ensures count { IfOk result (λ root. IsBestCount bridge node.now moves root.count) }
-    ensures fits { cuts ≡ false → S.blind ≡ true → IfOk result (λ _. AllFit node.now moves nodes) }
-    ensures spent { (card : ℕ) → IsErrOf result (RootFault.Spent card)
-        → IsSpentAt node.now moves nodes card }
-    ensures first_spent { cuts ≡ false → S.blind ≡ true → (card : ℕ)
-        → IsErrOf result (RootFault.Spent card)
-        → IsFirstSpentAt node.now moves nodes card }
-    ensures grown { S.grown store.old store.new }
-{
-    if cuts {
-        let less = deepened(alloc, store, solver, node, moves - 1, nodes)?;
-        let rules = CutRules::all(stop);
-        round(alloc, store, solver, node, moves, nodes, rules, &less)
-    } else {
-        let less = Front::new(alloc, node.width());
-        let rules = CutRules::none();
-        round(alloc, store, solver, node, moves, nodes, rules, &less)
-    }
+    pub weight: u32,
 }
 
 /// The front of a node where declarer's side is to play, with 1 to 26 moves; the first card after
-/// which the best count is kept; and that count.
+/// which the best weight is kept; and that weight, by a weight for each of the node's layouts. The
+/// workers, the gate, the table and the cuts change none of them.
 ///
-/// Each search of a root card has a budget of so many nodes for itself. With cuts the loop goes
-/// over the cards in rounds with 1, 2, .. moves, and a card that the cards before it cover is left.
-/// Without them each card is searched to its end.
+/// Each search of a root card has a budget of so many nodes for itself, and stands between the
+/// gate's `enter` and `leave`. With cuts the workers go over the cards in rounds with 1, 2, ..
+/// moves, and a card that the cards before it cover is left. Without them each card is searched to
+/// its end. The workers are joined, so it may wait.
 ///
-/// `Spent` names a root card whose tree has more nodes; without cuts, and where the store finds
-/// nothing, the first such card, and exactly where there is one.
-pub fn root_front<S: FrontStore>(
+/// `Spent` names a root card whose tree has more nodes; with neither table nor cuts the first such
+/// card, and exactly where there is one.
+pub fn root_front<R: Threads + Sync, G: Gate>(
+    rt: &R,
     alloc: Global,
-    store: &mut S,
-    solver: &mut Solver,
     node: &Node,
     moves: u8,
-    nodes: u64,
-    cuts: bool,
+    weights: &Weights,
+    options: &Options,
+    table: &SharedTable,
+    pass: &mut Pass,
+    gate: &G,
 ) -> Result<RootFront, RootFault>
     requires ours { bridge.is_ours node.now ≡ true }
     requires goes_on { bridge.is_over node.now ≡ false }
     requires some_moves { 1 ≤ moves }
     requires few_moves { moves ≤ most_moves }
+    requires weights { length weights.now ≡ length node.now.lefts }
+    requires workers { HasWorkers options.now }
+    requires pass { IsPassOf table.now pass.old }
     ensures front { IfOk result (λ root. IsFrontAt node.now moves root.front) }
-    ensures card { IfOk result (λ root. IsNamedCard bridge node.now moves root.card) }
-    ensures count { IfOk result (λ root. IsBestCount bridge node.now moves root.count) }
-    ensures fits { cuts ≡ false → S.blind ≡ true → IfOk result (λ _. AllFit node.now moves nodes) }
+    ensures card { IfOk result (λ root. IsNamedByWeight bridge weights.now node.now moves
+        root.card) }
+    ensures weight { IfOk result (λ root. IsBestWeight bridge weights.now node.now moves
+        root.weight) }
+    ensures cards { IfOk result (λ root. AreReports (course_of node.now moves options.now
+        table.now pass.old pass.new) root.cards.items) }
+    ensures fits { IsPlain options.now
+        → IfOk result (λ _. AllFit node.now moves options.now.nodes) }
     ensures spent { (card : ℕ) → IsErrOf result (RootFault.Spent card)
-        → IsSpentAt node.now moves nodes card }
-    ensures first_spent { cuts ≡ false → S.blind ≡ true → (card : ℕ)
+        → IsSpentAt node.now moves options.now.nodes card }
+    ensures first_spent { IsPlain options.now → (card : ℕ)
         → IsErrOf result (RootFault.Spent card)
-        → IsFirstSpentAt node.now moves nodes card }
-    ensures grown { S.grown store.old store.new }
+        → IsFirstSpentAt node.now moves options.now.nodes card }
+    ensures pass { IsPassOf table.now pass.new }
+    ensures grown { HasSeenMore pass.old pass.new }
 {
     let stop = Stop::SameFront;
-    last_round(alloc, store, solver, node, moves, nodes, cuts, stop)
+    let found = rounds(
+        rt, alloc, node, moves, weights, options, table, pass, gate, stop,
+    )?;
+    let root = Reported {
+        alloc,
+        node,
+        moves,
+        options,
+        table,
+    };
+    let cards = reports(&root, pass, &found.founds)?;
+    Ok(RootFront {
+        front: found.front,
+        card: found.card,
+        weight: found.weight,
+        cards,
+    })
 }
 
-/// The card to play at a root, and its count, as `root_front` names them. It may end earlier, since
+/// The card to play at a root, and its weight, as `root_front` names them. It may end earlier, since
 /// the front need not be whole.
-pub fn root_card<S: FrontStore>(
+pub fn root_card<R: Threads + Sync, G: Gate>(
+    rt: &R,
     alloc: Global,
-    store: &mut S,
-    solver: &mut Solver,
     node: &Node,
     moves: u8,
-    nodes: u64,
-    cuts: bool,
+    weights: &Weights,
+    options: &Options,
+    table: &SharedTable,
+    pass: &mut Pass,
+    gate: &G,
 ) -> Result<RootCard, RootFault>
     requires ours { bridge.is_ours node.now ≡ true }
     requires goes_on { bridge.is_over node.now ≡ false }
     requires some_moves { 1 ≤ moves }
     requires few_moves { moves ≤ most_moves }
-    ensures card { IfOk result (λ root. IsNamedCard bridge node.now moves root.card) }
-    ensures count { IfOk result (λ root. IsBestCount bridge node.now moves root.count) }
-    ensures fits { cuts ≡ false → S.blind ≡ true → IfOk result (λ _. AllFit node.now moves nodes) }
+    requires weights { length weights.now ≡ length node.now.lefts }
+    requires workers { HasWorkers options.now }
+    requires pass { IsPassOf table.now pass.old }
+    ensures card { IfOk result (λ root. IsNamedByWeight bridge weights.now node.now moves
+        root.card) }
+    ensures weight { IfOk result (λ root. IsBestWeight bridge weights.now node.now moves
+        root.weight) }
+    ensures fits { IsPlain options.now
+        → IfOk result (λ _. AllFit node.now moves options.now.nodes) }
     ensures spent { (card : ℕ) → IsErrOf result (RootFault.Spent card)
-        → IsSpentAt node.now moves nodes card }
-    ensures first_spent { cuts ≡ false → S.blind ≡ true → (card : ℕ)
+        → IsSpentAt node.now moves options.now.nodes card }
+    ensures first_spent { IsPlain options.now → (card : ℕ)
         → IsErrOf result (RootFault.Spent card)
-        → IsFirstSpentAt node.now moves nodes card }
-    ensures grown { S.grown store.old store.new }
+        → IsFirstSpentAt node.now moves options.now.nodes card }
+    ensures pass { IsPassOf table.now pass.new }
+    ensures grown { HasSeenMore pass.old pass.new }
 {
-    let stop = Stop::SameCount;
-    let found = last_round(alloc, store, solver, node, moves, nodes, cuts, stop)?;
+    let stop = Stop::SameWeight;
+    let found = rounds(
+        rt, alloc, node, moves, weights, options, table, pass, gate, stop,
+    )?;
     Ok(RootCard {
         card: found.card,
-        count: found.count,
+        weight: found.weight,
     })
 }

@@ -1,16 +1,20 @@
-//! What a round asks of each worker.
+//! What a round asks of each worker, and what it finds.
+use alphamu_core::Found;
+use card_sets::Card;
 use cut_rules::CutRules;
 use pareto_fronts::Front;
 use shared_table::SharedTable;
 use std::alloc::Global;
 use trick_rules::Node;
+use win_vectors::Weights;
 
 /// A round over the root cards: with so many moves, each search within so many nodes, by these
-/// rules, and the front with a move less.
+/// rules, the weights of the layouts, and the front with a move less.
 #[derive(Drop)]
 pub struct Round<'a> {
     pub alloc: Global,
     pub node: &'a Node,
+    pub weights: &'a Weights,
     pub moves: u8,
     pub nodes: u64,
     pub rules: CutRules,
@@ -18,4 +22,14 @@ pub struct Round<'a> {
     pub table: &'a SharedTable,
     /// Whether the searches look into the table.
     pub looks: bool,
+}
+
+/// What a round finds: the front, the card that leads with its weight, and what was found after each
+/// root card, in card order, as far as the round went.
+#[derive(Drop)]
+pub struct RoundFront {
+    pub front: Front,
+    pub card: Card,
+    pub weight: u32,
+    pub founds: Vec<Found>,
 }

@@ -34,8 +34,6 @@ mod plans;
 #[cfg(test)]
 mod play_outs;
 #[cfg(test)]
-mod roots;
-#[cfg(test)]
 mod sampling;
 #[cfg(test)]
 mod search;

@@ -1,11 +1,10 @@
 //! The plan for one vector of a small ending, which was worked out by hand.
 use crate::given::{GUESS, card, node_of, vector};
-use alphamu_core::RootFault;
+use alphamu_core::{RootFault, exact_front};
 use byte_text::Text;
 use dd_solver::Solver;
 use front_table::NoStore;
 use plan_finder::plan_for;
-use root_workers::root_front;
 use std::alloc::Global;
 use std::process::Abort;
 use std::test::Fail;
@@ -21,7 +20,7 @@ fn second_plan(
     let root = node_of(rt, alloc, GUESS)?;
     assert!(rt; root.is_ours() && !root.position().over());
     let mut solver = Solver::new(alloc);
-    let front = root_front(alloc, &mut NoStore, &mut solver, &root, 2, 10, false)?.front;
+    let front = exact_front(alloc, &mut NoStore, &mut solver, &root, 2, 21)?;
     let second = vector(rt, "01");
     assert!(rt; second.width() == front.width());
     let target = front.pick(&second).expect(rt, "a vector of the front");

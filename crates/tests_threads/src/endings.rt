@@ -45,3 +45,11 @@ pub fn after_two(rt: &impl Abort, alloc: Global) -> Result<Node, AllocError> {
     assert!(rt; root.choices().has(two));
     Ok(root.child(alloc, two)?.0)
 }
+
+/// The node after dummy's S2 and Right's S7.
+pub fn after_seven(rt: &impl Abort, alloc: Global) -> Result<Node, AllocError> {
+    let two = after_two(rt, alloc)?;
+    let seven = spade(7);
+    assert!(rt; two.choices().has(seven));
+    Ok(two.child(alloc, seven)?.0)
+}

@@ -1,37 +1,233 @@
-//! Workers over the root cards of a small ending.
-use crate::endings::{guess, spade};
+//! Workers over the root cards of a small ending. The fronts, the weights and the numbers of nodes
+//! were worked out by hand.
+ghost use Rattle.shared_table.specs.Passes.{IsPassOf};
+
+use crate::endings::{after_seven, guess, spade};
 use crate::gates::Meeting;
-use am_outside::Gate;
-use root_workers::{Options, RootFront, front_by_workers};
-use shared_table::SharedTable;
+use alphamu_core::RootFault;
+use am_outside::{Gate, OpenGate};
+use card_sets::Card;
+use pareto_fronts::Front;
+use root_workers::{CardReport, Options, Outcome, RootFront, Stored, root_card, root_front};
+use shared_table::{Pass, SharedTable};
 use std::alloc::Global;
 use std::process::Abort;
 use std::test::Fail;
 use std::thread::Threads;
+use trick_rules::Node;
+use win_vectors::{Weights, WinVector};
 
-// The front of the ending with two moves, by two workers over a table of one shard.
-fn by_two_workers<R: Threads + Abort + Sync, G: Gate>(
+// Either card of dummy is followed by ten nodes with a move left.
+const WAYS: [Options; 4] = [
+    Options {
+        nodes: 10,
+        workers: 1,
+        table: false,
+        cuts: false,
+    },
+    Options {
+        nodes: 10,
+        workers: 1,
+        table: true,
+        cuts: true,
+    },
+    Options {
+        nodes: 10,
+        workers: 2,
+        table: false,
+        cuts: true,
+    },
+    Options {
+        nodes: 10,
+        workers: 64,
+        table: true,
+        cuts: false,
+    },
+];
+
+// The front of a root by equal weights, over a table of one shard.
+fn front_of<R: Threads + Abort + Sync, G: Gate>(
     rt: &R,
     alloc: Global,
+    node: &Node,
+    moves: u8,
+    options: &Options,
     gate: &G,
-) -> Result<RootFront, Fail> {
-    let node = guess(rt, alloc)?;
-    assert!(rt; node.is_ours() && !node.position().over());
+) -> Result<Result<RootFront, RootFault>, Fail> {
+    let weights = Weights::equal(node.width());
+    assert!(rt; node.is_ours() && !node.position().over() && weights.width() == node.width());
+    assert!(rt; 1 <= moves && moves <= 26 && 1 <= options.workers && options.workers <= 64);
     let (table, mut pass) = SharedTable::new(alloc, 1, 64)?;
+    Ok(root_front(
+        rt, alloc, node, moves, &weights, options, &table, &mut pass, gate,
+    ))
+}
+
+// The card of a root by the weights of its two layouts, without cuts.
+fn card_by<R: Threads + Abort + Sync>(
+    rt: &R,
+    alloc: Global,
+    node: &Node,
+    moves: u8,
+    one: u32,
+    other: u32,
+) -> Result<(Card, u32), Fail> {
+    assert!(rt; node.width() == 2 && node.is_ours() && !node.position().over());
+    assert!(rt; 1 <= moves && moves <= 26);
+    assert!(rt; 1 <= one && one <= 1_000_000 && 1 <= other && other <= 1_000_000);
+    let weights = Weights::equal(2).set(0, one).set(1, other);
+    assert!(rt; weights.width() == node.width());
+    let (table, mut pass) = SharedTable::new(alloc, 1, 64)?;
+    let found = root_card(
+        rt, alloc, node, moves, &weights, &WAYS[1], &table, &mut pass, &OpenGate,
+    )?;
+    Ok((found.card, found.weight))
+}
+
+// A vector of two layouts.
+fn pair(one: bool, other: bool) -> WinVector {
+    WinVector::none(2).set(0, one).set(1, other)
+}
+
+fn assert_vectors(rt: &impl Abort, front: &Front, vectors: &[WinVector]) {
+    assert_eq!(rt; front.as_slice(), vectors);
+}
+
+#[test]
+fn two_moves_have_to_guess_and_one_sees_all(rt: HostRuntime) -> Result<(), Fail> {
+    let node = guess(&rt, rt.alloc())?;
+    for options in &WAYS {
+        let root = front_of(&rt, rt.alloc(), &node, 2, options, &OpenGate)??;
+        assert_vectors(&rt, &root.front, &[pair(true, false), pair(false, true)]);
+        assert!(rt; root.card == spade(2) && root.weight == 1);
+        let root = front_of(&rt, rt.alloc(), &node, 1, options, &OpenGate)??;
+        assert_vectors(&rt, &root.front, &[pair(true, true)]);
+        assert!(rt; root.card == spade(2) && root.weight == 2);
+    }
+    Ok(())
+}
+
+// What is reported of the two and of the three.
+fn both(two: Outcome, three: Outcome) -> [CardReport; 2] {
+    [
+        CardReport {
+            card: spade(2),
+            outcome: two,
+        },
+        CardReport {
+            card: spade(3),
+            outcome: three,
+        },
+    ]
+}
+
+#[test]
+fn without_a_table_no_front_is_kept(rt: HostRuntime) -> Result<(), Fail> {
+    let node = guess(&rt, rt.alloc())?;
+    let root = front_of(&rt, rt.alloc(), &node, 2, &WAYS[0], &OpenGate)??;
+    let off = Outcome::Exact(Stored::Off);
+    assert_eq!(rt; root.cards.as_slice(), both(off, off).as_slice());
+    Ok(())
+}
+
+// The front with two moves over a table, by one worker without cuts.
+fn over<R: Threads + Abort + Sync>(
+    rt: &R,
+    alloc: Global,
+    nodes: u64,
+    table: &SharedTable,
+    pass: &mut Pass,
+) -> Result<RootFront, Fail>
+    requires { IsPassOf table.now pass.old }
+    ensures { IsPassOf table.now pass.new }
+{
+    let node = guess(rt, alloc)?;
+    let weights = Weights::equal(node.width());
+    assert!(rt; node.is_ours() && !node.position().over() && weights.width() == node.width());
+    let options = Options {
+        nodes,
+        workers: 1,
+        table: true,
+        cuts: false,
+    };
+    Ok(root_front(
+        rt, alloc, &node, 2, &weights, &options, table, pass, &OpenGate,
+    )?)
+}
+
+fn assert_kept(rt: &impl Abort, root: &RootFront) {
+    assert_vectors(rt, &root.front, &[pair(true, false), pair(false, true)]);
+    assert!(rt; root.card == spade(2) && root.weight == 1);
+    let kept = Outcome::Exact(Stored::Table);
+    assert_eq!(rt; root.cards.as_slice(), both(kept, kept).as_slice());
+}
+
+// A search that finds nothing in the table has too few nodes the second time.
+#[test]
+fn what_the_table_has_needs_no_search(rt: HostRuntime) -> Result<(), Fail> {
+    let (table, mut pass) = SharedTable::new(rt.alloc(), 1, 64)?;
+    let first = over(&rt, rt.alloc(), 10, &table, &mut pass)?;
+    assert_kept(&rt, &first);
+    let second = over(&rt, rt.alloc(), 9, &table, &mut pass)?;
+    assert_kept(&rt, &second);
+    Ok(())
+}
+
+// The two wins what double dummy promises with one move, so the three can't add anything.
+#[test]
+fn the_three_is_skipped(rt: HostRuntime) -> Result<(), Fail> {
+    let node = guess(&rt, rt.alloc())?;
+    for workers in [1, 2] {
+        let options = Options {
+            nodes: 10,
+            workers,
+            table: true,
+            cuts: true,
+        };
+        let root = front_of(&rt, rt.alloc(), &node, 1, &options, &OpenGate)??;
+        assert_eq!(rt; root.cards.len(), 2);
+        assert_eq!(rt; root.cards[1].outcome, Outcome::Skipped);
+    }
+    Ok(())
+}
+
+#[test]
+fn nine_nodes_are_too_few_after_the_two(rt: HostRuntime) -> Result<(), Fail> {
+    let node = guess(&rt, rt.alloc())?;
+    let options = Options {
+        nodes: 9,
+        ..WAYS[0]
+    };
+    let spent = front_of(&rt, rt.alloc(), &node, 2, &options, &OpenGate)?;
+    assert_eq!(rt; spent.err(), Some(RootFault::Spent(spade(2))));
+    Ok(())
+}
+
+#[test]
+fn the_heavier_layout_decides(rt: HostRuntime) -> Result<(), Fail> {
+    let alloc = rt.alloc();
+    let root = guess(&rt, alloc)?;
+    assert!(rt; card_by(&rt, alloc, &root, 2, 1, 1)? == (spade(2), 1));
+    assert!(rt; card_by(&rt, alloc, &root, 2, 1, 3)? == (spade(2), 3));
+    let seven = after_seven(&rt, alloc)?;
+    assert!(rt; card_by(&rt, alloc, &seven, 1, 1, 1)? == (spade(11), 1));
+    assert!(rt; card_by(&rt, alloc, &seven, 1, 3, 1)? == (spade(13), 3));
+    assert!(rt; card_by(&rt, alloc, &seven, 1, 1, 3)? == (spade(11), 3));
+    Ok(())
+}
+
+#[test]
+fn two_workers_are_beside_each_other(rt: HostRuntime) -> Result<(), Fail> {
+    let gate = Meeting::new(spade(2), spade(3));
+    let node = guess(&rt, rt.alloc())?;
     let options = Options {
         nodes: 1000,
         workers: 2,
         table: true,
         cuts: true,
     };
-    Ok(front_by_workers(rt, alloc, &node, 2, &options, &table, &mut pass, gate)?)
-}
-
-#[test]
-fn two_workers_are_beside_each_other(rt: HostRuntime) -> Result<(), Fail> {
-    let gate = Meeting::new(spade(2), spade(3));
-    let root = by_two_workers(&rt, rt.alloc(), &gate)?;
+    let root = front_of(&rt, rt.alloc(), &node, 2, &options, &gate)??;
     assert!(rt; gate.took_place());
-    assert!(rt; root.card == spade(2) && root.count == 1 && root.front.len() == 2);
+    assert!(rt; root.card == spade(2) && root.weight == 1 && root.front.len() == 2);
     Ok(())
 }

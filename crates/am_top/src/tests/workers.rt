@@ -1,5 +1,5 @@
 //! Workers beside each other, as a gate sees them.
-use super::{QUEEN, QUEEN_LAYOUTS, QUEEN_REPORT, ran_at, shelf_of};
+use super::{QUEEN, QUEEN_LAYOUTS, QUEEN_REPORT, ran, ran_at, shelf_of};
 use crate::Status;
 use am_outside::Gate;
 use card_sets::{Card, Rank, Suit};
@@ -114,5 +114,14 @@ fn two_workers_are_beside_each_other(rt: HostRuntime) -> Result<(), Fail> {
     let run = ran_at(&rt, rt.alloc(), words, &mut shelf, &gate)?;
     assert!(rt; run.ends_with(Status::Done, QUEEN_REPORT, ""));
     assert!(rt; gate.saw_both());
+    Ok(())
+}
+
+#[test]
+fn four_workers_make_what_one_makes(rt: HostRuntime) -> Result<(), Fail> {
+    let one = ran(&rt, rt.alloc(), "--job made --number 0 --workers 1", "", "")?;
+    let four = ran(&rt, rt.alloc(), "--job made --number 0 --workers 4", "", "")?;
+    assert!(rt; one.status == Status::Done && four.status == Status::Done);
+    assert_eq!(rt; four.out.bytes(), one.out.bytes());
     Ok(())
 }

@@ -5,8 +5,8 @@ use Rattle.job_search.proofs.Answered.{card-text}
 use Rattle.job_search.proofs.Spent.{workers_as, spent_task, spent_by, spent_as, first_as, fits_as}
 use Rattle.job_search.proofs.card.name_card.Goals as goal
 
-pub card_by_workers-requires-clause-workers : goal.card_by_workers-requires-clause-workers
-card_by_workers-requires-clause-workers g c = λ κs outlives. workers_as c.options_of-options.result c.args.search.now c.options_of-options.ensures c.requires.limits
+pub counted_card-requires-clause-workers : goal.counted_card-requires-clause-workers
+counted_card-requires-clause-workers g c = λ κs outlives. workers_as c.options_of-options.result c.args.search.now c.options_of-options.ensures c.requires.limits
 
 pub returns-in-Ok-clause-text : goal.returns-in-Ok-clause-text
 returns-in-Ok-clause-text g c =
@@ -19,5 +19,5 @@ returns-clause-refused g c =
     rw (c.root_status.ensures)
     (spent_task (NamedCard c.args.root.now c.args.moves c.args.search.now) c.in-Err.fault
     (λ card is. spent_by c.args.root.now.kept.node c.args.moves c.args.search.now card
-    (spent_as _ c.args.root.now c.root.view_is c.options_of-options.result c.args.search.now c.options_of-options.ensures c.args.moves card (c.card_by_workers.ensures.spent card (c.in-Err.is ∙ ap Err is)))
-    (first_as _ c.args.root.now c.root.view_is c.options_of-options.result c.args.search.now c.options_of-options.ensures c.args.moves card (λ plain. c.card_by_workers.ensures.first_spent plain card (c.in-Err.is ∙ ap Err is)))))
+    (spent_as _ c.args.root.now c.root.view_is c.options_of-options.result c.args.search.now c.options_of-options.ensures c.args.moves card (c.counted_card.ensures.spent card (c.in-Err.is ∙ ap Err is)))
+    (first_as _ c.args.root.now c.root.view_is c.options_of-options.result c.args.search.now c.options_of-options.ensures c.args.moves card (λ plain. c.counted_card.ensures.first_spent plain card (c.in-Err.is ∙ ap Err is)))))

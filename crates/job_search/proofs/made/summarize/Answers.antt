@@ -6,8 +6,8 @@ use Rattle.job_search.proofs.Answered.{made-text}
 use Rattle.job_search.proofs.Spent.{workers_as, spent_task, spent_by, spent_as, first_as, fits_as}
 use Rattle.job_search.proofs.made.summarize.Goals as goal
 
-pub front_by_workers-requires-clause-workers : goal.front_by_workers-requires-clause-workers
-front_by_workers-requires-clause-workers g c = λ κs outlives. workers_as c.options_of-options.result c.args.search.now c.options_of-options.ensures c.requires.limits
+pub counted_front-requires-clause-workers : goal.counted_front-requires-clause-workers
+counted_front-requires-clause-workers g c = λ κs outlives. workers_as c.options_of-options.result c.args.search.now c.options_of-options.ensures c.requires.limits
 
 pub returns-in-Ok-clause-text : goal.returns-in-Ok-clause-text
 returns-in-Ok-clause-text g c =
@@ -21,5 +21,5 @@ returns-clause-refused g c =
     (spent_task (Problem c.args.number c.args.root.now c.args.search.now) c.in-Err.fault
     (λ card is. subst (λ moves. IsSpentBy c.args.root.now.kept.node moves c.args.search.now card) c.requires.moves
     (spent_by c.args.root.now.kept.node c.args.moves c.args.search.now card
-    (spent_as _ c.args.root.now c.root.view_is c.options_of-options.result c.args.search.now c.options_of-options.ensures c.args.moves card (c.front_by_workers.ensures.spent card (c.in-Err.is ∙ ap Err is)))
-    (first_as _ c.args.root.now c.root.view_is c.options_of-options.result c.args.search.now c.options_of-options.ensures c.args.moves card (λ plain. c.front_by_workers.ensures.first_spent plain card (c.in-Err.is ∙ ap Err is))))))
+    (spent_as _ c.args.root.now c.root.view_is c.options_of-options.result c.args.search.now c.options_of-options.ensures c.args.moves card (c.counted_front.ensures.spent card (c.in-Err.is ∙ ap Err is)))
+    (first_as _ c.args.root.now c.root.view_is c.options_of-options.result c.args.search.now c.options_of-options.ensures c.args.moves card (λ plain. c.counted_front.ensures.first_spent plain card (c.in-Err.is ∙ ap Err is))))))

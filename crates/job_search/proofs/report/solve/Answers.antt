@@ -6,16 +6,16 @@ use Rattle.am_answer.specs.Answers.{Report}
 use Rattle.job_search.proofs.Spent.{workers_as, spent_task, spent_by, spent_later, spent_as, first_as, fits_as}
 use Rattle.job_search.proofs.report.solve.Goals as goal
 
-pub front_by_workers-requires-clause-workers : goal.front_by_workers-requires-clause-workers
-front_by_workers-requires-clause-workers g c = λ κs outlives. workers_as c.options_of-options.result c.args.search.now c.options_of-options.ensures c.requires.limits
+pub counted_front-requires-clause-workers : goal.counted_front-requires-clause-workers
+counted_front-requires-clause-workers g c = λ κs outlives. workers_as c.options_of-options.result c.args.search.now c.options_of-options.ensures c.requires.limits
 
 pub returns-in-Err-clause-refused : goal.returns-in-Err-clause-refused
 returns-in-Err-clause-refused g c =
     rw (c.root_status.ensures)
     (spent_task (Report c.args.root.now c.args.moves c.args.search.now) c.in-Err.fault
     (λ card is. spent_by c.args.root.now.kept.node c.args.moves c.args.search.now card
-    (spent_as _ c.args.root.now c.root.view_is c.options_of-options.result c.args.search.now c.options_of-options.ensures c.args.moves card (c.front_by_workers.ensures.spent card (c.in-Err.is ∙ ap Err is)))
-    (first_as _ c.args.root.now c.root.view_is c.options_of-options.result c.args.search.now c.options_of-options.ensures c.args.moves card (λ plain. c.front_by_workers.ensures.first_spent plain card (c.in-Err.is ∙ ap Err is)))))
+    (spent_as _ c.args.root.now c.root.view_is c.options_of-options.result c.args.search.now c.options_of-options.ensures c.args.moves card (c.counted_front.ensures.spent card (c.in-Err.is ∙ ap Err is)))
+    (first_as _ c.args.root.now c.root.view_is c.options_of-options.result c.args.search.now c.options_of-options.ensures c.args.moves card (λ plain. c.counted_front.ensures.first_spent plain card (c.in-Err.is ∙ ap Err is)))))
 
 pub report_over-requires-clause-count : goal.report_over-requires-clause-count
 report_over-requires-clause-count g c = subst (λ (root : Root). IsBestCount bridge root.kept.node c.args.moves c.in-Ok.found.count) c.root.view_is c.in-Ok.ensures.count

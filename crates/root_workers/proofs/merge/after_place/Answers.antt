@@ -14,4 +14,4 @@ returns-in-Some-Below-clause-found g c =
     let some : Some known.card ≡ Some c.args.card = sym known.here ∙ c.requires.card in
     let same : known.card ≡ c.args.card = cc in
     subst (λ card. IsBelow bridge (child r.node.now card) (r.moves - 1) c.args.alpha.now.vectors) same
-    (below_front r (take c.args.place (choices r.node.now)) known.card c.args.alpha.now.vectors c.requires.won known.known_is.0)
+    (below_front r.node.now r.moves (take c.args.place (choices r.node.now)) known.card c.args.alpha.now.vectors c.requires.won known.known_is.0)

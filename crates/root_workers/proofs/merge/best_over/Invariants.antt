@@ -1,7 +1,9 @@
 use Rattle.std.proofs.Common.{◌≡◌, ◌-◌, length, All}
 use Rattle.shared_table.specs.Passes.{IsPassOf}
 use Rattle.root_workers.specs.Rounds.{IsPlainRound, IsRight, HasSeenMore}
+use Rattle.cut_rules.specs.Rules.{no_cuts}
 use Rattle.root_workers.proofs.RootSoFar.{RootSoFar}
+use Rattle.root_workers.proofs.Founds.{AreFoundSoFar}
 use Rattle.root_workers.proofs.merge.best_over.Given as goal
 
 abbrev pub invariant-cards : goal.invariant-cards
@@ -9,7 +11,9 @@ invariant-cards g l = record {
   pass : IsPassOf l.round.table.now l.pass;
   grown : HasSeenMore l.fn.pass l.pass;
   right : All (IsRight l.round) l.places.items;
-  so : (so : RootSoFar l.round.node.now (l.round.moves - 1) l.round.nodes (IsPlainRound l.round) l.cards l.front l.best) × (l.place ≡ length so.tried);
+  founds : AreFoundSoFar l.round.node.now l.round.moves (l.round.rules ≡ no_cuts → ⊥) l.founds.items;
+  counted : length l.founds.items ≡ l.place;
+  so : (so : RootSoFar l.round.node.now (l.round.moves - 1) l.round.weights.now l.round.nodes (IsPlainRound l.round) l.cards l.front l.best) × (l.place ≡ length so.tried);
 }
 
 abbrev pub decreases-cards : goal.decreases-cards

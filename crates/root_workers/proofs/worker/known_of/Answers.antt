@@ -14,7 +14,7 @@ returns-in-Ok-Below-clause-known g c =
       card = c.args.card;
       here = c.requires.card;
       known_is = (
-        covered_before r (take c.args.place (choices r.node.now)) c.args.card alpha c.in_ok-alpha.ensures.won below,
+        covered_before r.node.now r.moves (take c.args.place (choices r.node.now)) c.args.card alpha c.in_ok-alpha.ensures.won below,
         λ none. subst (λ (f : Found). IsExact f) c.in-Ok-Below.field-0-is (c.in-Ok-Below.ensures.exact none),
       );
     }

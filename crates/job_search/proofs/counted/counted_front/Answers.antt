@@ -1,0 +1,34 @@
+use Rattle.std.proofs.Common.{◌≡◌, ◌∙◌, ℕ, List, length, replicate, Err, ap, sym, subst, arith}
+use Rattle.std.proofs.lemmas.List.{length-replicate}
+use Rattle.strategy_games.specs.Choosing.{IsBestCount, IsBestWeight, IsNamedByWeight}
+use Rattle.strategy_tree.specs.Bridge.{bridge}
+use Rattle.alphamu_core.specs.declared.answers.RootFault.TheVariants.{Spent}
+use Rattle.job_search.proofs.Counts.{count_is, count_small, card_is}
+use Rattle.job_search.proofs.Spent.{passed_on}
+use Rattle.job_search.proofs.counted.counted_front.Goals as goal
+
+pub root_front-requires-clause-weights : goal.root_front-requires-clause-weights
+root_front-requires-clause-weights g c = λ κs outlives. ap length c.equal-weights.ensures ∙ length-replicate c.width.result 1 ∙ c.width.ensures.value
+
+pub returns-in_err-found-clause-spent : goal.returns-in_err-found-clause-spent
+returns-in_err-found-clause-spent g c = λ card e.
+    c.in_err-found.ensures.spent card (ap Err (passed_on c.from_residual.result c.in_err-found.field-0.0 (Spent card) c.from_residual.ensures.1 e))
+
+pub count_of-requires : goal.count_of-requires
+count_of-requires g c =
+    let n = c.args.node.now in
+    count_small n c.args.moves c.in_ok-found.found.weight c.width.ensures.a_node
+    (subst (λ (ws : List ℕ). IsBestWeight bridge ws n c.args.moves c.in_ok-found.found.weight) (c.equal-weights.ensures ∙ ap (λ width. replicate width 1) c.width.ensures.value) c.in_ok-found.ensures.weight)
+
+pub returns-clause-count : goal.returns-clause-count
+returns-clause-count g c =
+    let n = c.args.node.now in
+    subst (λ (k : ℕ). IsBestCount bridge n c.args.moves k) (sym c.count_of.ensures)
+    (count_is n c.args.moves c.in_ok-found.found.weight
+    (subst (λ (ws : List ℕ). IsBestWeight bridge ws n c.args.moves c.in_ok-found.found.weight) (c.equal-weights.ensures ∙ ap (λ width. replicate width 1) c.width.ensures.value) c.in_ok-found.ensures.weight))
+
+pub returns-clause-card : goal.returns-clause-card
+returns-clause-card g c =
+    let n = c.args.node.now in
+    card_is n c.args.moves c.in_ok-found.found.card c.width.ensures.a_node c.requires.ours
+    (subst (λ (ws : List ℕ). IsNamedByWeight bridge ws n c.args.moves c.in_ok-found.found.card) (c.equal-weights.ensures ∙ ap (λ width. replicate width 1) c.width.ensures.value) c.in_ok-found.ensures.card)

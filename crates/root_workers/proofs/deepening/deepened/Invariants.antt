@@ -1,0 +1,11 @@
+use Rattle.front_table.specs.Proven.{IsFrontAt}
+use Rattle.shared_table.specs.Passes.{IsPassOf}
+use Rattle.root_workers.specs.Rounds.{HasSeenMore}
+use Rattle.root_workers.proofs.deepening.deepened.Given as goal
+
+abbrev pub invariant-loop-fewer : goal.invariant-loop-fewer
+invariant-loop-fewer g l = record {
+  pass : IsPassOf l.table l.pass;
+  grown : HasSeenMore l.fn.pass l.pass;
+  front : IsFrontAt l.node l.fewer l.front;
+}

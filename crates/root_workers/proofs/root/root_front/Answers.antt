@@ -1,0 +1,13 @@
+use Rattle.root_workers.proofs.Seen.{seen_more}
+use Rattle.root_workers.proofs.Causes.{reports_earlier}
+use Rattle.root_workers.proofs.root.root_front.Goals as goal
+
+pub returns-in_err-cards-clause-grown : goal.returns-in_err-cards-clause-grown
+returns-in_err-cards-clause-grown g c = seen_more c.args.pass.now c.rounds.new.pass c.reports.new.pass c.rounds.ensures.grown c.reports.ensures.grown
+
+pub returns-clause-grown : goal.returns-clause-grown
+returns-clause-grown g c = seen_more c.args.pass.now c.rounds.new.pass c.reports.new.pass c.rounds.ensures.grown c.reports.ensures.grown
+
+pub returns-clause-cards : goal.returns-clause-cards
+returns-clause-cards g c =
+    reports_earlier c.args.node.now c.args.moves c.args.options.now c.args.table.now c.args.pass.now c.rounds.new.pass c.reports.new.pass _ c.rounds.ensures.grown c.in_ok-cards.ensures.reports
