@@ -8,6 +8,9 @@ Times alphamu's job `card` with 1, 2 and 4 workers, in one run on one machine, a
 - With cuts, on random endings: the same, and the time of all processors with 4 workers to that with one. Cuts spare later cards by what
   earlier ones have shown, so workers side by side do more in all.
 
+Beside them stands what four runs with one worker each, side by side, do in the time of one alone: four workers can hardly do better than
+four runs that share nothing, and on processors that share a core, or with other work, these stay below 4.
+
 The job is `card`, since what follows the search in `solve`, a plan for each vector, has one worker. On a machine with fewer than four
 processors, or one that does other work, the ratios say little: it prints how many processors there are and how much other work waits.
 
@@ -53,6 +56,16 @@ def timed(words):
     return wall, after.ru_utime - before.ru_utime, done.stdout
 
 
+def side_by_side(words, count):
+    """Seconds by the wall clock until so many runs, begun together, have ended."""
+    start = time.monotonic()
+    runs = [subprocess.Popen([str(word) for word in words], stdout=subprocess.DEVNULL, stderr=subprocess.DEVNULL) for _ in range(count)]
+    for run in runs:
+        if run.wait() != 0:
+            sys.exit(f"{words}: status {run.returncode}")
+    return time.monotonic() - start
+
+
 def row(name, deal, layouts, moves, more, runs):
     """Prints the ratios of an ending."""
     with tempfile.TemporaryDirectory() as folder:
@@ -61,18 +74,19 @@ def row(name, deal, layouts, moves, more, runs):
         files[1].write_text(layouts)
         words = [PROGRAM, "--job", "card", "--deal", files[0], "--layouts", files[1], "--moves", moves, "--nodes", 2 ** 60, *more]
         told = {workers: [timed([*words, "--workers", workers]) for _ in range(runs)] for workers in (1, 2, 4)}
+        beside = min(side_by_side([*words, "--workers", 1], 4) for _ in range(runs))
     if len({out for runs_of in told.values() for _, _, out in runs_of}) != 1:
         sys.exit(f"{name}: the runs print different bytes")
     wall = {workers: min(it[0] for it in runs_of) for workers, runs_of in told.items()}
     user = {workers: min(it[1] for it in runs_of) for workers, runs_of in told.items()}
-    print("%-20s%6s%7d%10.2f s%10.2f%10.2f%12.2f" % (
-        name, "no" if more else "yes", moves, wall[1], wall[1] / wall[2], wall[1] / wall[4], user[4] / user[1]), flush=True)
+    print("%-20s%6s%7d%10.2f s%10.2f%10.2f%10.2f%12.2f" % (
+        name, "no" if more else "yes", moves, wall[1], wall[1] / wall[2], wall[1] / wall[4], 4 * wall[1] / beside, user[4] / user[1]), flush=True)
 
 
 def main():
     runs = int(sys.argv[1]) if len(sys.argv) > 1 else 3
     print(f"{os.cpu_count()} processors, {os.getloadavg()[0]:.1f} processes at work or waiting before the run")
-    print("ending                cuts  moves  one worker  2 workers 4 workers  user, 4 to 1")
+    print("ending                cuts  moves  one worker  2 workers 4 workers  four runs  user, 4 to 1")
     row(*eight_cards(6), ["--no-cuts"], runs)
     for tricks, layouts, moves, seed in RANDOM:
         ending = random_ending(tricks, layouts, moves, seed)
