@@ -63,30 +63,27 @@ fn front_of<R: Threads + Abort + Sync, G: Gate>(
     ))
 }
 
-// The card of a root by the weights of its two layouts, without cuts.
+// The card of a root by the weights of its layouts.
 fn card_by<R: Threads + Abort + Sync>(
     rt: &R,
     alloc: Global,
     node: &Node,
     moves: u8,
-    one: u32,
-    other: u32,
+    weights: &Weights,
 ) -> Result<(Card, u32), Fail> {
-    assert!(rt; node.width() == 2 && node.is_ours() && !node.position().over());
+    assert!(rt; node.is_ours() && !node.position().over() && weights.width() == node.width());
     assert!(rt; 1 <= moves && moves <= 26);
-    assert!(rt; 1 <= one && one <= 1_000_000 && 1 <= other && other <= 1_000_000);
-    let weights = Weights::equal(2).set(0, one).set(1, other);
-    assert!(rt; weights.width() == node.width());
     let (table, mut pass) = SharedTable::new(alloc, 1, 64)?;
     let found = root_card(
-        rt, alloc, node, moves, &weights, &WAYS[1], &table, &mut pass, &OpenGate,
+        rt, alloc, node, moves, weights, &WAYS[1], &table, &mut pass, &OpenGate,
     )?;
     Ok((found.card, found.weight))
 }
 
-// A vector of two layouts.
-fn pair(one: bool, other: bool) -> WinVector {
-    WinVector::none(2).set(0, one).set(1, other)
+// The vectors that make the first layout alone, and the second alone.
+fn guesses() -> [WinVector; 2] {
+    let none = WinVector::none(2);
+    [none.set(0, true), none.set(1, true)]
 }
 
 fn assert_vectors(rt: &impl Abort, front: &Front, vectors: &[WinVector]) {
@@ -98,10 +95,10 @@ fn two_moves_have_to_guess_and_one_sees_all(rt: HostRuntime) -> Result<(), Fail>
     let node = guess(&rt, rt.alloc())?;
     for options in &WAYS {
         let root = front_of(&rt, rt.alloc(), &node, 2, options, &OpenGate)??;
-        assert_vectors(&rt, &root.front, &[pair(true, false), pair(false, true)]);
+        assert_vectors(&rt, &root.front, &guesses());
         assert!(rt; root.card == spade(2) && root.weight == 1);
         let root = front_of(&rt, rt.alloc(), &node, 1, options, &OpenGate)??;
-        assert_vectors(&rt, &root.front, &[pair(true, true)]);
+        assert_vectors(&rt, &root.front, &[WinVector::all(2)]);
         assert!(rt; root.card == spade(2) && root.weight == 2);
     }
     Ok(())
@@ -156,7 +153,7 @@ fn over<R: Threads + Abort + Sync>(
 }
 
 fn assert_kept(rt: &impl Abort, root: &RootFront) {
-    assert_vectors(rt, &root.front, &[pair(true, false), pair(false, true)]);
+    assert_vectors(rt, &root.front, &guesses());
     assert!(rt; root.card == spade(2) && root.weight == 1);
     let kept = Outcome::Exact(Stored::Table);
     assert_eq!(rt; root.cards.as_slice(), both(kept, kept).as_slice());
@@ -206,13 +203,16 @@ fn nine_nodes_are_too_few_after_the_two(rt: HostRuntime) -> Result<(), Fail> {
 #[test]
 fn the_heavier_layout_decides(rt: HostRuntime) -> Result<(), Fail> {
     let alloc = rt.alloc();
+    let equal = Weights::equal(2);
+    let first = Weights::equal(2).set(0, 3);
+    let second = Weights::equal(2).set(1, 3);
     let root = guess(&rt, alloc)?;
-    assert!(rt; card_by(&rt, alloc, &root, 2, 1, 1)? == (spade(2), 1));
-    assert!(rt; card_by(&rt, alloc, &root, 2, 1, 3)? == (spade(2), 3));
+    assert!(rt; card_by(&rt, alloc, &root, 2, &equal)? == (spade(2), 1));
+    assert!(rt; card_by(&rt, alloc, &root, 2, &second)? == (spade(2), 3));
     let seven = after_seven(&rt, alloc)?;
-    assert!(rt; card_by(&rt, alloc, &seven, 1, 1, 1)? == (spade(11), 1));
-    assert!(rt; card_by(&rt, alloc, &seven, 1, 3, 1)? == (spade(13), 3));
-    assert!(rt; card_by(&rt, alloc, &seven, 1, 1, 3)? == (spade(11), 3));
+    assert!(rt; card_by(&rt, alloc, &seven, 1, &equal)? == (spade(11), 1));
+    assert!(rt; card_by(&rt, alloc, &seven, 1, &first)? == (spade(13), 3));
+    assert!(rt; card_by(&rt, alloc, &seven, 1, &second)? == (spade(11), 3));
     Ok(())
 }
 
