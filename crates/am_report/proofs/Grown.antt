@@ -1,5 +1,5 @@
 -- Texts that have grown by one piece more.
-use Rattle.std.proofs.Common.{◌≡◌, ℕ, ◌+◌, ◌<◌, Bool, Some, List, [], ◌∷◌, ◌++◌, length, map, take, flat_map, slice_get, get_or, max, arith, refl, sym, ap, ◌∙◌, append_assoc, codes}
+use Rattle.std.proofs.Common.{◌≡◌, ℕ, zero, suc, ◌+◌, ◌<◌, Bool, Some, List, [], ◌∷◌, ◌++◌, length, map, take, flat_map, slice_get, get_or, max, arith, refl, sym, ap, ◌∙◌, append_assoc, codes}
 use Rattle.std.proofs.lemmas.List.{append-nil, map-append}
 use Rattle.std.proofs.lemmas.Grind.{take_at_read, flat_map-append}
 use Rattle.std.proofs.lemmas.Option.{slice_get_within, get_or_from_slice_get}
@@ -15,6 +15,7 @@ use Rattle.strategy_tree.specs.PlanText.{plan_text}
 use Rattle.am_report.specs.Answers.{EntryValue}
 use Rattle.am_report.specs.Card.{count_text}
 use Rattle.am_report.specs.Fusion.{most_ones}
+use Rattle.am_report.specs.Lines.{spaced, space_before}
 use Rattle.am_report.specs.Head.{seat_text, trump_text, hand_line, trick_line, position_text}
 use Rattle.am_report.specs.Solve.{bit_letter, vector_line, entry_text}
 
@@ -82,3 +83,30 @@ unfolding position_text
 position_grown start t1 t2 t3 t4 t5 t6 board table e1 e2 e3 e4 e5 e6 =
     rw (e6, e5, e4, e3, e2, e1)
     (seven_pieces start (line_of (codes "declarer " ++ seat_text board Declarer)) (line_of (codes "trump " ++ trump_text table.trump)) (line_of (codes "need " ++ decimal table.need)) (hand_line board Declarer table.declarer) (hand_line board Dummy table.dummy) (trick_line board table.trick) (line_of (codes "turn " ++ seat_text board (to_play table))))
+
+-- ---- cards in the order of play
+
+spaced-push : (first : ℕ) (cards : List ℕ) (card : ℕ) → spaced letters_of (first ∷ (cards ++ card ∷ [])) ≡ spaced letters_of (first ∷ cards) ++ (codes " " ++ letters_of card)
+spaced-push first cards card =
+    let written : ℕ → List ℕ = λ c. codes " " ++ letters_of c in
+    let all : flat_map written (cards ++ card ∷ []) ≡ flat_map written cards ++ flat_map written (card ∷ []) = flat_map-append written cards (card ∷ []) in
+    let last : flat_map written (card ∷ []) ≡ codes " " ++ letters_of card = append-nil (written card) in
+    ap (λ t. letters_of first ++ t) (all ∙ ap (λ t. flat_map written cards ++ t) last)
+    ∙ sym (append_assoc (letters_of first) (flat_map written cards) (codes " " ++ letters_of card))
+
+-- one card more
+pub card_more : (start now parted next cards : List ℕ) (k card : ℕ) → slice_get cards k ≡ Some card
+    → now ≡ start ++ spaced letters_of (take k cards) → parted ≡ now ++ space_before k → next ≡ parted ++ letters_of card
+    → next ≡ start ++ spaced letters_of (take (k + 1) cards)
+card_more start now parted next [] k card here so_far blank grew = absurd (omega (arith, slice_get_within [] k card here))
+card_more start now parted next (first ∷ cards) zero card here so_far blank grew =
+    let one = take-more (first ∷ cards) 0 card (slice_get_within (first ∷ cards) 0 card here) (sym (get_or_from_slice_get (first ∷ cards) 0 card card here)) in
+    grew ∙ ap (λ t. t ++ letters_of card) (blank ∙ append-nil now ∙ so_far ∙ append-nil start)
+    ∙ ap (λ t. start ++ t) (sym (append-nil (letters_of card)) ∙ ap (spaced letters_of) (sym one))
+card_more start now parted next (first ∷ cards) (suc k) card here so_far blank grew =
+    let all = first ∷ cards in
+    let more = take-more all (suc k) card (slice_get_within all (suc k) card here) (sym (get_or_from_slice_get all (suc k) card card here)) in
+    grew ∙ ap (λ t. t ++ letters_of card) (blank ∙ ap (λ t. t ++ codes " ") so_far)
+    ∙ append_assoc (start ++ spaced letters_of (take (suc k) all)) (codes " ") (letters_of card)
+    ∙ append_assoc start (spaced letters_of (take (suc k) all)) (codes " " ++ letters_of card)
+    ∙ ap (λ t. start ++ t) (sym (ap (spaced letters_of) more ∙ spaced-push first (take k cards) card))

@@ -6,6 +6,7 @@ pub mod Card
 pub mod Solve
 pub mod Check
 pub mod Made
+pub mod Match
 pub mod Fusion
 pub mod LayoutFile
 pub mod ReportLines

@@ -15,7 +15,7 @@ use pbn_deal::Board;
 use std::alloc::{AllocError, Global};
 use win_vectors::WinVector;
 
-fn bit_letter(bit: bool) -> u8
+pub(crate) fn bit_letter(bit: bool) -> u8
     ensures { result ≡ bit_letter bit }
 {
     if bit { b'1' } else { b'0' }
