@@ -1,15 +1,18 @@
-//! The program: real files and streams and an open gate for the top call, and its status for the
-//! system.
-//! It stands on `am_top` for the call, on `am_outside` for files and streams, and on `am_line` for
-//! the line that it writes where there is no memory for the words.
+//! The program: real files and streams, an open gate and three defenders for the top call, and its
+//! status for the system.
+//! It stands on `am_top` for the call, on `am_outside` for files and streams, on `am_match` for the
+//! defenders, and on `am_line` for the line that it writes where there is no memory for the words.
 //! It promises nothing of its own: what is read, written and answered is the contract of
 //! `am_top::run`.
 #![tactic(auto)]
 
 use am_line::refuse;
-use am_outside::{FileShelf, OpenGate, StdSink};
+use am_match::{Defender, HighCard, LowCard};
+use am_outside::{FileShelf, OpenGate, Shelf, Sink, StdSink};
 use am_top::{Status, run};
+use std::alloc::{AllocError, Global};
 use std::process::ExitCode;
+use std::thread::Threads;
 use std::{env, io};
 
 // The exit status where the system gives no list of words, for example because one isn't text.
@@ -21,21 +24,32 @@ fn words_given(rt: &HostRuntime) -> io::Result<Vec<String>> {
     Ok(all.skip(1).collect::<Vec<String>>(rt.alloc())?)
 }
 
+// Runs the words at a table of two defenders who play low and a third who plays high.
+fn run_at_table<R: Threads + Sync, S: Shelf, O: Sink, E: Sink>(
+    rt: &R,
+    alloc: Global,
+    words: &[String],
+    shelf: &mut S,
+    out: &mut O,
+    err: &mut E,
+) -> Result<Status, AllocError> {
+    let mut table: Vec<Box<dyn Defender>> = Vec::new(alloc);
+    table.push(Box::new(alloc, LowCard::new())?)?;
+    table.push(Box::new(alloc, LowCard::new())?)?;
+    table.push(Box::new(alloc, HighCard::new())?)?;
+    Ok(run(rt, alloc, words, shelf, out, err, &OpenGate, &mut table))
+}
+
 /// Runs the words that the system gives, and ends with the status's code.
 fn main(rt: HostRuntime) -> ExitCode {
     let mut shelf = FileShelf::new(&rt);
     let mut out = StdSink::new(rt.stdout());
     let mut err = StdSink::new(rt.stderr());
     let status = match words_given(&rt) {
-        Ok(words) => run(
-            &rt,
-            rt.alloc(),
-            &words,
-            &mut shelf,
-            &mut out,
-            &mut err,
-            &OpenGate,
-        ),
+        Ok(words) => match run_at_table(&rt, rt.alloc(), &words, &mut shelf, &mut out, &mut err) {
+            Ok(status) => status,
+            Err(_) => refuse(Status::Memory, &mut err),
+        },
         Err(error) if error.kind() == io::ErrorKind::OutOfMemory => {
             refuse(Status::Memory, &mut err)
         }

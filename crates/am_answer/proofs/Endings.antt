@@ -2,7 +2,7 @@
 use Rattle.std.proofs.Common.{ℕ, arith}
 use Rattle.trick_rules.specs.Nodes.{NodeValue}
 use Rattle.root_workers.specs.Roots.{IsSpentAt, AllFit}
-use Rattle.am_answer.specs.Answers.{TaskValue, Report, NamedCard, Sample, Good, AllLayouts, Problem}
+use Rattle.am_answer.specs.Answers.{TaskValue, Report, NamedCard, PlayedOut, Sample, Good, AllLayouts, Problem}
 use Rattle.am_answer.specs.Endings.{IsSpentOn, IsWithinNodes}
 use Rattle.am_answer.specs.Reports.{made_moves}
 
@@ -12,6 +12,7 @@ fits-not_spent node moves nodes card fits spent = omega (arith, fits card spent.
 pub not_spent : (task : TaskValue) (card : ℕ) → IsWithinNodes task → IsSpentOn task card → ⊥
 not_spent (Report root moves search) card fits is = fits-not_spent root.kept.node moves search.nodes card fits is.spent
 not_spent (NamedCard root moves search) card fits is = fits-not_spent root.kept.node moves search.nodes card fits is.spent
+not_spent (PlayedOut root moves search playing) card fits is = fits-not_spent root.kept.node moves search.nodes card fits is.spent
 not_spent (Sample root) card fits is = is
 not_spent (Good plans) card fits is = is
 not_spent (AllLayouts board layouts) card fits is = is

@@ -1,5 +1,6 @@
 -- What the words and the files lead to, step by step.
-use Rattle.std.specs.Prelude.{ℕ, Bool, not, ◌&&◌, List, [], ◌∷◌, Result, Ok, Err, if◌then◌else◌}
+use Rattle.std.specs.Prelude.{ℕ, Bool, not, ◌&&◌, ◌==◌, List, [], ◌∷◌, Option, Result, Ok, Err, ok_or, if◌then◌else◌}
+use Rattle.std.specs.List.{position}
 use Rattle.am_outside.specs.Shelf.{Files}
 use Rattle.job_words.specs.declared.asks.Search.{Search}
 use Rattle.pbn_text.specs.declared.fault.Syntax.{Syntax as TextSyntax}
@@ -25,7 +26,7 @@ use Rattle.am_answer.specs.declared.inputs.Work.TheVariants as works
 use Rattle.am_answer.specs.declared.root.Root.{Root}
 use Rattle.am_answer.specs.declared.status.PbnKind.TheVariants.{Syntax, NoGame}
 use Rattle.am_answer.specs.declared.status.Status.{Status}
-use Rattle.am_answer.specs.declared.status.Status.TheVariants.{BadPbn, NoTurn}
+use Rattle.am_answer.specs.declared.status.Status.TheVariants.{BadPbn, NoTurn, NoLayout}
 use Rattle.am_answer.specs.Files.{inputs_read}
 use Rattle.am_answer.specs.Judging.{plans_in}
 use Rattle.am_answer.specs.Refusals.{board_status, layout_status, make_status}
@@ -72,12 +73,21 @@ root_in deal layouts = do
 
 -- ---- what is to be done
 
+-- a layout that is to be played out, by its number and its place among the kept ones, counted from 0; and the number of the
+-- card before which another defender comes in
+pub record Playing : Type 0 where
+  pub layout : ℕ
+  pub place : ℕ
+  pub switch : Option ℕ
+
 -- a job that the words and the files lead to
 pub data TaskValue : Type 0 where
   -- the report of a root, by so many moves and a search
   Report : Root → ℕ → Search → TaskValue
   -- the card to play at a root, by so many moves and a search
   NamedCard : Root → ℕ → Search → TaskValue
+  -- the first strategy of a root's front, by so many moves and a search, played out in a layout
+  PlayedOut : Root → ℕ → Search → Playing → TaskValue
   -- what plain sampling believes at a root
   Sample : Root → TaskValue
   -- a report with so many plans, all of which are good
@@ -87,10 +97,21 @@ pub data TaskValue : Type 0 where
   -- the root of the problem made from a number, and a search
   Problem : ℕ → Root → Search → TaskValue
 
+-- the place of a layout among the kept ones, counted from 0
+abbrev pub place_of : ℕ → Root → Option ℕ
+place_of layout root = position (λ number. number == layout) root.kept.numbers
+
+-- the match in the layout of a number, where it is kept
+unfoldable pub match_at : Root → ℕ → Search → ℕ → Option ℕ → Result TaskValue Status
+match_at root moves search layout switch = do
+  place ← ok_or (place_of layout root) (NoLayout layout)
+  Ok (PlayedOut root moves search (record { layout = layout; place = place; switch = switch }))
+
 -- a job at a root
 unfoldable pub task_at : Root → Work → Result TaskValue Status
 task_at root (works.Solve moves search) = Ok (Report root moves search)
 task_at root (works.Card moves search) = Ok (NamedCard root moves search)
+task_at root (works.Match moves search layout switch) = match_at root moves search layout switch
 task_at root works.Fusion = Ok (Sample root)
 task_at root (works.Check report) = do
   plans ← plans_in root report

@@ -1,7 +1,7 @@
 -- The numbers that the program ends with.
 use Rattle.std.specs.Prelude.{ℕ}
 use Rattle.am_answer.specs.declared.status.Status.{Status}
-use Rattle.am_answer.specs.declared.status.Status.TheVariants.{Done, Refuted, BadWords, Unread, BadPbn, BadLayouts, NoTurn, Spent, Unwritten, Memory, TooLong, BadReport, BadMake}
+use Rattle.am_answer.specs.declared.status.Status.TheVariants.{Done, Refuted, BadWords, Unread, BadPbn, BadLayouts, NoTurn, Spent, Unwritten, Memory, TooLong, BadReport, BadMake, NoLayout}
 
 -- each status has a number of its own
 abbrev pub code_of : Status → ℕ
@@ -18,3 +18,4 @@ code_of Memory = 9
 code_of (TooLong file) = 10
 code_of (BadReport line kind) = 11
 code_of (BadMake fault) = 12
+code_of (NoLayout layout) = 14

@@ -11,9 +11,10 @@ use Rattle.am_answer.specs.declared.status.FileWord.{FileWord}
 use Rattle.am_answer.specs.declared.status.Status.{Status}
 use Rattle.am_answer.specs.declared.status.Status.TheVariants.{Done, Unread, Spent, Unwritten, Memory}
 use Rattle.am_answer.specs.declared.root.Root.{Root}
-use Rattle.am_answer.specs.Answers.{TaskValue, Report, NamedCard, Problem, problem_of}
+use Rattle.am_answer.specs.Answers.{TaskValue, Report, NamedCard, PlayedOut, Problem, problem_of}
 use Rattle.am_answer.specs.Files.{name_of}
-use Rattle.am_answer.specs.Reports.{IsText, made_moves}
+use Rattle.am_answer.specs.Reports.{IsTextAt, made_moves}
+use Rattle.am_match.specs.Defences.{Sitter}
 
 -- ---- how a job ends
 
@@ -30,6 +31,7 @@ pub record IsSpentBy (n : NodeValue) (moves : ℕ) (search : Search) (card : ℕ
 abbrev pub IsSpentOn : TaskValue → ℕ → Type 0
 IsSpentOn (Report root moves search) card = IsSpentBy root.kept.node moves search card
 IsSpentOn (NamedCard root moves search) card = IsSpentBy root.kept.node moves search card
+IsSpentOn (PlayedOut root moves search playing) card = IsSpentBy root.kept.node moves search card
 IsSpentOn (Problem number root search) card = IsSpentBy root.kept.node made_moves search card
 IsSpentOn _ card = ⊥
 
@@ -37,6 +39,7 @@ IsSpentOn _ card = ⊥
 abbrev pub IsWithinNodes : TaskValue → Type 0
 IsWithinNodes (Report root moves search) = AllFit root.kept.node moves search.nodes
 IsWithinNodes (NamedCard root moves search) = AllFit root.kept.node moves search.nodes
+IsWithinNodes (PlayedOut root moves search playing) = AllFit root.kept.node moves search.nodes
 IsWithinNodes (Problem number root search) = AllFit root.kept.node made_moves search.nodes
 IsWithinNodes _ = ⊤
 
@@ -44,6 +47,7 @@ IsWithinNodes _ = ⊤
 abbrev pub IsWithinIfPlain : TaskValue → Type 0
 IsWithinIfPlain (Report root moves search) = IsPlain search → AllFit root.kept.node moves search.nodes
 IsWithinIfPlain (NamedCard root moves search) = IsPlain search → AllFit root.kept.node moves search.nodes
+IsWithinIfPlain (PlayedOut root moves search playing) = IsPlain search → AllFit root.kept.node moves search.nodes
 IsWithinIfPlain (Problem number root search) = IsPlain search → AllFit root.kept.node made_moves search.nodes
 IsWithinIfPlain _ = ⊤
 
@@ -71,13 +75,13 @@ IsMadeRun number search status = (root : Root) × (problem_of number search ≡ 
 
 -- ---- what is written
 
--- the answer is a job, and its text came after what was told before
-abbrev pub IsReported : Result TaskValue Status → Option (List ℕ) → Option (List ℕ) → Type 0
-IsReported answer before now = (task : TaskValue) × (text : List ℕ) × (answer ≡ Ok task) × IsText task text × (now ≡ append_known before text)
+-- the answer is a job, and its text came after what was told before; with the table of defenders before and after it
+abbrev pub IsReported : Result TaskValue Status → List Sitter → List Sitter → Option (List ℕ) → Option (List ℕ) → Type 0
+IsReported answer table later before now = (task : TaskValue) × (text : List ℕ) × (answer ≡ Ok task) × IsTextAt task table later text × (now ≡ append_known before text)
 
 -- the same, but a proper prefix of the text came
-abbrev pub IsReportedInPart : Result TaskValue Status → Option (List ℕ) → Option (List ℕ) → Type 0
-IsReportedInPart answer before now = (task : TaskValue) × (text : List ℕ) × (answer ≡ Ok task) × IsText task text × AppendsPart before text now
+abbrev pub IsReportedInPart : Result TaskValue Status → List Sitter → List Sitter → Option (List ℕ) → Option (List ℕ) → Type 0
+IsReportedInPart answer table later before now = (task : TaskValue) × (text : List ℕ) × (answer ≡ Ok task) × IsTextAt task table later text × AppendsPart before text now
 
 -- where it is told, what was written before stands in front of what is written now
 abbrev pub IsKeptInFront : Option (List ℕ) → Option (List ℕ) → Type 0

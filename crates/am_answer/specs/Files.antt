@@ -1,5 +1,5 @@
 -- The files that the words name, read one after another.
-use Rattle.std.specs.Prelude.{ℕ, ◌<◌, ◌≤◌, ◌^◌, nat_lt, List, length, Option, Some, None, Result, Ok, Err, ok_or, ⊤, if◌then◌else◌}
+use Rattle.std.specs.Prelude.{ℕ, Bool, true, false, ◌<◌, ◌≤◌, ◌^◌, nat_lt, List, length, Option, Some, None, IfSome, Result, Ok, Err, ok_or, ⊤, if◌then◌else◌}
 use Rattle.std.specs.FinMap.{get}
 use Rattle.am_outside.specs.Shelf.{Files}
 use Rattle.job_words.specs.Asks as asks
@@ -32,6 +32,7 @@ file_read files file name = within_limit file (get files name)
 unfoldable pub work_read : Files → asks.LayoutsJobValue → Result Work Status
 work_read files (asks.Solve moves search) = Ok (works.Solve moves search)
 work_read files (asks.Card moves search) = Ok (works.Card moves search)
+work_read files (asks.Match moves search layout switch) = Ok (works.Match moves search layout switch)
 work_read files asks.Fusion = Ok works.Fusion
 work_read files (asks.Check name) = do
   report ← file_read files Report name
@@ -70,12 +71,35 @@ name_of (asks.OnLayouts deal layouts job) Report = report_named job
 name_of (asks.ListOf deal) Deal = Some deal
 name_of _ _ = None
 
+-- ---- which job is played at a table
+
+-- a job on layouts is a match
+abbrev pub is_match_job : asks.LayoutsJobValue → Bool
+is_match_job (asks.Match moves search layout switch) = true
+is_match_job _ = false
+
+-- what the words ask for is a match
+abbrev pub asks_match : Option asks.AskValue → Bool
+asks_match (Some (asks.OnLayouts deal layouts job)) = is_match_job job
+asks_match _ = false
+
+-- the same of what was read
+abbrev pub is_match_work : Work → Bool
+is_match_work (works.Match moves search layout switch) = true
+is_match_work _ = false
+
+abbrev pub is_match : Inputs → Bool
+is_match (inputs.OnLayouts deal layouts work) = is_match_work work
+is_match _ = false
+
 -- ---- what is read keeps limits
 
 -- a search keeps to its limits and to the moves that it may have, and a report to its limit
 abbrev pub IsWithin : Work → Type 0
 IsWithin (works.Solve moves search) = asks.IsMoves moves × asks.IsSearchWithinLimits search
 IsWithin (works.Card moves search) = asks.IsMoves moves × asks.IsSearchWithinLimits search
+IsWithin (works.Match moves search layout switch) =
+    asks.IsMoves moves × asks.IsSearchWithinLimits search × IfSome switch asks.IsSwitch
 IsWithin works.Fusion = ⊤
 IsWithin (works.Check report) = length report ≤ limit_of Report
 

@@ -3,6 +3,7 @@ pub mod Files
 pub mod Refusals
 pub mod Judging
 pub mod Answers
+pub mod Matches
 pub mod Reports
 pub mod Endings
 pub mod Stages

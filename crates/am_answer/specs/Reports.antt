@@ -13,7 +13,9 @@ use Rattle.am_report.specs.LayoutFile.{list_text}
 use Rattle.am_report.specs.Made.{made_text}
 use Rattle.am_report.specs.Solve.{solve_text}
 use Rattle.am_answer.specs.declared.root.Root.{Root}
-use Rattle.am_answer.specs.Answers.{TaskValue, Report, NamedCard, Sample, Good, AllLayouts, Problem}
+use Rattle.am_answer.specs.Answers.{TaskValue, Report, NamedCard, PlayedOut, Sample, Good, AllLayouts, Problem}
+use Rattle.am_answer.specs.Matches.{IsMatchText}
+use Rattle.am_match.specs.Defences.{Sitter}
 
 -- the vectors of the front in order, each with the plan that is chosen for it; the named card; and the best count
 pub record IsSolveAnswer (n : NodeValue) (moves : ℕ) (found : SolveAnswerValue) : Type 0 where
@@ -43,11 +45,17 @@ IsMadeText number root moves text = (vectors : List (List Bool)) × (card count 
     × IsNamedCard bridge root.kept.node moves card × IsBestCount bridge root.kept.node moves count
     × (text ≡ made_text (record { number = number; layouts = length root.kept.node.lefts; front = length vectors; best = count; card = card }))
 
--- the text of a job
+-- the text of a job that asks no defender for a card
 abbrev pub IsText : TaskValue → List ℕ → Type 0
 IsText (Report root moves search) text = IsSolveText root moves text
 IsText (NamedCard root moves search) text = IsCardText root moves text
+IsText (PlayedOut root moves search playing) text = ⊥
 IsText (Sample root) text = text ≡ fusion_text (card_vectors root.kept.node)
 IsText (Good plans) text = text ≡ check_text plans
 IsText (AllLayouts board layouts) text = text ≡ list_text board layouts
 IsText (Problem number root search) text = IsMadeText number root made_moves text
+
+-- the text of a job at a table of defenders, and the table after it
+abbrev pub IsTextAt : TaskValue → List Sitter → List Sitter → List ℕ → Type 0
+IsTextAt (PlayedOut root moves search playing) table later text = IsMatchText root moves playing table later text
+IsTextAt task table later text = IsText task text

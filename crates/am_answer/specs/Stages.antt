@@ -3,7 +3,8 @@ use Rattle.std.specs.Prelude.{◌≡◌, ⊤, ℕ, List, Result, Ok, Err}
 use Rattle.am_answer.specs.declared.status.Status.{Status}
 use Rattle.am_answer.specs.declared.status.Status.TheVariants.{Done, BadWords, Unread, Spent, Unwritten, Memory, TooLong}
 use Rattle.am_answer.specs.Answers.{TaskValue}
-use Rattle.am_answer.specs.Reports.{IsText}
+use Rattle.am_answer.specs.Reports.{IsText, IsTextAt}
+use Rattle.am_match.specs.Defences.{Sitter}
 use Rattle.am_answer.specs.Endings.{IsSpentOn, IsWithinIfPlain}
 
 -- a status of reading a file
@@ -47,6 +48,13 @@ pub record IsTextFor (answer : Result TaskValue Status) (text : List ℕ) : Type
   pub task : TaskValue
   pub accepted : answer ≡ Ok task
   pub is_text : IsText task text
+  pub fits : IsWithinIfPlain task
+
+-- the same at a table of defenders, with the table after it
+pub record IsTextForAt (answer : Result TaskValue Status) (table later : List Sitter) (text : List ℕ) : Type 0 where
+  pub task : TaskValue
+  pub accepted : answer ≡ Ok task
+  pub is_text : IsTextAt task table later text
   pub fits : IsWithinIfPlain task
 
 -- the status of a run that wrote nothing

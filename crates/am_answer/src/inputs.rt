@@ -6,13 +6,29 @@ use job_words::Search;
 #[derive(Drop)]
 pub enum Work {
     /// The report of the root, by so many moves of declarer's side.
-    Solve { moves: u8, search: Search },
+    Solve {
+        moves: u8,
+        search: Search,
+    },
     /// The card to play, by so many moves of declarer's side.
-    Card { moves: u8, search: Search },
+    Card {
+        moves: u8,
+        search: Search,
+    },
+    /// The first strategy of the front by so many moves of declarer's side, played out in the layout
+    /// of a number. Another defender comes to Left's seat before the card of the switch's number.
+    Match {
+        moves: u8,
+        search: Search,
+        layout: u16,
+        switch: Option<u16>,
+    },
     /// What plain sampling believes of each card.
     Fusion,
     /// Whether each plan of the report wins exactly its vector.
-    Check { report: Text },
+    Check {
+        report: Text,
+    },
 }
 
 /// What the words ask for, with the files that they name.

@@ -74,6 +74,8 @@ pub enum Status {
     BadReport(u32, ReportKind),
     /// The layouts of the board aren't listed; never for want of memory.
     BadMake(MakeFault),
+    /// The layout of this number isn't among the kept ones.
+    NoLayout(u16),
 }
 
 impl Status {
@@ -95,6 +97,7 @@ impl Status {
             Status::TooLong(_) => 10,
             Status::BadReport(_, _) => 11,
             Status::BadMake(_) => 12,
+            Status::NoLayout(_) => 14,
         }
     }
 }

@@ -8,6 +8,7 @@ ghost use Rattle.job_words.specs.Asks.{IsWithinLimits, IsJobWithinLimits};
 ghost use Rattle.job_words.specs.Words.{words_read};
 ghost use Rattle.am_answer.specs.Files.{file_read, inputs_read, limit_of, name_of, named_read};
 ghost use Rattle.am_answer.specs.Files.{report_named, work_read, AreWithin, IsWithin};
+ghost use Rattle.am_answer.specs.Files.{is_match_job, asks_match, is_match_work, is_match};
 ghost use Rattle.am_answer.specs.Refusals.{IsUnread};
 ghost use Rattle.am_answer.specs.Stages.{IsOfFiles, IsOfReading, IsReadRefusal};
 
@@ -63,6 +64,8 @@ fn read_work<S: Shelf>(alloc: Global, shelf: &mut S, job: LayoutsJob<'_>) -> Res
         IfOk result (λ work. work_read files (job_of job.entry) ≡ Ok work)) }
     ensures refused { IfSome (S.told shelf.old) (λ files.
         IfErr result (IsReadRefusal (work_read files (job_of job.entry)))) }
+    ensures same_job { IfOk result (λ work.
+        is_match_work work ≡ is_match_job (job_of job.entry)) }
     ensures only { IfErr result IsOfFiles }
     ensures unread { (file : FileWord) → IsErrOf result (Status.Unread file)
         → (file ≡ FileWord.Report)
@@ -74,6 +77,17 @@ fn read_work<S: Shelf>(alloc: Global, shelf: &mut S, job: LayoutsJob<'_>) -> Res
     match job {
         LayoutsJob::Solve { moves, search } => Ok(Work::Solve { moves, search }),
         LayoutsJob::Card { moves, search } => Ok(Work::Card { moves, search }),
+        LayoutsJob::Match {
+            moves,
+            search,
+            layout,
+            switch,
+        } => Ok(Work::Match {
+            moves,
+            search,
+            layout,
+            switch,
+        }),
         LayoutsJob::Fusion => Ok(Work::Fusion),
         LayoutsJob::Check { report } => {
             let report = read_file(alloc, shelf, FileWord::Report, report)?;
@@ -91,6 +105,8 @@ fn read_named<S: Shelf>(alloc: Global, shelf: &mut S, ask: Ask<'_>) -> Result<In
         IfOk result (λ inputs. named_read files (ask_of ask.entry) ≡ Ok inputs)) }
     ensures refused { IfSome (S.told shelf.old) (λ files.
         IfErr result (IsReadRefusal (named_read files (ask_of ask.entry)))) }
+    ensures same_job { IfOk result (λ inputs.
+        is_match inputs ≡ asks_match (Some (ask_of ask.entry))) }
     ensures only { IfErr result IsOfFiles }
     ensures unread { (file : FileWord) → IsErrOf result (Status.Unread file)
         → IsSomeAnd (name_of (ask_of ask.entry) file) (λ name.
@@ -145,6 +161,8 @@ pub fn read_inputs<S: Shelf>(
         IfOk result (λ inputs. inputs_read (texts_of words.now) files ≡ Ok inputs)) }
     ensures refused { IfSome (S.told shelf.old) (λ files.
         IfErr result (IsReadRefusal (inputs_read (texts_of words.now) files))) }
+    ensures same_job { IfOk result (λ inputs.
+        is_match inputs ≡ asks_match (words_read (texts_of words.now))) }
     ensures bad_words { IsErrOf result Status.BadWords → words_read (texts_of words.now) ≡ None }
     ensures only_bad_words { words_read (texts_of words.now) ≡ None
         → IfErr result (λ status. (status ≡ Status.BadWords) ⊎ (status ≡ Status.Memory)) }

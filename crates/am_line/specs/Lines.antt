@@ -11,7 +11,7 @@ use Rattle.layout_list.specs.declared.fault.LayoutFault as layouts
 use Rattle.layout_maker.specs.declared.fault.MakeFault as make
 use Rattle.am_answer.specs.declared.status.Place as place
 use Rattle.am_answer.specs.declared.status.Status.{Status}
-use Rattle.am_answer.specs.declared.status.Status.TheVariants.{Done, Refuted, BadWords, Unread, BadPbn, BadLayouts, NoTurn, Spent, Unwritten, Memory, TooLong, BadReport, BadMake}
+use Rattle.am_answer.specs.declared.status.Status.TheVariants.{Done, Refuted, BadWords, Unread, BadPbn, BadLayouts, NoTurn, Spent, Unwritten, Memory, TooLong, BadReport, BadMake, NoLayout}
 use Rattle.am_line.specs.Names.{file_name, deal_name, kind_name, report_name}
 
 -- pieces of a line, one after another
@@ -59,6 +59,7 @@ pieces_of Memory = codes "alphamu: out of memory\n" ∷ []
 pieces_of (TooLong file) = codes "alphamu: " ∷ file_name file ∷ codes " too long\n" ∷ []
 pieces_of (BadReport line kind) = codes "alphamu: report line " ∷ decimal line ∷ codes ": " ∷ report_name kind ∷ codes "\n" ∷ []
 pieces_of (BadMake fault) = make_line fault
+pieces_of (NoLayout layout) = codes "alphamu: no layout " ∷ decimal layout ∷ codes "\n" ∷ []
 
 -- the line of a status
 unfoldable pub status_line : Status → List ℕ

@@ -172,6 +172,14 @@ fn write_line<O: Sink>(out: &mut O, status: &Status) -> Result<(), SinkFailed>
             ],
         ),
         Status::BadMake(fault) => write_make(out, *fault),
+        Status::NoLayout(layout) => write_pieces(
+            out,
+            &[
+                b"alphamu: no layout ",
+                number.format(*layout).as_bytes(),
+                b"\n",
+            ],
+        ),
     }
 }
 

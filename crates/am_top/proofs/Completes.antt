@@ -8,13 +8,14 @@ use Rattle.job_words.specs.Asks.{AskValue}
 use Rattle.job_words.specs.Words.{words_read}
 use Rattle.am_answer.specs.declared.status.FileWord.{FileWord}
 use Rattle.am_answer.specs.declared.status.Status.{Status}
-use Rattle.am_answer.specs.declared.status.Status.TheVariants.{Done, Refuted, BadWords, Unread, BadPbn, BadLayouts, NoTurn, Spent, Unwritten, Memory, TooLong, BadReport, BadMake}
+use Rattle.am_answer.specs.declared.status.Status.TheVariants.{Done, Refuted, BadWords, Unread, BadPbn, BadLayouts, NoTurn, Spent, Unwritten, Memory, TooLong, BadReport, BadMake, NoLayout}
 use Rattle.am_answer.specs.declared.root.Root.{Root}
 use Rattle.am_answer.specs.Answers.{TaskValue, Problem, answer, problem_of}
 use Rattle.am_answer.specs.Files.{name_of}
 use Rattle.am_answer.specs.Refusals.{IsUnread}
 use Rattle.am_answer.specs.Endings.{IsSpentOn, IsWithinNodes, IsWithinIfPlain, IsMadeStatus, IsMadeRun, HasNoFault, IsDoneOrMemory}
-use Rattle.am_answer.specs.Stages.{IsRefusal, IsTaskRefusal, IsTextFor}
+use Rattle.am_answer.specs.Stages.{IsRefusal, IsTaskRefusal, IsTextForAt}
+use Rattle.am_match.specs.Defences.{Sitter}
 use Rattle.am_answer.proofs.Endings.{not_spent}
 use Rattle.am_top.proofs.MadeAccepted.{made-problem}
 
@@ -55,6 +56,7 @@ module _ (words : List (List ℕ)) (files : Files) (before now : List ℕ → �
   complete (TooLong file) is unread = absurd (ok-err (answer words files) task (TooLong file) accepted is)
   complete (BadReport line kind) is unread = absurd (ok-err (answer words files) task (BadReport line kind) accepted is)
   complete (BadMake fault) is unread = absurd (ok-err (answer words files) task (BadMake fault) accepted is)
+  complete (NoLayout layout) is unread = absurd (ok-err (answer words files) task (NoLayout layout) accepted is)
 
 pub told_complete : (told : Option Files) (words : List (List ℕ)) (status : Status) (before now : List ℕ → ℕ) (written : Type 0) → IfSome told (λ files. IsRefusal (answer words files) status) → ((file : FileWord) → status ≡ Unread file → IsUnread words before now file)
     → IfSome told (λ files. (ask : AskValue) (task : TaskValue) → words_read words ≡ Some ask → answer words files ≡ Ok task → IsWithinNodes task → HasNoFault ask before now → (written → ⊥) → IsDoneOrMemory status)
@@ -80,18 +82,19 @@ module _ (number : ℕ) (search' : Search) where
   made_refused root (TooLong file) is refused = absurd refused
   made_refused root (BadReport line kind) is refused = absurd (ok-err (problem_of number search') (Problem number root search') (BadReport line kind) is refused)
   made_refused root (BadMake fault) is refused = absurd (ok-err (problem_of number search') (Problem number root search') (BadMake fault) is refused)
+  made_refused root (NoLayout layout) is refused = absurd (ok-err (problem_of number search') (Problem number root search') (NoLayout layout) is refused)
 
   pub made_run_refused : (status : Status) → IsTaskRefusal (problem_of number search') status → IsMadeRun number search' status
   made_run_refused status refused = let made = made-problem number search' in (made.0, made.1, made_refused made.0 status made.1 refused)
 
   -- a run that has the text of the job
-  made_within : (root : Root) (text : List ℕ) → problem_of number search' ≡ Ok (Problem number root search') → IsTextFor (problem_of number search') text → IsWithinIfPlain (Problem number root search')
-  made_within root text is written = subst (λ t. IsWithinIfPlain t) (ok-same (problem_of number search') written.task (Problem number root search') written.accepted is) written.fits
+  made_within : (root : Root) (text : List ℕ) (table later : List Sitter) → problem_of number search' ≡ Ok (Problem number root search') → IsTextForAt (problem_of number search') table later text → IsWithinIfPlain (Problem number root search')
+  made_within root text table later is written = subst (λ t. IsWithinIfPlain t) (ok-same (problem_of number search') written.task (Problem number root search') written.accepted is) written.fits
 
-  pub made_run_written : (text : List ℕ) (status : Status) → IsTextFor (problem_of number search') text → (status ≡ Done) ⊎ (status ≡ Unwritten) → IsMadeRun number search' status
-  made_run_written text status written ends =
+  pub made_run_written : (text : List ℕ) (status : Status) (table later : List Sitter) → IsTextForAt (problem_of number search') table later text → (status ≡ Done) ⊎ (status ≡ Unwritten) → IsMadeRun number search' status
+  made_run_written text status table later written ends =
       let made = made-problem number search' in
-      let fits = made_within made.0 text made.1 written in
+      let fits = made_within made.0 text table later made.1 written in
       ⊎_elim
       (λ (e : status ≡ Done). subst (λ s. IsMadeRun number search' s) (sym e) (made.0, made.1, fits))
       (λ (e : status ≡ Unwritten). subst (λ s. IsMadeRun number search' s) (sym e) (made.0, made.1, fits))
@@ -111,3 +114,4 @@ module _ (number : ℕ) (search' : Search) where
   made_complete task (TooLong file) is fits refused = absurd refused
   made_complete task (BadReport line kind) is fits refused = absurd (ok-err (problem_of number search') task (BadReport line kind) is refused)
   made_complete task (BadMake fault) is fits refused = absurd (ok-err (problem_of number search') task (BadMake fault) is refused)
+  made_complete task (NoLayout layout) is fits refused = absurd (ok-err (problem_of number search') task (NoLayout layout) is refused)

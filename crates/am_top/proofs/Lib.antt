@@ -1,3 +1,4 @@
+pub mod BitsMade
 pub mod Completes
 pub mod InFront
 pub mod MadeAccepted

@@ -5,13 +5,14 @@ use Rattle.am_outside.specs.Shelf.{Files}
 use Rattle.am_answer.specs.declared.inputs.Inputs.{Inputs}
 use Rattle.am_answer.specs.declared.inputs.Inputs.TheVariants.{Made}
 use Rattle.am_answer.specs.declared.status.Status.{Status}
-use Rattle.am_answer.specs.declared.status.Status.TheVariants.{Done, Refuted, BadWords, Unread, BadPbn, BadLayouts, NoTurn, Spent, Unwritten, Memory, TooLong, BadReport, BadMake}
+use Rattle.am_answer.specs.declared.status.Status.TheVariants.{Done, Refuted, BadWords, Unread, BadPbn, BadLayouts, NoTurn, Spent, Unwritten, Memory, TooLong, BadReport, BadMake, NoLayout}
 use Rattle.job_words.specs.declared.asks.Search.{Search}
 use Rattle.layout_maker.specs.MadeProblem.{made_deal, made_layouts}
 use Rattle.am_answer.specs.declared.root.Root.{Root}
 use Rattle.am_answer.specs.Answers.{TaskValue, Problem, root_in, problem_of, task_in, answer}
 use Rattle.am_answer.specs.Files.{inputs_read}
-use Rattle.am_answer.specs.Stages.{IsOfReading, IsReadRefusal, IsTaskRefusal, IsTextFor, IsRefusal}
+use Rattle.am_answer.specs.Stages.{IsOfReading, IsReadRefusal, IsTaskRefusal, IsTextForAt, IsRefusal}
+use Rattle.am_match.specs.Defences.{Sitter}
 
 -- the root of the problem of a number
 pub problem-root : (number : ℕ) (search' : Search) (root : Root) (deal layouts : List ℕ) → deal ≡ made_deal number → layouts ≡ made_layouts number → root_in deal layouts ≡ Ok root → problem_of number search' ≡ Ok (Problem number root search')
@@ -44,6 +45,7 @@ refused_inputs words files Memory is = tt
 refused_inputs words files (TooLong file) is = answer-refused words files (TooLong file) is
 refused_inputs words files (BadReport line kind) is = absurd is
 refused_inputs words files (BadMake fault) is = absurd is
+refused_inputs words files (NoLayout layout) is = absurd is
 
 -- a task that is refused
 refused_task : (found : Result TaskValue Status) (status : Status) → IsTaskRefusal found status → IsRefusal found status
@@ -60,6 +62,7 @@ refused_task found Memory is = tt
 refused_task found (TooLong file) is = absurd is
 refused_task found (BadReport line kind) is = is
 refused_task found (BadMake fault) is = is
+refused_task found (NoLayout layout) is = is
 
 -- where the shelf tells its files
 
@@ -67,9 +70,9 @@ pub told_refused_inputs : (told : Option Files) (words : List (List ℕ)) (statu
 told_refused_inputs None words status is = tt
 told_refused_inputs (Some files) words status is = refused_inputs words files status is
 
-pub told_text : (told : Option Files) (words : List (List ℕ)) (inputs : Inputs) (result : Result (List ℕ) Status) → IfSome told (λ files. inputs_read words files ≡ Ok inputs) → IfOk result (IsTextFor (task_in inputs)) → IfSome told (λ files. IfOk result (IsTextFor (answer words files)))
-told_text None words inputs result same is = tt
-told_text (Some files) words inputs result same is = rw (answer-in words files inputs same) is
+pub told_text : (told : Option Files) (words : List (List ℕ)) (inputs : Inputs) (result : Result (List ℕ) Status) (table later : List Sitter) → IfSome told (λ files. inputs_read words files ≡ Ok inputs) → IfOk result (IsTextForAt (task_in inputs) table later) → IfSome told (λ files. IfOk result (IsTextForAt (answer words files) table later))
+told_text None words inputs result table later same is = tt
+told_text (Some files) words inputs result table later same is = rw (answer-in words files inputs same) is
 
 refused_tasks : {A : Type 0} (result : Result A Status) (found : Result TaskValue Status) → IfErr result (IsTaskRefusal found) → IfErr result (IsRefusal found)
 refused_tasks (Ok text) found is = tt
@@ -99,10 +102,10 @@ err_inputs result status memory made err (inl is) = absurd (search (rules, sym e
 err_inputs result status memory made err (inr is) = search (rules, sym err ∙ is)
 
 module _ (read : Result Inputs Status) (number : ℕ) (search' : Search) (only : (read ≡ Ok (Made number search')) ⊎ (read ≡ Err Memory)) where
-  pub made_text : (inputs : Inputs) (result : Result (List ℕ) Status) → read ≡ Ok inputs → IfOk result (IsTextFor (task_in inputs)) → IfOk result (IsTextFor (problem_of number search'))
-  made_text inputs result ok is =
+  pub made_text : (inputs : Inputs) (result : Result (List ℕ) Status) (table later : List Sitter) → read ≡ Ok inputs → IfOk result (IsTextForAt (task_in inputs) table later) → IfOk result (IsTextForAt (problem_of number search') table later)
+  made_text inputs result table later ok is =
       let same = ok_inputs read inputs (Made number search') Memory ok only in
-      subst (λ found. IfOk result (IsTextFor found)) (made-task number search') (subst (λ inputs. IfOk result (IsTextFor (task_in inputs))) same is)
+      subst (λ found. IfOk result (IsTextForAt found table later)) (made-task number search') (subst (λ inputs. IfOk result (IsTextForAt (task_in inputs) table later)) same is)
 
   pub made_refused : (inputs : Inputs) (result : Result (List ℕ) Status) → read ≡ Ok inputs → IfErr result (IsTaskRefusal (task_in inputs)) → IfErr result (IsTaskRefusal (problem_of number search'))
   made_refused inputs result ok is =

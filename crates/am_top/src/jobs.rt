@@ -1,17 +1,20 @@
 //! The work of each job, by what was read.
-ghost use Rattle.std.specs.Prelude.{◌≡◌, ◌<◌, ◌-◌, ◌^◌, true, length, IfOk, IfErr};
+ghost use Rattle.std.specs.Prelude.{◌≡◌, ◌≢◌, ◌<◌, ◌-◌, ◌^◌, true, false, length, map, IfOk, IfErr};
 ghost use Rattle.job_words.specs.Asks.{IsSearchWithinLimits};
 ghost use Rattle.am_answer.specs.Answers.{has_choice, listed_in, problem_of, task_at, task_in};
-ghost use Rattle.am_answer.specs.Files.{AreWithin, IsWithin};
-ghost use Rattle.am_answer.specs.Stages.{IsFileRefusal, IsTaskRefusal, IsTextFor};
+ghost use Rattle.am_answer.specs.Files.{AreWithin, IsWithin, is_match, is_match_work};
+ghost use Rattle.am_match.specs.Defences.{sitter};
+ghost use Rattle.am_answer.specs.Stages.{IsFileRefusal, IsTaskRefusal, IsTextFor, IsTextForAt};
 
 use am_answer::{Inputs, Root, Status, Work};
 use am_inputs::{read_deal, read_root};
+use am_match::Defender;
 use am_outside::Gate;
 use byte_text::Text;
 use job_check::check_report;
 use job_fusion::sample_text;
 use job_list::list_layouts;
+use job_match::play_match;
 use job_search::{name_card, solve, summarize};
 use job_words::Search;
 use layout_maker::made_problem;
@@ -26,15 +29,31 @@ fn work<R: Threads + Sync, G: Gate>(
     root: &Root,
     work: &Work,
     gate: &G,
+    table: &mut Vec<Box<dyn Defender>>,
 ) -> Result<Text, Status>
     requires turn { has_choice root.now.kept.node ≡ true }
+    requires as_many { length root.now.kept.numbers ≡ length root.now.kept.node.lefts }
     requires within { IsWithin work.now }
-    ensures text { IfOk result (IsTextFor (task_at root.now work.now)) }
+    requires seats { length table.old.items ≡ 3 }
+    ensures text { IfOk result (IsTextForAt (task_at root.now work.now)
+        (map (λ d. sitter (style d) (heard d)) table.old.items)
+        (map (λ d. sitter (style d) (heard d)) table.new.items)) }
     ensures refused { IfErr result (IsTaskRefusal (task_at root.now work.now)) }
+    ensures others { is_match_work work.now ≡ false → table.new ≡ table.old }
+    ensures untouched { IfErr result (λ status.
+        status ≢ Status.Memory → table.new ≡ table.old) }
 {
     match work {
         Work::Solve { moves, search } => solve(rt, alloc, root, *moves, search, gate),
         Work::Card { moves, search } => name_card(rt, alloc, root, *moves, search, gate),
+        Work::Match {
+            moves,
+            search,
+            layout,
+            switch,
+        } => play_match(
+            rt, alloc, root, *moves, search, *layout, *switch, gate, table,
+        ),
         Work::Fusion => Ok(sample_text(rt, alloc, root)?),
         Work::Check { report } => check_report(alloc, root, report),
     }
@@ -69,17 +88,25 @@ fn solve_made<R: Threads + Sync, G: Gate>(
     summarize(rt, alloc, number, &root, made.moves, search, gate)
 }
 
-/// The text of the job that the files lead to, or why there is none.
+/// The text of the job that the files lead to, or why there is none. A match is played at the
+/// table; no other job touches it, and neither does a refusal but for want of memory.
 #[tactic(auto, unfolding(am_answer::specs::Answers::task_in))]
 pub fn text_in<R: Threads + Sync, G: Gate>(
     rt: &R,
     alloc: Global,
     inputs: &Inputs,
     gate: &G,
+    table: &mut Vec<Box<dyn Defender>>,
 ) -> Result<Text, Status>
-    requires { AreWithin inputs.now }
-    ensures text { IfOk result (IsTextFor (task_in inputs.now)) }
+    requires within { AreWithin inputs.now }
+    requires seats { length table.old.items ≡ 3 }
+    ensures text { IfOk result (IsTextForAt (task_in inputs.now)
+        (map (λ d. sitter (style d) (heard d)) table.old.items)
+        (map (λ d. sitter (style d) (heard d)) table.new.items)) }
     ensures refused { IfErr result (IsTaskRefusal (task_in inputs.now)) }
+    ensures others { is_match inputs.now ≡ false → table.new ≡ table.old }
+    ensures untouched { IfErr result (λ status.
+        status ≢ Status.Memory → table.new ≡ table.old) }
 {
     match inputs {
         Inputs::OnLayouts {
@@ -88,7 +115,7 @@ pub fn text_in<R: Threads + Sync, G: Gate>(
             work: job,
         } => {
             let root = read_root(alloc, deal, layouts)?;
-            work(rt, alloc, &root, job, gate)
+            work(rt, alloc, &root, job, gate, table)
         }
         Inputs::List { deal } => list(alloc, deal),
         Inputs::Made { number, search } => solve_made(rt, alloc, *number, search, gate),

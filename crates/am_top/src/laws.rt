@@ -1,5 +1,5 @@
 //! What a report says, in the words of the game. A call does nothing: its contract is the law.
-ghost use Rattle.std.specs.Prelude.{◌≡◌, ◌≤◌, ◌<◌, ◌^◌, ℕ, List, Some, Ok, length, map, Contains};
+ghost use Rattle.std.specs.Prelude.{◌≡◌, ◌≤◌, ◌<◌, ◌^◌, ℕ, Bool, true, List, Some, Ok, length, map, Contains};
 ghost use Rattle.win_vectors.specs.Vectors.{ones_of};
 ghost use Rattle.win_vectors.specs.Fronts.{Covers};
 ghost use Rattle.trick_rules.specs.Nodes.{NodeValue, IsNode, most_moves};
@@ -13,8 +13,10 @@ ghost use Rattle.layout_list.specs.Lines.{most_listed};
 ghost use Rattle.am_report.specs.Answers.{SolveAnswerValue, EntryValue};
 ghost use Rattle.am_report.specs.Solve.{solve_text};
 ghost use Rattle.am_answer.specs.declared.root.Root.{Root};
-ghost use Rattle.am_answer.specs.Answers.{Report, NamedCard, Problem, answer};
+ghost use Rattle.am_answer.specs.Answers.{Playing, Report, NamedCard, Problem, answer};
 ghost use Rattle.am_answer.specs.Judging.{plans_in};
+ghost use Rattle.am_answer.specs.Matches.{IsPlayed};
+ghost use Rattle.am_match.specs.Defences.{Sitter};
 ghost use Rattle.am_answer.specs.Reports.{IsSolveAnswer, IsText};
 
 /// The plan that is printed below a vector is a strategy, and wins exactly that vector: in each
@@ -36,6 +38,14 @@ pub fn printed_vectors_cover()
     ensures most { (n : NodeValue) (moves : ℕ) (found : SolveAnswerValue) (plan : Plan ℕ)
         → IsSolveAnswer n moves found
         → Fits bridge plan n moves → ones_of (wins_vector bridge plan n) ≤ found.count }
+{}
+
+/// A match in a layout at which the vector has a 1 is made, whoever the defenders are and whoever
+/// comes in.
+pub fn a_bit_of_1_is_made()
+    ensures { (n : NodeValue) (moves : ℕ) (playing : Playing) (table later : List Sitter)
+        (cards : List ℕ) (made : Bool) → IsNode n
+        → IsPlayed n moves playing table later true cards made → made ≡ true }
 {}
 
 /// A root and a number of moves have one report and one card, and a number one summary of its

@@ -1,5 +1,5 @@
 //! The call that the program makes.
-ghost use Rattle.std.specs.Prelude.{◌≡◌, ◌≢◌, ◌≤◌, ◌⊎◌, ℕ, Ok, None, Some, IfOk, IfErr, IfSome};
+ghost use Rattle.std.specs.Prelude.{◌≡◌, ◌≢◌, ◌≤◌, ◌⊎◌, ℕ, false, length, map, Ok, None, Some, IfOk, IfErr, IfSome};
 ghost use Rattle.std.specs.Prelude.{IsErrOf};
 ghost use Rattle.std.specs.Io.KnownBytes.{append_known};
 ghost use Rattle.am_outside.specs.Faults.{Rose};
@@ -8,7 +8,9 @@ ghost use Rattle.job_words.specs.declared.asks.Search.{Search};
 ghost use Rattle.job_words.specs.Asks.{AskValue, Made, texts_of};
 ghost use Rattle.job_words.specs.Words.{words_read};
 ghost use Rattle.am_answer.specs.Answers.{TaskValue, answer, problem_of};
-ghost use Rattle.am_answer.specs.Stages.{IsRefusal, IsTaskRefusal, IsTextFor};
+ghost use Rattle.am_answer.specs.Files.{asks_match};
+ghost use Rattle.am_answer.specs.Stages.{IsRefusal, IsTaskRefusal, IsTextForAt};
+ghost use Rattle.am_match.specs.Defences.{sitter};
 ghost use Rattle.am_line.specs.Lines.{status_line, IsSaid};
 ghost use Rattle.am_answer.specs.Refusals.{IsUnread};
 ghost use Rattle.am_answer.specs.Endings.{IsStatusFor, IsReported, IsReportedInPart, IsWithinNodes};
@@ -18,6 +20,7 @@ use crate::jobs::text_in;
 use am_answer::{FileWord, Status};
 use am_inputs::read_inputs;
 use am_line::refuse;
+use am_match::Defender;
 use am_outside::{Gate, Shelf, Sink, write_whole};
 use byte_text::Text;
 use std::alloc::Global;
@@ -30,9 +33,13 @@ fn text_for<R: Threads + Sync, S: Shelf, G: Gate>(
     words: &[String],
     shelf: &mut S,
     gate: &G,
+    table: &mut Vec<Box<dyn Defender>>,
 ) -> Result<Text, Status>
+    requires seats { length table.old.items ≡ 3 }
     ensures text { IfSome (S.told shelf.old) (λ files.
-        IfOk result (IsTextFor (answer (texts_of words.now) files))) }
+        IfOk result (IsTextForAt (answer (texts_of words.now) files)
+        (map (λ d. sitter (style d) (heard d)) table.old.items)
+        (map (λ d. sitter (style d) (heard d)) table.new.items))) }
     ensures refused { IfSome (S.told shelf.old) (λ files.
         IfErr result (IsRefusal (answer (texts_of words.now) files))) }
     ensures bad_words { IsErrOf result Status.BadWords → words_read (texts_of words.now) ≡ None }
@@ -45,14 +52,20 @@ fn text_for<R: Threads + Sync, S: Shelf, G: Gate>(
         (status ≢ Status.Done) × (status ≢ Status.Unwritten)) }
     ensures made_text { (number : ℕ) (search : Search)
         → words_read (texts_of words.now) ≡ Some (Made number search)
-        → IfOk result (IsTextFor (problem_of number search)) }
+        → IfOk result (IsTextForAt (problem_of number search)
+        (map (λ d. sitter (style d) (heard d)) table.old.items)
+        (map (λ d. sitter (style d) (heard d)) table.new.items)) }
     ensures made_refused { (number : ℕ) (search : Search)
         → words_read (texts_of words.now) ≡ Some (Made number search)
         → IfErr result (IsTaskRefusal (problem_of number search)) }
     ensures same_files { S.told shelf.new ≡ S.told shelf.old }
+    ensures others { asks_match (words_read (texts_of words.now)) ≡ false
+        → table.new ≡ table.old }
+    ensures untouched { IfErr result (λ status.
+        status ≢ Status.Memory → table.new ≡ table.old) }
 {
     match read_inputs(alloc, words, shelf) {
-        Ok(inputs) => text_in(rt, alloc, &inputs, gate),
+        Ok(inputs) => text_in(rt, alloc, &inputs, gate, table),
         Err(status) => Err(status),
     }
 }
@@ -83,6 +96,11 @@ fn deliver<O: Sink, E: Sink>(text: &Text, out: &mut O, err: &mut E) -> Status
 /// is, the report's grammar, the work of the job, the output. A step that the job doesn't need is
 /// left out.
 ///
+/// A match is played at the table of three defenders: the first sits at Left, the second at Right,
+/// and with `--switch` the third is taken from the table and comes to Left's seat before the card
+/// of that number. Each who sits is told the cards. No other job touches the table, and neither
+/// does a match that is refused, but for want of memory.
+///
 /// Each search of a root card stands between the gate's `enter` and `leave`. Neither the gate nor the
 /// number of workers changes a byte. The workers are joined, so it may wait.
 pub fn run<R: Threads + Sync, S: Shelf, O: Sink, E: Sink, G: Gate>(
@@ -93,11 +111,17 @@ pub fn run<R: Threads + Sync, S: Shelf, O: Sink, E: Sink, G: Gate>(
     out: &mut O,
     err: &mut E,
     gate: &G,
+    table: &mut Vec<Box<dyn Defender>>,
 ) -> Status
-    // The bytes written are the report that the definitions give for the files read, and so is the
-    // status.
+    requires seats { length table.old.items ≡ 3 }
+
+    // The bytes written are the text that the definitions give for the files read and the table,
+    // and so is the status.
     ensures report { IfSome (S.told shelf.old) (λ files. result ≡ Status.Done
-        → IsReported (answer (texts_of words.now) files) (O.told out.old) (O.told out.new)) }
+        → IsReported (answer (texts_of words.now) files)
+        (map (λ d. sitter (style d) (heard d)) table.old.items)
+        (map (λ d. sitter (style d) (heard d)) table.new.items)
+        (O.told out.old) (O.told out.new)) }
     ensures status { IfSome (S.told shelf.old) (λ files.
         IsStatusFor (answer (texts_of words.now) files) result) }
     ensures complete { IfSome (S.told shelf.old) (λ files. (ask : AskValue) (task : TaskValue)
@@ -108,7 +132,10 @@ pub fn run<R: Threads + Sync, S: Shelf, O: Sink, E: Sink, G: Gate>(
     // The problem of a number needs no file: what is said of it holds over every shelf.
     ensures made_report { (number : ℕ) (search : Search)
         → words_read (texts_of words.now) ≡ Some (Made number search) → result ≡ Status.Done
-        → IsReported (problem_of number search) (O.told out.old) (O.told out.new) }
+        → IsReported (problem_of number search)
+        (map (λ d. sitter (style d) (heard d)) table.old.items)
+        (map (λ d. sitter (style d) (heard d)) table.new.items)
+        (O.told out.old) (O.told out.new) }
     ensures made_status { (number : ℕ) (search : Search)
         → words_read (texts_of words.now) ≡ Some (Made number search)
         → IsMadeRun number search result }
@@ -131,15 +158,24 @@ pub fn run<R: Threads + Sync, S: Shelf, O: Sink, E: Sink, G: Gate>(
     // What a refused run has written.
     ensures untouched { (result ≢ Status.Done) → (result ≢ Status.Unwritten) → out.new ≡ out.old }
     ensures part { IfSome (S.told shelf.old) (λ files. result ≡ Status.Unwritten
-        → IsReportedInPart (answer (texts_of words.now) files) (O.told out.old) (O.told out.new)) }
+        → IsReportedInPart (answer (texts_of words.now) files)
+        (map (λ d. sitter (style d) (heard d)) table.old.items)
+        (map (λ d. sitter (style d) (heard d)) table.new.items)
+        (O.told out.old) (O.told out.new)) }
     ensures quiet { result ≡ Status.Done → err.new ≡ err.old }
     ensures said { (result ≢ Status.Done)
         → IsSaid (status_line result) (E.told err.old) (E.told err.new)
         (E.faults err.old) (E.faults err.new) }
 
     ensures same_files { S.told shelf.new ≡ S.told shelf.old }
+
+    // Who isn't asked to play.
+    ensures others { asks_match (words_read (texts_of words.now)) ≡ false
+        → table.new ≡ table.old }
+    ensures untouched_table { (result ≢ Status.Done) → (result ≢ Status.Unwritten)
+        → (result ≢ Status.Memory) → table.new ≡ table.old }
 {
-    match text_for(rt, alloc, words, shelf, gate) {
+    match text_for(rt, alloc, words, shelf, gate, table) {
         Ok(text) => deliver(&text, out, err),
         Err(status) => refuse(status, err),
     }

@@ -1,11 +1,13 @@
 //! Runs over files and sinks in memory: reports of small endings byte for byte, and each kind of
 //! refusal.
 use crate::{Status, run};
+use am_match::{Defender, HighCard, LowCard};
 use am_outside::{Gate, MemoryShelf, MemorySink, OpenGate};
 use std::alloc::{AllocError, Global};
 use std::thread::Threads;
 
 mod jobs;
+mod matches;
 mod options;
 mod refusals;
 mod reports;
@@ -85,6 +87,23 @@ fn ran_at<R: Threads + Sync, G: Gate>(
     let words = words_of(alloc, text)?;
     let mut out = MemorySink::new(alloc, 10_000, 0)?;
     let mut err = MemorySink::new(alloc, 100, 0)?;
-    let status = run(rt, alloc, &words, shelf, &mut out, &mut err, gate);
+    let status = status_of(rt, alloc, &words, shelf, &mut out, &mut err, gate)?;
     Ok(Run { status, out, err })
+}
+
+// How the words end at a table of two defenders who play low and a third who plays high.
+fn status_of<R: Threads + Sync, G: Gate>(
+    rt: &R,
+    alloc: Global,
+    words: &[String],
+    shelf: &mut MemoryShelf,
+    out: &mut MemorySink,
+    err: &mut MemorySink,
+    gate: &G,
+) -> Result<Status, AllocError> {
+    let mut table: Vec<Box<dyn Defender>> = Vec::new(alloc);
+    table.push(Box::new(alloc, LowCard::new())?)?;
+    table.push(Box::new(alloc, LowCard::new())?)?;
+    table.push(Box::new(alloc, HighCard::new())?)?;
+    Ok(run(rt, alloc, words, shelf, out, err, gate, &mut table))
 }

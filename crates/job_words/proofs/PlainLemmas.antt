@@ -16,9 +16,9 @@ use Rattle.job_words.specs.Command.{option_command}
 use Rattle.job_words.specs.Options.{OptionValues, options_at, options_read}
 use Rattle.job_words.specs.Values.{file_named, is_value, job_named, number_in, number_read, number_or}
 use Rattle.job_words.specs.Table.{keeps_to}
-use Rattle.job_words.specs.Asks.{Card, Check, Fusion, ListOf, Made, OnLayouts, Solve}
-use Rattle.job_words.specs.Plain.{card_words, check_words, fusion_words, list_words, made_words, plain_search, solve_words}
-use Rattle.job_words.specs.Words.{ask_in, card_in, check_in, job_in, list_in, made_in, moves_in, on_layouts, search_in, solve_in, table_in, words_read}
+use Rattle.job_words.specs.Asks.{Card, Check, Fusion, ListOf, Made, Match, OnLayouts, Solve}
+use Rattle.job_words.specs.Plain.{card_words, check_words, fusion_words, list_words, made_words, match_words, plain_search, solve_words}
+use Rattle.job_words.specs.Words.{ask_in, card_in, check_in, job_in, list_in, made_in, match_in, moves_in, on_layouts, search_in, solve_in, switch_in, table_in, words_read}
 
 unfoldable pub shape : Shape
 unfolding option_command
@@ -104,6 +104,10 @@ module _ (word : Text) (plain : IsPlainWord word) (rows : List Row) where
   unfolding shape option_command clap_on_literals
   number_value rest to = steps (waits rows (codes "number")) (has rows (codes "number") word) to word rest (rw (plain.dashes, plain.long, plain.short) refl) (rw (plain.dashes, plain.long, plain.short) refl)
 
+  layout_value : (rest : List Text) (to : Walk) → Leads (has rows (codes "layout") word) rest to → Leads (waits rows (codes "layout")) (word ∷ rest) to
+  unfolding shape option_command clap_on_literals
+  layout_value rest to = steps (waits rows (codes "layout")) (has rows (codes "layout") word) to word rest (rw (plain.dashes, plain.long, plain.short) refl) (rw (plain.dashes, plain.long, plain.short) refl)
+
 -- the options, each after what stands before it
 module _ (job deal layouts : Text) where
   abbrev one_row : List Row
@@ -145,6 +149,12 @@ module _ (job deal layouts : Text) where
   unfolding shape option_command clap_on_literals
   report_option rest to = steps (has two_rows (codes "layouts") layouts) (waits three_rows (codes "report")) to (codes "--report") rest refl refl
 
+  layout_option : (moves : Text) (rest : List Text) (to : Walk)
+      → Leads (waits (row (codes "job") job ∷ row (codes "deal") deal ∷ row (codes "layouts") layouts ∷ row (codes "moves") moves ∷ []) (codes "layout")) rest to
+      → Leads (has three_rows (codes "moves") moves) (codes "--layout" ∷ rest) to
+  unfolding shape option_command clap_on_literals
+  layout_option moves rest to = steps (has three_rows (codes "moves") moves) (waits (row (codes "job") job ∷ row (codes "deal") deal ∷ row (codes "layouts") layouts ∷ row (codes "moves") moves ∷ []) (codes "layout")) to (codes "--layout") rest refl refl
+
 -- the words of a walk from its start that ends with all words read
 abbrev reads : List Text → Walk → Type 0
 reads all to = Leads (at [] None idle) all to
@@ -159,6 +169,8 @@ module _ (job deal : Text) where
     report = None;
     moves = None;
     number = None;
+    layout = None;
+    switch = None;
     nodes = None;
     workers = None;
     shards = None;
@@ -197,6 +209,8 @@ module _ (job deal layouts : Text) where
     report = None;
     moves = None;
     number = None;
+    layout = None;
+    switch = None;
     nodes = None;
     workers = None;
     shards = None;
@@ -235,6 +249,8 @@ module _ (job deal layouts moves : Text) where
     report = None;
     moves = Some moves;
     number = None;
+    layout = None;
+    switch = None;
     nodes = None;
     workers = None;
     shards = None;
@@ -264,6 +280,46 @@ module _ (job deal layouts moves : Text) where
       rw (searched_no_fault _ leads, searched_found _ leads) refl
 
 -- the words with these values
+module _ (job deal layouts moves layout : Text) where
+  abbrev match_options : OptionValues
+  match_options = record {
+    job = Some job;
+    deal = Some deal;
+    layouts = Some layouts;
+    report = None;
+    moves = Some moves;
+    number = None;
+    layout = Some layout;
+    switch = None;
+    nodes = None;
+    workers = None;
+    shards = None;
+    room = None;
+    no_table = false;
+    no_cuts = false;
+  }
+
+  abbrev match_walk : Walk
+  match_walk = has (row (codes "job") job ∷ row (codes "deal") deal ∷ row (codes "layouts") layouts ∷ row (codes "moves") moves ∷ []) (codes "layout") layout
+
+  match_no_fault : (all : List Text) → reads all match_walk → fault_of option_command all ≡ []
+  unfolding shape option_command clap_on_literals
+  match_no_fault all leads = rw (leads.fault, leads.walk) refl
+
+  match_found : (all : List Text) → reads all match_walk → options_at (matches_of option_command all) ≡ match_options
+  unfolding shape option_command clap_on_literals
+  match_found all leads = rw leads.walk refl
+
+  match_leads : is_value job ≡ true → is_value deal ≡ true → is_value layouts ≡ true → is_value moves ≡ true → is_value layout ≡ true → reads (codes "--job" ∷ job ∷ codes "--deal" ∷ deal ∷ codes "--layouts" ∷ layouts ∷ codes "--moves" ∷ moves ∷ codes "--layout" ∷ layout ∷ []) match_walk
+  match_leads job_is deal_is layouts_is moves_is layout_is = job_option job deal layouts _ _ (job_value job (plain_word job job_is) _ _ _ (deal_option job deal layouts _ _ (deal_value deal (plain_word deal deal_is) _ _ _ (layouts_option job deal layouts _ _ (layouts_value layouts (plain_word layouts layouts_is) _ _ _ (moves_option job deal layouts _ _ (moves_value moves (plain_word moves moves_is) _ _ _ (layout_option job deal layouts moves _ _ (layout_value layout (plain_word layout layout_is) _ _ _ (ends _))))))))))
+
+  match_read : is_value job ≡ true → is_value deal ≡ true → is_value layouts ≡ true → is_value moves ≡ true → is_value layout ≡ true → options_read (codes "--job" ∷ job ∷ codes "--deal" ∷ deal ∷ codes "--layouts" ∷ layouts ∷ codes "--moves" ∷ moves ∷ codes "--layout" ∷ layout ∷ []) ≡ Some match_options
+  unfolding options_read
+  match_read job_is deal_is layouts_is moves_is layout_is =
+      let leads = match_leads job_is deal_is layouts_is moves_is layout_is in
+      rw (match_no_fault _ leads, match_found _ leads) refl
+
+-- the words with these values
 module _ (job deal layouts report : Text) where
   abbrev check_options : OptionValues
   check_options = record {
@@ -273,6 +329,8 @@ module _ (job deal layouts report : Text) where
     report = Some report;
     moves = None;
     number = None;
+    layout = None;
+    switch = None;
     nodes = None;
     workers = None;
     shards = None;
@@ -311,6 +369,8 @@ module _ (job number : Text) where
     report = None;
     moves = None;
     number = Some number;
+    layout = None;
+    switch = None;
     nodes = None;
     workers = None;
     shards = None;
@@ -380,6 +440,24 @@ card_asks deal layouts moves number deal_is layouts_is number_is =
       (plain_word moves moves_is).dashes,
       searched_read (codes "card") deal layouts moves refl deal_is layouts_is moves_is,
       number_is,
+      deal_is,
+      layouts_is,
+    ) refl
+
+pub match_asks : (deal layouts moves layout : List ℕ) (number kept : ℕ) → is_value deal ≡ true → is_value layouts ≡ true → number_in 1 most_moves moves ≡ Some number → number_in 1 256 layout ≡ Some kept
+    → words_read (match_words deal layouts moves layout) ≡ Some (OnLayouts deal layouts (Match number plain_search kept None))
+unfolding words_read ask_in job_in on_layouts match_in switch_in moves_in search_in table_in job_named keeps_to file_named number_or
+match_asks deal layouts moves layout number kept deal_is layouts_is number_is kept_is =
+    let moves_is = is_value-number_in 1 most_moves moves number number_is in
+    let layout_is = is_value-number_in 1 256 layout kept kept_is in
+    rw (
+      (plain_word deal deal_is).dashes,
+      (plain_word layouts layouts_is).dashes,
+      (plain_word moves moves_is).dashes,
+      (plain_word layout layout_is).dashes,
+      match_read (codes "match") deal layouts moves layout refl deal_is layouts_is moves_is layout_is,
+      number_is,
+      kept_is,
       deal_is,
       layouts_is,
     ) refl

@@ -1,5 +1,5 @@
 -- The words and what they ask for, without where they lie in memory.
-use Rattle.std.specs.Prelude.{◌≡◌, ◌≤◌, ◌<◌, ◌*◌, ◌^◌, ℕ, ⊤, List, true, map, String, string_bytes}
+use Rattle.std.specs.Prelude.{◌≡◌, ◌≤◌, ◌<◌, ◌*◌, ◌^◌, ℕ, ⊤, List, Option, IfSome, true, map, String, string_bytes}
 use Rattle.std.specs.declared.alloc.Global.{Global}
 use Rattle.trick_rules.specs.Nodes.{most_moves}
 use Rattle.job_words.specs.declared.asks.Ask as asks
@@ -8,10 +8,12 @@ use Rattle.job_words.specs.declared.asks.Search.{Search}
 use Rattle.job_words.specs.Values.{is_value}
 
 -- a job on a deal and its layouts: with how many cards of declarer's side the search goes through and how to search,
--- or with the name of the file of a report
+-- for a match also with the number of a layout and of the card before which another defender comes in; or with the
+-- name of the file of a report
 pub data LayoutsJobValue : Type 0 where
   Solve : ℕ → Search → LayoutsJobValue
   Card : ℕ → Search → LayoutsJobValue
+  Match : ℕ → Search → ℕ → Option ℕ → LayoutsJobValue
   Fusion : LayoutsJobValue
   Check : List ℕ → LayoutsJobValue
 
@@ -29,6 +31,7 @@ texts_of words = map (λ word. string_bytes word) words
 abbrev pub job_of : jobs.LayoutsJob → LayoutsJobValue
 job_of (jobs.TheVariants.Solve moves search) = Solve moves search
 job_of (jobs.TheVariants.Card moves search) = Card moves search
+job_of (jobs.TheVariants.Match moves search layout switch) = Match moves search layout switch
 job_of jobs.TheVariants.Fusion = Fusion
 job_of (jobs.TheVariants.Check report) = Check report.now
 
@@ -50,10 +53,16 @@ pub record IsSearchWithinLimits (search : Search) : Type 0 where
   pub room : (1 ≤ search.room) × (search.room ≤ 65536)
   pub entries : search.shards * search.room ≤ 1048576
 
+-- the number of a card that may be played
+abbrev pub IsSwitch : ℕ → Type 0
+IsSwitch at = (1 ≤ at) × (at ≤ 52)
+
 -- the limits that a job keeps
 abbrev pub IsJobWithinLimits : LayoutsJobValue → Type 0
 IsJobWithinLimits (Solve moves search) = IsMoves moves × IsSearchWithinLimits search
 IsJobWithinLimits (Card moves search) = IsMoves moves × IsSearchWithinLimits search
+IsJobWithinLimits (Match moves search layout switch) =
+    IsMoves moves × IsSearchWithinLimits search × (1 ≤ layout) × (layout ≤ 256) × IfSome switch IsSwitch
 IsJobWithinLimits Fusion = ⊤
 IsJobWithinLimits (Check report) = is_value report ≡ true
 

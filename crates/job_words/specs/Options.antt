@@ -16,6 +16,8 @@ pub record OptionValues : Type 0 where
   pub report : Option Text
   pub moves : Option Text
   pub number : Option Text
+  pub layout : Option Text
+  pub switch : Option Text
   pub nodes : Option Text
   pub workers : Option Text
   pub shards : Option Text
@@ -36,6 +38,8 @@ options_at rows = record {
   report = first_of (codes "report") rows;
   moves = first_of (codes "moves") rows;
   number = first_of (codes "number") rows;
+  layout = first_of (codes "layout") rows;
+  switch = first_of (codes "switch") rows;
   nodes = first_of (codes "nodes") rows;
   workers = first_of (codes "workers") rows;
   shards = first_of (codes "shards") rows;
@@ -59,6 +63,8 @@ options_of o = record {
   report = option_map (λ s. s.now) o.report;
   moves = option_map (λ s. s.now) o.moves;
   number = option_map (λ s. s.now) o.number;
+  layout = option_map (λ s. s.now) o.layout;
+  switch = option_map (λ s. s.now) o.switch;
   nodes = option_map (λ s. s.now) o.nodes;
   workers = option_map (λ s. s.now) o.workers;
   shards = option_map (λ s. s.now) o.shards;

@@ -12,6 +12,12 @@ abbrev pub card_words : List ℕ → List ℕ → List ℕ → List (List ℕ)
 card_words deal layouts moves =
     codes "--job" ∷ codes "card" ∷ codes "--deal" ∷ deal ∷ codes "--layouts" ∷ layouts ∷ codes "--moves" ∷ moves ∷ []
 
+-- the first strategy of the front, played out in the layout of this number
+abbrev pub match_words : List ℕ → List ℕ → List ℕ → List ℕ → List (List ℕ)
+match_words deal layouts moves layout =
+    codes "--job" ∷ codes "match" ∷ codes "--deal" ∷ deal ∷ codes "--layouts" ∷ layouts ∷ codes "--moves" ∷ moves
+    ∷ codes "--layout" ∷ layout ∷ []
+
 -- what plain sampling believes of each card
 abbrev pub fusion_words : List ℕ → List ℕ → List (List ℕ)
 fusion_words deal layouts =

@@ -15,6 +15,8 @@ no_options = record {
   report = Refused;
   moves = Refused;
   number = Refused;
+  layout = Refused;
+  switch = Refused;
   search = Refused;
 }
 
@@ -22,6 +24,7 @@ no_options = record {
 abbrev pub uses_by : jobs.Job → Uses
 uses_by jobs.TheVariants.Solve = record no_options { deal = Required; layouts = Required; moves = Required; search = Allowed }
 uses_by jobs.TheVariants.Card = record no_options { deal = Required; layouts = Required; moves = Required; search = Allowed }
+uses_by jobs.TheVariants.Match = record no_options { deal = Required; layouts = Required; moves = Required; layout = Required; switch = Allowed; search = Allowed }
 uses_by jobs.TheVariants.Fusion = record no_options { deal = Required; layouts = Required }
 uses_by jobs.TheVariants.List = record no_options { deal = Required }
 uses_by jobs.TheVariants.Check = record no_options { deal = Required; layouts = Required; report = Required }
@@ -41,4 +44,5 @@ has_search o = is_some o.nodes || is_some o.workers || is_some o.shards || is_so
 unfoldable pub keeps_to : Uses → OptionValues → Bool
 keeps_to uses o = list_all (λ (option : Use × Bool). is_used_so option.0 option.1)
     ((uses.deal, is_some o.deal) ∷ (uses.layouts, is_some o.layouts) ∷ (uses.report, is_some o.report)
-    ∷ (uses.moves, is_some o.moves) ∷ (uses.number, is_some o.number) ∷ (uses.search, has_search o) ∷ [])
+    ∷ (uses.moves, is_some o.moves) ∷ (uses.number, is_some o.number) ∷ (uses.layout, is_some o.layout)
+    ∷ (uses.switch, is_some o.switch) ∷ (uses.search, has_search o) ∷ [])

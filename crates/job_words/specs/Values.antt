@@ -39,6 +39,7 @@ unfoldable pub job_named : List ℕ → Option Job
 job_named name =
     if bytes_eq name (codes "solve") then Some jobs.Solve
     else if bytes_eq name (codes "card") then Some jobs.Card
+    else if bytes_eq name (codes "match") then Some jobs.Match
     else if bytes_eq name (codes "fusion") then Some jobs.Fusion
     else if bytes_eq name (codes "list") then Some jobs.List
     else if bytes_eq name (codes "check") then Some jobs.Check

@@ -1,11 +1,11 @@
 -- What the words of the command line ask for.
-use Rattle.std.specs.Prelude.{◌*◌, ◌-◌, ◌^◌, ℕ, Bool, not, List, Option, Some, None, codes, nat_le, option_and_then, if◌then◌else◌}
+use Rattle.std.specs.Prelude.{◌*◌, ◌-◌, ◌^◌, ℕ, Bool, not, List, Option, Some, None, codes, nat_le, option_and_then, option_map, if◌then◌else◌}
 use Rattle.std.specs.List.{list_any}
 use Rattle.std.specs.Str.{bytes_eq}
 use Rattle.trick_rules.specs.Nodes.{most_moves}
 use Rattle.job_words.specs.declared.asks.Search.{Search}
 use Rattle.job_words.specs.declared.table.Job as jobs
-use Rattle.job_words.specs.Asks.{AskValue, Card, Check, Fusion, LayoutsJobValue, ListOf, Made, OnLayouts, Solve}
+use Rattle.job_words.specs.Asks.{AskValue, Card, Check, Fusion, LayoutsJobValue, ListOf, Made, Match, OnLayouts, Solve}
 use Rattle.job_words.specs.Options.{OptionValues, options_read}
 use Rattle.job_words.specs.Values.{file_named, job_named, number_in, number_or}
 use Rattle.job_words.specs.Table.{keeps_to, uses_by}
@@ -62,6 +62,23 @@ card_in o = do
   search ← search_in o
   Some (Card moves search)
 
+-- the number of the card before which another defender comes in, where one is to come
+abbrev pub switch_or_none : Option (List ℕ) → Option (Option ℕ)
+switch_or_none None = Some None
+switch_or_none (Some text) = option_map Some (number_in 1 52 text)
+
+unfoldable pub switch_in : OptionValues → Option (Option ℕ)
+switch_in o = switch_or_none o.switch
+
+-- the first strategy of the front by the same search, played out in one layout
+unfoldable pub match_in : OptionValues → Option LayoutsJobValue
+match_in o = do
+  moves ← moves_in o
+  search ← search_in o
+  layout ← o.layout >>= number_in 1 256
+  switch ← switch_in o
+  Some (Match moves search layout switch)
+
 -- the check of a report
 unfoldable pub check_in : OptionValues → Option LayoutsJobValue
 check_in o = do
@@ -92,6 +109,7 @@ made_in o = do
 abbrev pub ask_by : jobs.Job → OptionValues → Option AskValue
 ask_by jobs.TheVariants.Solve o = solve_in o >>= on_layouts o
 ask_by jobs.TheVariants.Card o = card_in o >>= on_layouts o
+ask_by jobs.TheVariants.Match o = match_in o >>= on_layouts o
 ask_by jobs.TheVariants.Fusion o = on_layouts o Fusion
 ask_by jobs.TheVariants.List o = list_in o
 ask_by jobs.TheVariants.Check o = check_in o >>= on_layouts o

@@ -34,6 +34,17 @@ pub enum LayoutsJob<'a> {
         /// How to search.
         search: Search,
     },
+    /// The first strategy of the front, played out in one layout.
+    Match {
+        /// How many cards of declarer's side the search goes through: 1 to 26.
+        moves: u8,
+        /// How to search.
+        search: Search,
+        /// The number of the layout: 1 to 256.
+        layout: u16,
+        /// The number of the card before which another defender comes to Left's seat: 1 to 52.
+        switch: Option<u16>,
+    },
     /// What plain sampling believes of each card.
     Fusion,
     /// Whether each strategy of a report wins exactly its vector.

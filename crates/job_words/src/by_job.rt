@@ -1,8 +1,8 @@
 //! What the options ask for, by the job that they name.
 ghost use Rattle.std.specs.Prelude.{◌≡◌, ◌≤◌, ◌*◌, IfSome, option_map};
-ghost use Rattle.job_words.specs.Asks.{IsJobWithinLimits, IsMoves, IsSearchWithinLimits, IsWithinLimits, ask_of, job_of};
+ghost use Rattle.job_words.specs.Asks.{IsJobWithinLimits, IsMoves, IsSearchWithinLimits, IsSwitch, IsWithinLimits, ask_of, job_of};
 ghost use Rattle.job_words.specs.Options.{options_of};
-ghost use Rattle.job_words.specs.Words.{ask_in, card_in, check_in, job_in, list_in, made_in, moves_in, on_layouts, search_in, solve_in, table_in};
+ghost use Rattle.job_words.specs.Words.{ask_in, card_in, check_in, job_in, list_in, made_in, match_in, moves_in, on_layouts, search_in, solve_in, switch_in, table_in};
 
 use crate::asks::{Ask, LayoutsJob, Search};
 use crate::options::Options;
@@ -20,6 +20,7 @@ pub(crate) fn ask_in<'a>(options: &Options<'a>) -> Option<Ask<'a>>
     match job_in(options)? {
         Job::Solve => on_layouts(options, solve_in(options)?),
         Job::Card => on_layouts(options, card_in(options)?),
+        Job::Match => on_layouts(options, match_in(options)?),
         Job::Fusion => on_layouts(options, LayoutsJob::Fusion),
         Job::List => list_in(options),
         Job::Check => on_layouts(options, check_in(options)?),
@@ -99,6 +100,37 @@ fn card_in<'a>(options: &Options<'a>) -> Option<LayoutsJob<'a>>
     let moves = moves_in(options)?;
     let search = search_in(options)?;
     Some(LayoutsJob::Card { moves, search })
+}
+
+#[tactic(auto, unfolding(crate::specs::Words::switch_in))]
+fn switch_in(options: &Options<'_>) -> Option<Option<u16>>
+    ensures switch { result ≡ switch_in (options_of options.now) }
+    ensures limits { IfSome result (λ switch. IfSome switch IsSwitch) }
+{
+    match options.switch {
+        Some(text) => {
+            let at = number_in(1, 52, text)?;
+            Some(Some(at as u16))
+        }
+        None => Some(None),
+    }
+}
+
+#[tactic(auto, unfolding(crate::specs::Words::match_in))]
+fn match_in<'a>(options: &Options<'a>) -> Option<LayoutsJob<'a>>
+    ensures job { option_map job_of result ≡ match_in (options_of options.now) }
+    ensures limits { IfSome result (λ job. IsJobWithinLimits (job_of job)) }
+{
+    let moves = moves_in(options)?;
+    let search = search_in(options)?;
+    let layout = number_in(1, 256, options.layout?)?;
+    let switch = switch_in(options)?;
+    Some(LayoutsJob::Match {
+        moves,
+        search,
+        layout: layout as u16,
+        switch,
+    })
 }
 
 #[tactic(auto, unfolding(crate::specs::Words::check_in))]

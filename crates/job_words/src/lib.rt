@@ -1,13 +1,13 @@
-//! What the words of the command line ask for: one of six jobs, with just what that job needs.
+//! What the words of the command line ask for: one of seven jobs, with just what that job needs.
 //! It stands on clap, which reads the options as one simple command.
 //! Its contract promises the one ask that the grammar of the words gives, or the refusal of all
 //! other words.
 #![tactic(auto)]
 
-ghost use Rattle.std.specs.Prelude.{◌≡◌, ◌-◌, ◌^◌, ℕ, List, Some, IfOk, IfSome, option_map, true};
+ghost use Rattle.std.specs.Prelude.{◌≡◌, ◌-◌, ◌^◌, ℕ, List, None, Some, IfOk, IfSome, option_map, true};
 ghost use Rattle.trick_rules.specs.Nodes.{most_moves};
-ghost use Rattle.job_words.specs.Asks.{Card, Check, Fusion, IsWithinLimits, ListOf, Made, OnLayouts, Solve, ask_of, texts_of};
-ghost use Rattle.job_words.specs.Plain.{card_words, check_words, fusion_words, list_words, made_words, plain_search, solve_words};
+ghost use Rattle.job_words.specs.Asks.{Card, Check, Fusion, IsWithinLimits, ListOf, Made, Match, OnLayouts, Solve, ask_of, texts_of};
+ghost use Rattle.job_words.specs.Plain.{card_words, check_words, fusion_words, list_words, made_words, match_words, plain_search, solve_words};
 ghost use Rattle.job_words.specs.Values.{is_value, number_in};
 ghost use Rattle.job_words.specs.Words.{has_two_dashes, words_read};
 
@@ -51,6 +51,11 @@ pub fn plain_words_are_read()
         → number_in 1 most_moves moves ≡ Some number
         → words_read (card_words deal layouts moves)
         ≡ Some (OnLayouts deal layouts (Card number plain_search)) }
+    ensures played { (deal layouts moves layout : List ℕ) (number kept : ℕ) → is_value deal ≡ true
+        → is_value layouts ≡ true
+        → number_in 1 most_moves moves ≡ Some number → number_in 1 256 layout ≡ Some kept
+        → words_read (match_words deal layouts moves layout)
+        ≡ Some (OnLayouts deal layouts (Match number plain_search kept None)) }
     ensures fusion { (deal layouts : List ℕ) → is_value deal ≡ true → is_value layouts ≡ true
         → words_read (fusion_words deal layouts) ≡ Some (OnLayouts deal layouts Fusion) }
     ensures list { (deal : List ℕ) → is_value deal ≡ true

@@ -18,6 +18,8 @@ pub(crate) struct Options<'a> {
     pub(crate) report: Option<&'a str>,
     pub(crate) moves: Option<&'a str>,
     pub(crate) number: Option<&'a str>,
+    pub(crate) layout: Option<&'a str>,
+    pub(crate) switch: Option<&'a str>,
     pub(crate) nodes: Option<&'a str>,
     pub(crate) workers: Option<&'a str>,
     pub(crate) shards: Option<&'a str>,
@@ -43,8 +45,9 @@ pub(crate) fn read_options<'a>(
     }
 }
 
-const VALUE_NAMES: [&str; 10] = [
-    "job", "deal", "layouts", "report", "moves", "number", "nodes", "workers", "shards", "room",
+const VALUE_NAMES: [&str; 12] = [
+    "job", "deal", "layouts", "report", "moves", "number", "layout", "switch", "nodes", "workers",
+    "shards", "room",
 ];
 
 fn option_command<'a>(alloc: Global) -> Result<Command<'a>, AllocError>
@@ -93,6 +96,8 @@ fn options_in<'a>(matches: &ArgMatches<'a>) -> Options<'a>
         report: value_of(matches, "report"),
         moves: value_of(matches, "moves"),
         number: value_of(matches, "number"),
+        layout: value_of(matches, "layout"),
+        switch: value_of(matches, "switch"),
         nodes: value_of(matches, "nodes"),
         workers: value_of(matches, "workers"),
         shards: value_of(matches, "shards"),

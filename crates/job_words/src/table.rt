@@ -10,6 +10,7 @@ use crate::options::Options;
 pub(crate) enum Job {
     Solve,
     Card,
+    Match,
     Fusion,
     List,
     Check,
@@ -44,6 +45,8 @@ pub(crate) struct Uses {
     pub(crate) report: Use,
     pub(crate) moves: Use,
     pub(crate) number: Use,
+    pub(crate) layout: Use,
+    pub(crate) switch: Use,
     pub(crate) search: Use,
 }
 
@@ -53,6 +56,8 @@ const NO_OPTIONS: Uses = Uses {
     report: Use::Refused,
     moves: Use::Refused,
     number: Use::Refused,
+    layout: Use::Refused,
+    switch: Use::Refused,
     search: Use::Refused,
 };
 
@@ -65,6 +70,15 @@ pub(crate) fn uses_by(job: Job) -> Uses
             deal: Use::Required,
             layouts: Use::Required,
             moves: Use::Required,
+            search: Use::Allowed,
+            ..NO_OPTIONS
+        },
+        Job::Match => Uses {
+            deal: Use::Required,
+            layouts: Use::Required,
+            moves: Use::Required,
+            layout: Use::Required,
+            switch: Use::Allowed,
             search: Use::Allowed,
             ..NO_OPTIONS
         },
@@ -103,6 +117,8 @@ impl Uses {
             (self.report, options.report.is_some()),
             (self.moves, options.moves.is_some()),
             (self.number, options.number.is_some()),
+            (self.layout, options.layout.is_some()),
+            (self.switch, options.switch.is_some()),
             (self.search, has_search(options)),
         ];
         uses.iter().all(|(wanted, given)| wanted.is_used_so(*given))

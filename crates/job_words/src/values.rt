@@ -60,6 +60,7 @@ pub(crate) fn job_named(name: &str) -> Option<Job>
     match name {
         "solve" => Some(Job::Solve),
         "card" => Some(Job::Card),
+        "match" => Some(Job::Match),
         "fusion" => Some(Job::Fusion),
         "list" => Some(Job::List),
         "check" => Some(Job::Check),

@@ -1,7 +1,7 @@
 //! What a refused run ends with and says: the words, each kind of damage to a file, and failing
 //! reads and writes.
-use super::{QUEEN, QUEEN_LAYOUTS, QUEEN_REPORT, ran, shelf_of, words_of};
-use crate::{FileWord, PbnKind, Status, run};
+use super::{QUEEN, QUEEN_LAYOUTS, QUEEN_REPORT, ran, shelf_of, status_of, words_of};
+use crate::{FileWord, PbnKind, Status};
 use am_outside::{MemorySink, OpenGate};
 use byte_text::Text;
 use card_sets::{Card, Rank, Suit};
@@ -326,9 +326,9 @@ fn failing_reads_end_a_run(rt: HostRuntime) -> Result<(), Fail> {
         shelf.fail_at(call)?;
         let mut out = MemorySink::new(alloc, 1000, 0)?;
         let mut err = MemorySink::new(alloc, 100, 0)?;
-        let status = run(
+        let status = status_of(
             &rt, alloc, &words, &mut shelf, &mut out, &mut err, &OpenGate,
-        );
+        )?;
         assert!(rt; status == Status::Unread(file) && out.bytes().is_empty());
     }
     Ok(())
@@ -345,7 +345,7 @@ fn leaves<R: Threads + Sync>(
     let words = words_of(alloc, SOLVE)?;
     let mut shelf = shelf_of(alloc, QUEEN, QUEEN_LAYOUTS)?;
     let mut err = MemorySink::new(alloc, 100, 0)?;
-    let ended = run(rt, alloc, &words, &mut shelf, &mut out, &mut err, &OpenGate);
+    let ended = status_of(rt, alloc, &words, &mut shelf, &mut out, &mut err, &OpenGate)?;
     let line = if status == Status::Done {
         ""
     } else {
@@ -377,9 +377,9 @@ fn a_failing_line_changes_no_status(rt: HostRuntime) -> Result<(), Fail> {
     let mut shelf = shelf_of(alloc, "", QUEEN_LAYOUTS)?;
     let mut out = MemorySink::new(alloc, 1000, 0)?;
     let mut err = MemorySink::new(alloc, 100, 1)?;
-    let status = run(
+    let status = status_of(
         &rt, alloc, &words, &mut shelf, &mut out, &mut err, &OpenGate,
-    );
+    )?;
     assert!(rt; status == Status::BadPbn(1, PbnKind::NoGame) && out.bytes().is_empty());
     assert!(rt; err.bytes().is_empty());
     Ok(())

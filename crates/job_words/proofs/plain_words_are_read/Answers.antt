@@ -1,4 +1,4 @@
-use Rattle.job_words.proofs.PlainLemmas.{card_asks, check_asks, fusion_asks, list_asks, made_asks, solve_asks}
+use Rattle.job_words.proofs.PlainLemmas.{card_asks, check_asks, fusion_asks, list_asks, made_asks, match_asks, solve_asks}
 use Rattle.job_words.proofs.plain_words_are_read.Goals as goal
 
 pub returns-clause-solve : goal.returns-clause-solve
@@ -6,6 +6,9 @@ returns-clause-solve c = solve_asks
 
 pub returns-clause-card : goal.returns-clause-card
 returns-clause-card c = card_asks
+
+pub returns-clause-played : goal.returns-clause-played
+returns-clause-played c = match_asks
 
 pub returns-clause-fusion : goal.returns-clause-fusion
 returns-clause-fusion c = fusion_asks

@@ -36,3 +36,8 @@ pub returns-in-BadReport-clause-written : goal.returns-in-BadReport-clause-writt
 unfolding status_line
 returns-in-BadReport-clause-written g c =
     rw (c.in-BadReport.is, ← c.format-in-BadReport.ensures.text, ← c.as_bytes-in-BadReport.ensures.value, ← c.report_name.ensures) c.write_pieces-in-BadReport.ensures.written
+
+pub returns-in-NoLayout-clause-written : goal.returns-in-NoLayout-clause-written
+unfolding status_line
+returns-in-NoLayout-clause-written g c =
+    rw (c.in-NoLayout.is, ← c.format-in-NoLayout.ensures.text, ← c.as_bytes-in-NoLayout.ensures.value) c.write_pieces-in-NoLayout.ensures.written

@@ -24,7 +24,7 @@ returns-in-Err-clause-in_front g c = in_front-same (g.O.Sink.told c.args.out.now
 
 pub returns-in-Ok-clause-made_status : goal.returns-in-Ok-clause-made_status
 returns-in-Ok-clause-made_status g c = λ number search' asked.
-    made_run_written number search' c.in-Ok.text c.deliver.result (c.in-Ok.ensures.made_text number search' asked) c.deliver.ensures.ends
+    made_run_written number search' c.in-Ok.text c.deliver.result _ _ (c.in-Ok.ensures.made_text number search' asked) c.deliver.ensures.ends
 
 pub returns-in-Ok-clause-in_front : goal.returns-in-Ok-clause-in_front
 returns-in-Ok-clause-in_front g c =

@@ -4,7 +4,7 @@ use Rattle.am_top.proofs.program.text_for.Goals as goal
 
 pub returns-in-Ok-clause-text : goal.returns-in-Ok-clause-text
 returns-in-Ok-clause-text g c =
-    told_text (g.S.Shelf.told c.args.shelf.now) (texts_of c.args.words.now) c.in-Ok.inputs c.text_in.result c.in-Ok.ensures.read c.text_in.ensures.text
+    told_text (g.S.Shelf.told c.args.shelf.now) (texts_of c.args.words.now) c.in-Ok.inputs c.text_in.result _ _ c.in-Ok.ensures.read c.text_in.ensures.text
 
 pub returns-in-Ok-clause-refused : goal.returns-in-Ok-clause-refused
 returns-in-Ok-clause-refused g c =
@@ -19,7 +19,7 @@ returns-in-Err-clause-nothing_written g c = reading-not_done c.in-Err.status c.i
 
 pub returns-in-Ok-clause-made_text : goal.returns-in-Ok-clause-made_text
 returns-in-Ok-clause-made_text g c = λ number search' asked.
-    made_text c.read_inputs.result number search' (c.read_inputs.ensures.made number search' asked) c.in-Ok.inputs c.text_in.result c.in-Ok.is c.text_in.ensures.text
+    made_text c.read_inputs.result number search' (c.read_inputs.ensures.made number search' asked) c.in-Ok.inputs c.text_in.result _ _ c.in-Ok.is c.text_in.ensures.text
 
 pub returns-in-Ok-clause-made_refused : goal.returns-in-Ok-clause-made_refused
 returns-in-Ok-clause-made_refused g c = λ number search' asked.

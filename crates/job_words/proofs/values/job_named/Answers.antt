@@ -11,6 +11,10 @@ pub returns-in-card : goal.returns-in-card
 unfolding job_named
 returns-in-card c = sym (ap job_named c.in-card.is)
 
+pub returns-in-match : goal.returns-in-match
+unfolding job_named
+returns-in-match c = sym (ap job_named c.in-match.is)
+
 pub returns-in-fusion : goal.returns-in-fusion
 unfolding job_named
 returns-in-fusion c = sym (ap job_named c.in-fusion.is)
@@ -32,8 +36,9 @@ unfolding job_named
 returns-in_default c =
     let solve = bytes_ne c.args.name.now (codes "solve") c.in_default.not-solve in
     let card = bytes_ne c.args.name.now (codes "card") c.in_default.not-card in
+    let played = bytes_ne c.args.name.now (codes "match") c.in_default.not-match in
     let fusion = bytes_ne c.args.name.now (codes "fusion") c.in_default.not-fusion in
     let list = bytes_ne c.args.name.now (codes "list") c.in_default.not-list in
     let check = bytes_ne c.args.name.now (codes "check") c.in_default.not-check in
     let made = bytes_ne c.args.name.now (codes "made") c.in_default.not-made in
-    rw (solve, card, fusion, list, check, made) refl
+    rw (solve, card, played, fusion, list, check, made) refl

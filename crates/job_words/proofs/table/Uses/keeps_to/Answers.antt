@@ -16,4 +16,6 @@ returns c =
     let report = is_some-text options.report ∙ sym c.is_some-3.ensures in
     let moves = is_some-text options.moves ∙ sym c.is_some-4.ensures in
     let number = is_some-text options.number ∙ sym c.is_some-5.ensures in
-    rw (deal, layouts, report, moves, number, sym c.has_search.ensures) all
+    let layout = is_some-text options.layout ∙ sym c.is_some-6.ensures in
+    let switch = is_some-text options.switch ∙ sym c.is_some-7.ensures in
+    rw (deal, layouts, report, moves, number, layout, switch, sym c.has_search.ensures) all

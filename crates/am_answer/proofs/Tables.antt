@@ -1,0 +1,29 @@
+-- The text of a job that asks no defender is its text at every table.
+use Rattle.std.proofs.Common.{◌≡◌, ℕ, List, Result, Ok, Err}
+use Rattle.std.specs.Prelude.{IfOk}
+use Rattle.am_match.specs.Defences.{Sitter}
+use Rattle.am_answer.specs.declared.status.Status.{Status}
+use Rattle.am_answer.specs.Answers.{TaskValue, Report, NamedCard, PlayedOut, Sample, Good, AllLayouts, Problem}
+use Rattle.am_answer.specs.Reports.{IsText, IsTextAt}
+use Rattle.am_answer.specs.Stages.{IsTextFor, IsTextForAt}
+
+text-at : (task : TaskValue) (table later : List Sitter) (text : List ℕ) → IsText task text → IsTextAt task table later text
+text-at (Report root moves search) table later text is = is
+text-at (NamedCard root moves search) table later text is = is
+text-at (PlayedOut root moves search playing) table later text is = absurd is
+text-at (Sample root) table later text is = is
+text-at (Good plans) table later text is = is
+text-at (AllLayouts board layouts) table later text is = is
+text-at (Problem number root search) table later text is = is
+
+pub text_for_at : (answer : Result TaskValue Status) (table later : List Sitter) (text : List ℕ) → IsTextFor answer text → IsTextForAt answer table later text
+text_for_at answer table later text is = record {
+  task = is.task;
+  accepted = is.accepted;
+  is_text = text-at is.task table later text is.is_text;
+  fits = is.fits;
+}
+
+pub texts_for_at : {E : Type 0} (result : Result (List ℕ) E) (answer : Result TaskValue Status) (table later : List Sitter) → IfOk result (IsTextFor answer) → IfOk result (IsTextForAt answer table later)
+texts_for_at (Ok text) answer table later is = text_for_at answer table later text is
+texts_for_at (Err e) answer table later is = tt

@@ -1,0 +1,140 @@
+//! A layout played out at a table of defenders.
+ghost use Rattle.std.specs.Prelude.{◌≡◌, ◌≢◌, ◌≤◌, ◌<◌, true, Option, IfOk, IfErr, IfSome, length, map, option_map};
+ghost use Rattle.job_words.specs.Asks.{IsMoves, IsSearchWithinLimits, IsSwitch};
+ghost use Rattle.am_match.specs.Defences.{IsChange, sitter, change_at};
+ghost use Rattle.am_answer.specs.Answers.{has_choice, match_at, place_of};
+ghost use Rattle.am_answer.specs.Matches.{IsFirstStrategy, IsMatchText, seated, third_at};
+ghost use Rattle.am_answer.specs.Stages.{IsTaskRefusal, IsTextForAt};
+
+use am_answer::{Root, Status};
+use am_match::{Defender, Swap, play_out};
+use am_outside::Gate;
+use am_report::{Entry, match_text};
+use byte_text::Text;
+use card_sets::Seat;
+use dd_solver::Solver;
+use job_search::first_strategy;
+use job_words::Search;
+use std::alloc::{AllocError, Global};
+use std::thread::Threads;
+
+// The place of a layout among the kept ones, counted from 0.
+fn place_of(layout: u16, root: &Root) -> Option<usize>
+    ensures { result ≡ place_of layout root.now }
+{
+    root.kept
+        .numbers
+        .iter()
+        .position(|number| *number == layout)
+}
+
+// Takes the third defender from the table, for Left's seat before the card of the switch's number.
+fn third_at(switch: Option<u16>, table: &mut Vec<Box<dyn Defender>>) -> Option<Swap>
+    requires switch { IfSome switch IsSwitch }
+    requires seats { length table.old.items ≡ 3 }
+    ensures seated { map (λ d. sitter (style d) (heard d)) table.new.items
+        ≡ seated switch (map (λ d. sitter (style d) (heard d)) table.old.items) }
+    ensures third { option_map (λ swap. change_at swap.at swap.seat
+        (sitter (style swap.defender) (heard swap.defender))) result
+        ≡ third_at switch (map (λ d. sitter (style d) (heard d)) table.old.items) }
+    ensures change { IfSome (option_map (λ swap. change_at swap.at swap.seat
+        (sitter (style swap.defender) (heard swap.defender))) result) IsChange }
+    ensures seats { 2 ≤ length table.new.items }
+{
+    let at = switch?;
+    let defender = table.pop()?;
+    Some(Swap {
+        at,
+        seat: Seat::Left,
+        defender,
+    })
+}
+
+// Plays a strategy out at the layout of a place, and writes what came of it.
+fn played_text(
+    alloc: Global,
+    root: &Root,
+    moves: u8,
+    first: &Entry,
+    layout: u16,
+    place: u16,
+    switch: Option<u16>,
+    table: &mut Vec<Box<dyn Defender>>,
+) -> Result<Text, AllocError>
+    requires first { IsFirstStrategy root.now.kept.node moves first.now.vector first.now.plan }
+    requires inside { place < length root.now.kept.node.lefts }
+    requires switch { IfSome switch IsSwitch }
+    requires seats { length table.old.items ≡ 3 }
+    ensures text { IfOk result (IsMatchText root.now moves
+        (record { layout = layout; place = place; switch = switch })
+        (map (λ d. sitter (style d) (heard d)) table.old.items)
+        (map (λ d. sitter (style d) (heard d)) table.new.items)) }
+{
+    let node = &root.kept.node;
+    prove!(node.width() > 0);
+    let bit = first.vector.get(place);
+    let swap = third_at(switch, table);
+    let mut solver = Solver::new(alloc);
+    let played = play_out(
+        &mut solver,
+        &first.plan,
+        node,
+        moves,
+        place + 1,
+        table,
+        swap,
+    )?;
+    match_text(alloc, layout, bit, &played.cards, played.made)
+}
+
+/// Plays the first strategy of a root's front, by so many moves of declarer's side, in the kept
+/// layout of a number.
+///
+/// The table's first defender sits at Left and its second at Right. With a switch the third is
+/// taken from the table, and comes to Left's seat before the card of that number; the cards are
+/// numbered from 1. Each who sits is told the cards.
+///
+/// Refused with `NoLayout` where the layout of the number isn't kept, and else as `solve` is. The
+/// table is left as it was, but for want of memory.
+pub fn play_match<R: Threads + Sync, G: Gate>(
+    rt: &R,
+    alloc: Global,
+    root: &Root,
+    moves: u8,
+    search: &Search,
+    layout: u16,
+    switch: Option<u16>,
+    gate: &G,
+    table: &mut Vec<Box<dyn Defender>>,
+) -> Result<Text, Status>
+    requires turn { has_choice root.now.kept.node ≡ true }
+    requires as_many { length root.now.kept.numbers ≡ length root.now.kept.node.lefts }
+    requires moves { IsMoves moves }
+    requires limits { IsSearchWithinLimits search.now }
+    requires switch { IfSome switch IsSwitch }
+    requires seats { length table.old.items ≡ 3 }
+    ensures text { IfOk result (IsTextForAt (match_at root.now moves search.now layout switch)
+        (map (λ d. sitter (style d) (heard d)) table.old.items)
+        (map (λ d. sitter (style d) (heard d)) table.new.items)) }
+    ensures refused { IfErr result
+        (IsTaskRefusal (match_at root.now moves search.now layout switch)) }
+    ensures untouched { IfErr result (λ status.
+        status ≢ Status.Memory → table.new ≡ table.old) }
+{
+    let Some(place) = place_of(layout, root) else {
+        return Err(Status::NoLayout(layout));
+    };
+    let first = first_strategy(rt, alloc, root, moves, search, gate)?;
+    prove!(root.kept.node.width() > 0);
+    let text = played_text(
+        alloc,
+        root,
+        moves,
+        &first,
+        layout,
+        place as u16,
+        switch,
+        table,
+    )?;
+    Ok(text)
+}
