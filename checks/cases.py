@@ -25,7 +25,7 @@ OWN = ("about", "args", "fill", "stdout", "stderr", "status", "stdout_to")
 # The case that has no words, so that a lost file of words isn't taken for none.
 WITHOUT_WORDS = "no-words"
 # How many cases there are at least, so that none is lost unseen. It is raised where cases are added.
-LEAST = 173
+LEAST = 190
 
 
 def bytes_of(case, name):
@@ -72,9 +72,10 @@ def words_of(case):
     return bytes_of(case, "args").split(b"\n")[:-1]
 
 
-def run(program, case, seconds, env=None, more=()):
-    """What the program wrote to standard output and standard error, and its exit status, with more words at the end."""
-    words = words_of(case) + list(more)
+def run(program, case, seconds, env=None, more=(), words=None):
+    """What the program wrote to standard output and standard error, and its exit status, with more words at the end
+    or with other words."""
+    words = (words_of(case) if words is None else list(words)) + list(more)
     to = bytes_of(case, "stdout_to").decode().strip()
     with tempfile.TemporaryDirectory() as room:
         lay_out(case, room)

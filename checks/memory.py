@@ -31,6 +31,8 @@ RUNS = {
     "solve without cuts": ("queen-two-ways", ("--no-cuts",)),
     "solve with a table of one entry": ("queen-two-ways", ("--shards", "1", "--room", "1")),
     "card": ("card", ()),
+    "match": ("match-won", ()),
+    "match with a third defender": ("match-third-defender", ()),
     "check": ("check-a-good-report", ()),
     "list": ("list-of-an-ending", ()),
     "fusion": ("fusion", ()),

@@ -25,7 +25,7 @@ ONE_WORKER = [
 SEVERAL_WORKERS = [[b"--workers", workers] + choice for workers in (b"2", b"4", b"64")
                    for choice in [[], *ONE_WORKER, [b"--no-cuts", b"--shards", b"1", b"--room", b"1"]]]
 CHOICES = ONE_WORKER + SEVERAL_WORKERS
-SEARCHES = (b"solve", b"card", b"made")
+SEARCHES = (b"solve", b"card", b"match", b"made")
 DONE, SPENT = 0, 7
 
 
