@@ -16,6 +16,7 @@ fn spades(rt: &impl Abort, ranks: &[u8]) -> CardSet {
 
 /// Declarer holds the king and the jack, and dummy is to lead the three or the two. So many tricks
 /// are needed, at most two. Left has the queen and the five, or the ace and the five.
+/// No clause: the tests compare what comes of it with values from outside.
 pub fn ending(rt: &impl Abort, alloc: Global, need: u8) -> Result<Node, AllocError> {
     let position = Position::between_tricks(
         spades(rt, b"KJ"),

@@ -12,6 +12,7 @@ use win_vectors::WinVector;
 pub const GUESS: &'static str = "SJSK/S2S3/S5S7SQSA/2/1/N/S5SQ S5SA";
 
 /// The card of two letters, its suit's and its rank's.
+/// No clause: the tests compare it with values from outside.
 pub fn card(rt: &impl Abort, letters: &[u8]) -> Card {
     match letters {
         [suit, rank] => read_card(*suit, *rank).expect(rt, "the letters of a card"),
@@ -20,6 +21,7 @@ pub fn card(rt: &impl Abort, letters: &[u8]) -> Card {
 }
 
 /// The cards of a text, two letters each.
+/// No clause, as at `card`.
 pub fn cards(rt: &impl Abort, text: &str) -> CardSet {
     let mut set = CardSet::empty();
     for letters in text.as_bytes().chunks(2) {
@@ -29,6 +31,7 @@ pub fn cards(rt: &impl Abort, text: &str) -> CardSet {
 }
 
 /// A seat by its number, clockwise from declarer, who is 0.
+/// No clause, as at `card`.
 pub fn seat(rt: &impl Abort, text: &str) -> Seat {
     match text {
         "0" => Seat::Declarer,
@@ -40,6 +43,7 @@ pub fn seat(rt: &impl Abort, text: &str) -> Seat {
 }
 
 /// Trumps by the letter of their suit, or `N`.
+/// No clause, as at `card`.
 pub fn trump(rt: &impl Abort, text: &str) -> Trump {
     match text {
         "S" => Trump::Suit(Suit::Spades),
@@ -52,12 +56,14 @@ pub fn trump(rt: &impl Abort, text: &str) -> Trump {
 }
 
 /// A number below 256.
+/// No clause, as at `card`.
 pub fn number(rt: &impl Abort, text: &str) -> u8 {
     text.parse::<u8>().ok().expect(rt, "a number below 256")
 }
 
 /// The position of an ending: declarer's hand, dummy's, the cards of the two defenders, the seat to
 /// lead, the need and trumps.
+/// No clause, as at `card`.
 pub fn position_of(rt: &impl Abort, parts: &[&str]) -> Position {
     match parts {
         [declarer, dummy, defenders, leader, need, trumps, ..] => Position::between_tricks(
@@ -75,6 +81,7 @@ pub fn position_of(rt: &impl Abort, parts: &[&str]) -> Position {
 
 /// The node of an ending: its position's six parts, and then Left's hand in each layout, all
 /// divided by strokes.
+/// No clause, as at `card`.
 pub fn node_of(rt: &impl Abort, alloc: Global, text: &str) -> Result<Node, AllocError> {
     let parts = text.split('/').collect::<Vec<&str>>(alloc)?;
     assert!(rt; parts.len() >= 7);
@@ -91,6 +98,7 @@ pub fn node_of(rt: &impl Abort, alloc: Global, text: &str) -> Result<Node, Alloc
 }
 
 /// A vector by its bits, the first layout first.
+/// No clause, as at `card`.
 pub fn vector(rt: &impl Abort, text: &str) -> WinVector {
     let bits = text.as_bytes();
     assert!(rt; !bits.is_empty() && bits.len() <= 256);
@@ -103,6 +111,7 @@ pub fn vector(rt: &impl Abort, text: &str) -> WinVector {
 }
 
 /// The front of the vectors of a text, in which blanks divide them.
+/// No clause, as at `card`.
 pub fn front_of(rt: &impl Abort, alloc: Global, text: &str) -> Result<Front, AllocError> {
     let mut front = None;
     for word in text.split(' ') {
@@ -119,6 +128,7 @@ pub fn front_of(rt: &impl Abort, alloc: Global, text: &str) -> Result<Front, All
 }
 
 /// Fails where a front hasn't exactly the vectors of a text, in this order.
+/// No clause: a test that goes on has seen it.
 pub fn assert_vectors(rt: &impl Abort, front: &Front, text: &str) {
     let mut place = 0;
     for word in text.split(' ') {
