@@ -29,6 +29,7 @@ use Rattle.am_answer.specs.declared.status.Status.{Status}
 use Rattle.am_answer.specs.declared.status.Status.TheVariants.{BadPbn, NoTurn, NoLayout}
 use Rattle.am_answer.specs.Files.{inputs_read}
 use Rattle.am_answer.specs.Judging.{plans_in}
+use Rattle.am_answer.specs.Auditing.{AuditValue, audit_in}
 use Rattle.am_answer.specs.Refusals.{board_status, layout_status, make_status}
 use Rattle.byte_text.specs.Steps.{◌>>=◌}
 
@@ -86,10 +87,14 @@ pub data TaskValue : Type 0 where
   Report : Root → ℕ → Search → TaskValue
   -- the card to play at a root, by so many moves and a search
   NamedCard : Root → ℕ → Search → TaskValue
-  -- the first strategy of a root's front, by so many moves and a search, played out in a layout
+  -- the first strategy that is printed for a root, by so many moves and a search, played out in a layout
   PlayedOut : Root → ℕ → Search → Playing → TaskValue
   -- what plain sampling believes at a root
   Sample : Root → TaskValue
+  -- the log that proves a root's front complete, by so many moves and nodes
+  Proof : Root → ℕ → ℕ → TaskValue
+  -- what is asked of a log at a root
+  Audit : Root → AuditValue → TaskValue
   -- a report with so many plans, all of which are good
   Good : ℕ → TaskValue
   -- all layouts of a board
@@ -116,6 +121,10 @@ task_at root works.Fusion = Ok (Sample root)
 task_at root (works.Check report) = do
   plans ← plans_in root report
   Ok (Good plans)
+task_at root (works.Prove moves nodes) = Ok (Proof root moves nodes)
+task_at root (works.Audit report log) = do
+  audit ← audit_in root report log
+  Ok (Audit root audit)
 
 abbrev pub listed_or : BoardValue → Result (List Layout) MakeFault → Result TaskValue Status
 listed_or board (Ok layouts) = Ok (AllLayouts board layouts)

@@ -7,11 +7,13 @@ use Rattle.trick_rules.specs.Nodes.{NodeValue}
 use Rattle.job_words.specs.declared.asks.Search.{Search}
 use Rattle.job_words.specs.Asks.{AskValue}
 use Rattle.root_workers.specs.Roots.{IsSpentAt, IsFirstSpentAt, AllFit}
+use Rattle.log_check.specs.declared.check.LogVerdict.TheVariants.{Yes, No}
+use Rattle.log_check.specs.LogVerdicts.{IsLogVerdict}
 use Rattle.am_answer.specs.declared.status.FileWord.{FileWord}
 use Rattle.am_answer.specs.declared.status.Status.{Status}
-use Rattle.am_answer.specs.declared.status.Status.TheVariants.{Done, Unread, Spent, Unwritten, Memory}
+use Rattle.am_answer.specs.declared.status.Status.TheVariants.{Done, Unread, Spent, Unwritten, Memory, Unproved}
 use Rattle.am_answer.specs.declared.root.Root.{Root}
-use Rattle.am_answer.specs.Answers.{TaskValue, Report, NamedCard, PlayedOut, Problem, problem_of}
+use Rattle.am_answer.specs.Answers.{TaskValue, Report, NamedCard, PlayedOut, Proof, Audit, Problem, problem_of}
 use Rattle.am_answer.specs.Files.{name_of}
 use Rattle.am_answer.specs.Reports.{IsTextAt, made_moves}
 use Rattle.am_match.specs.Defences.{Sitter}
@@ -33,29 +35,40 @@ IsSpentOn (Report root moves search) card = IsSpentBy root.kept.node moves searc
 IsSpentOn (NamedCard root moves search) card = IsSpentBy root.kept.node moves search card
 IsSpentOn (PlayedOut root moves search playing) card = IsSpentBy root.kept.node moves search card
 IsSpentOn (Problem number root search) card = IsSpentBy root.kept.node made_moves search card
+IsSpentOn (Proof root moves nodes) card = IsFirstSpentAt root.kept.node moves nodes card
 IsSpentOn _ card = ⊥
 
--- a job in which no root card's tree is too large, where there is a search at all
-abbrev pub IsWithinNodes : TaskValue → Type 0
-IsWithinNodes (Report root moves search) = AllFit root.kept.node moves search.nodes
-IsWithinNodes (NamedCard root moves search) = AllFit root.kept.node moves search.nodes
-IsWithinNodes (PlayedOut root moves search playing) = AllFit root.kept.node moves search.nodes
-IsWithinNodes (Problem number root search) = AllFit root.kept.node made_moves search.nodes
-IsWithinNodes _ = ⊤
+-- a job whose log doesn't prove what it is asked, where this is the number that shows it
+abbrev pub IsUnprovedOn : TaskValue → ℕ → Type 0
+IsUnprovedOn (Audit root audit) number = IsLogVerdict root.kept.node audit.moves audit.vectors audit.lines (No number)
+IsUnprovedOn _ number = ⊥
 
--- what is known of the trees where a job has its text: a plain search has met no tree that is too large
+-- nothing stands against a job's text: no root card's tree is too large, where there is a search, and a log proves what it is
+-- asked
+abbrev pub HasText : TaskValue → Type 0
+HasText (Report root moves search) = AllFit root.kept.node moves search.nodes
+HasText (NamedCard root moves search) = AllFit root.kept.node moves search.nodes
+HasText (PlayedOut root moves search playing) = AllFit root.kept.node moves search.nodes
+HasText (Problem number root search) = AllFit root.kept.node made_moves search.nodes
+HasText (Proof root moves nodes) = AllFit root.kept.node moves nodes
+HasText (Audit root audit) = IsLogVerdict root.kept.node audit.moves audit.vectors audit.lines Yes
+HasText _ = ⊤
+
+-- what is known of the trees where a job has its text: a plain search, or one for a log, has met no tree that is too large
 abbrev pub IsWithinIfPlain : TaskValue → Type 0
 IsWithinIfPlain (Report root moves search) = IsPlain search → AllFit root.kept.node moves search.nodes
 IsWithinIfPlain (NamedCard root moves search) = IsPlain search → AllFit root.kept.node moves search.nodes
 IsWithinIfPlain (PlayedOut root moves search playing) = IsPlain search → AllFit root.kept.node moves search.nodes
 IsWithinIfPlain (Problem number root search) = IsPlain search → AllFit root.kept.node made_moves search.nodes
+IsWithinIfPlain (Proof root moves nodes) = AllFit root.kept.node moves nodes
 IsWithinIfPlain _ = ⊤
 
--- the status is the answer's, where it isn't one that depends on reading, writing or memory
+-- the status is the answer's, where it isn't one that depends on reading, writing or memory, or on a search or a log
 abbrev pub IsStatusFor : Result TaskValue Status → Status → Type 0
 IsStatusFor answer Done = (task : TaskValue) × (answer ≡ Ok task) × IsWithinIfPlain task
 IsStatusFor answer (Unread file) = ⊤
 IsStatusFor answer (Spent card) = (task : TaskValue) × (answer ≡ Ok task) × IsSpentOn task card
+IsStatusFor answer (Unproved number) = (task : TaskValue) × (answer ≡ Ok task) × IsUnprovedOn task number
 IsStatusFor answer Unwritten = (task : TaskValue) × (answer ≡ Ok task) × IsWithinIfPlain task
 IsStatusFor answer Memory = ⊤
 IsStatusFor answer status = answer ≡ Err status

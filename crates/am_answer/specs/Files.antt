@@ -9,7 +9,7 @@ use Rattle.am_answer.specs.declared.inputs.Work.TheVariants as works
 use Rattle.am_answer.specs.declared.inputs.Inputs.{Inputs}
 use Rattle.am_answer.specs.declared.inputs.Inputs.TheVariants as inputs
 use Rattle.am_answer.specs.declared.status.FileWord.{FileWord}
-use Rattle.am_answer.specs.declared.status.FileWord.TheVariants.{Deal, Layouts, Report}
+use Rattle.am_answer.specs.declared.status.FileWord.TheVariants.{Deal, Layouts, Report, Log}
 use Rattle.am_answer.specs.declared.status.Status.{Status}
 use Rattle.am_answer.specs.declared.status.Status.TheVariants.{BadWords, Unread, TooLong}
 use Rattle.byte_text.specs.Steps.{◌>>=◌}
@@ -19,6 +19,7 @@ abbrev pub limit_of : FileWord → ℕ
 limit_of Deal = 1048576
 limit_of Layouts = 1048576
 limit_of Report = 16777216
+limit_of Log = 16777216
 
 abbrev pub within_limit : FileWord → Option (List ℕ) → Result (List ℕ) Status
 within_limit file None = Err (Unread file)
@@ -28,7 +29,7 @@ within_limit file (Some bytes) = if nat_lt (limit_of file) (length bytes) then E
 unfoldable pub file_read : Files → FileWord → List ℕ → Result (List ℕ) Status
 file_read files file name = within_limit file (get files name)
 
--- a job on layouts, with the bytes of the report that it judges
+-- a job on layouts, with the bytes of the report that it judges, and of the log
 unfoldable pub work_read : Files → asks.LayoutsJobValue → Result Work Status
 work_read files (asks.Solve moves search) = Ok (works.Solve moves search)
 work_read files (asks.Card moves search) = Ok (works.Card moves search)
@@ -37,8 +38,14 @@ work_read files asks.Fusion = Ok works.Fusion
 work_read files (asks.Check name) = do
   report ← file_read files Report name
   Ok (works.Check report)
+work_read files (asks.Prove moves nodes) = Ok (works.Prove moves nodes)
+work_read files (asks.Audit report log) = do
+  report ← file_read files Report report
+  log ← file_read files Log log
+  Ok (works.Audit report log)
 
--- what the words ask for, with the bytes of the files that they name: the deal, then the layouts, then the report
+-- what the words ask for, with the bytes of the files that they name: the deal, then the layouts, then the report,
+-- then the log
 unfoldable pub named_read : Files → asks.AskValue → Result Inputs Status
 named_read files (asks.OnLayouts deal layouts job) = do
   deal ← file_read files Deal deal
@@ -58,16 +65,18 @@ inputs_read words files = do
 
 -- ---- the names of files
 
--- the report that a job names
-abbrev pub report_named : asks.LayoutsJobValue → Option (List ℕ)
-report_named (asks.Check name) = Some name
-report_named _ = None
+-- the name that a job on layouts gives a report or a log
+abbrev pub file_named : asks.LayoutsJobValue → FileWord → Option (List ℕ)
+file_named (asks.Check report) Report = Some report
+file_named (asks.Audit report log) Report = Some report
+file_named (asks.Audit report log) Log = Some log
+file_named _ _ = None
 
 -- the name that the words give a file
 abbrev pub name_of : asks.AskValue → FileWord → Option (List ℕ)
 name_of (asks.OnLayouts deal layouts job) Deal = Some deal
 name_of (asks.OnLayouts deal layouts job) Layouts = Some layouts
-name_of (asks.OnLayouts deal layouts job) Report = report_named job
+name_of (asks.OnLayouts deal layouts job) file = file_named job file
 name_of (asks.ListOf deal) Deal = Some deal
 name_of _ _ = None
 
@@ -94,7 +103,7 @@ is_match _ = false
 
 -- ---- what is read keeps limits
 
--- a search keeps to its limits and to the moves that it may have, and a report to its limit
+-- a search keeps to its limits and to the moves that it may have, and a report and a log to theirs
 abbrev pub IsWithin : Work → Type 0
 IsWithin (works.Solve moves search) = asks.IsMoves moves × asks.IsSearchWithinLimits search
 IsWithin (works.Card moves search) = asks.IsMoves moves × asks.IsSearchWithinLimits search
@@ -102,6 +111,8 @@ IsWithin (works.Match moves search layout switch) =
     asks.IsMoves moves × asks.IsSearchWithinLimits search × IfSome switch asks.IsSwitch
 IsWithin works.Fusion = ⊤
 IsWithin (works.Check report) = length report ≤ limit_of Report
+IsWithin (works.Prove moves nodes) = asks.IsMoves moves × (1 ≤ nodes) × (nodes ≤ asks.most_logged)
+IsWithin (works.Audit report log) = (length report ≤ limit_of Report) × (length log ≤ limit_of Log)
 
 -- each file and each search keeps to its limits
 abbrev pub AreWithin : Inputs → Type 0

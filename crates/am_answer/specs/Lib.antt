@@ -2,7 +2,9 @@ pub mod Codes
 pub mod Files
 pub mod Refusals
 pub mod Judging
+pub mod Auditing
 pub mod Answers
+pub mod ReportOrder
 pub mod Matches
 pub mod Reports
 pub mod Endings

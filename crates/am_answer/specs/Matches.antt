@@ -1,10 +1,10 @@
--- A match: the first strategy of the front, played out in one layout against the defenders of a table.
+-- A match: the first strategy that is printed, played out in one layout against the defenders of a table.
 use Rattle.std.specs.Prelude.{◌≡◌, ◌==◌, ◌∷◌, ℕ, Bool, List, Option, None, Some, length, take, option_map, slice_get}
 use Rattle.win_vectors.specs.Fronts.{Vector}
 use Rattle.card_sets.specs.declared.seat.Seat.TheVariants.{Left}
 use Rattle.trick_rules.specs.Positions.{State}
 use Rattle.trick_rules.specs.Nodes.{NodeValue, states}
-use Rattle.strategy_games.specs.Plans.{Plan, IsFront}
+use Rattle.strategy_games.specs.Plans.{Plan}
 use Rattle.strategy_games.specs.Choosing.{IsChosenPlan}
 use Rattle.strategy_tree.specs.Bridge.{bridge}
 use Rattle.am_match.specs.Defences.{Sitter, Change, change_at, table_at, tell_table}
@@ -12,6 +12,7 @@ use Rattle.am_match.specs.PlayOuts.{Follows, state_after}
 use Rattle.am_report.specs.Match.{match_text}
 use Rattle.am_answer.specs.declared.root.Root.{Root}
 use Rattle.am_answer.specs.Answers.{Playing}
+use Rattle.am_answer.specs.ReportOrder.{IsReportedFront}
 
 -- the defenders at the start: where one is to come in later, the first two
 abbrev pub seated : Option ℕ → List Sitter → List Sitter
@@ -27,19 +28,19 @@ third_at (Some at) table = option_map (change_at at Left) (slice_get table 2)
 abbrev pub seated_at : Option ℕ → List Sitter → ℕ → List Sitter
 seated_at switch table = table_at (seated switch table) (third_at switch table)
 
--- the first vector of the front, and the plan that is chosen for it
-pub record IsFirstStrategy (n : NodeValue) (moves : ℕ) (vector : Vector) (plan : Plan ℕ) : Type 0 where
+-- the first vector that is reported, and the plan that is chosen for it
+pub record IsFirstStrategy (n : NodeValue) (weights : List ℕ) (moves : ℕ) (vector : Vector) (plan : Plan ℕ) : Type 0 where
   pub others : List Vector
-  pub front : IsFront bridge n moves (vector ∷ others)
+  pub reported : IsReportedFront n weights moves (vector ∷ others)
   pub chosen : IsChosenPlan bridge plan n moves vector
 
 -- the vector's bit at a layout, the cards that follow the first strategy from the layout's state to the end,
 -- whether they make, and the table afterwards, at which the two who sit were told them
-pub record IsPlayed (n : NodeValue) (moves : ℕ) (playing : Playing) (table later : List Sitter) (bit : Bool) (cards : List ℕ) (made : Bool) : Type 0 where
+pub record IsPlayed (n : NodeValue) (weights : List ℕ) (moves : ℕ) (playing : Playing) (table later : List Sitter) (bit : Bool) (cards : List ℕ) (made : Bool) : Type 0 where
   pub vector : Vector
   pub plan : Plan ℕ
   pub state : State
-  pub first : IsFirstStrategy n moves vector plan
+  pub first : IsFirstStrategy n weights moves vector plan
   pub at_layout : slice_get (states n) playing.place ≡ Some state
   pub bit_there : slice_get vector playing.place ≡ Some bit
   pub follows : Follows plan state (seated_at playing.switch table) cards
@@ -49,5 +50,5 @@ pub record IsPlayed (n : NodeValue) (moves : ℕ) (playing : Playing) (table lat
 -- the text of a match, and the table after it
 abbrev pub IsMatchText : Root → ℕ → Playing → List Sitter → List Sitter → List ℕ → Type 0
 IsMatchText root moves playing table later text = (bit made : Bool) × (cards : List ℕ)
-    × IsPlayed root.kept.node moves playing table later bit cards made
+    × IsPlayed root.kept.node root.kept.weights moves playing table later bit cards made
     × (text ≡ match_text playing.layout bit cards made)

@@ -9,10 +9,11 @@ use Rattle.layout_list.specs.declared.fault.LayoutFault as layouts
 use Rattle.layout_maker.specs.declared.fault.MakeFault as make
 use Rattle.alphamu_core.specs.declared.answers.RootFault as root
 use Rattle.am_report.specs.declared.fault.ReportFault as report
+use Rattle.log_texts.specs.declared.fault.LogFault as log
 use Rattle.am_answer.specs.declared.status.FileWord.{FileWord}
 use Rattle.am_answer.specs.declared.status.PbnKind.TheVariants.{Syntax, Board}
 use Rattle.am_answer.specs.declared.status.Status.{Status}
-use Rattle.am_answer.specs.declared.status.Status.TheVariants.{BadPbn, BadLayouts, BadReport, BadMake, Spent, Memory}
+use Rattle.am_answer.specs.declared.status.Status.TheVariants.{BadPbn, BadLayouts, BadReport, BadMake, BadLog, Spent, Memory}
 use Rattle.am_answer.specs.Files.{name_of}
 
 abbrev pub syntax_status : text.TextFault → Status
@@ -28,6 +29,7 @@ abbrev pub layout_status : layouts.LayoutFault → Status
 layout_status (layouts.TheVariants.BadLine line fault) = BadLayouts (layouts.TheVariants.BadLine line fault)
 layout_status (layouts.TheVariants.OtherHands line) = BadLayouts (layouts.TheVariants.OtherHands line)
 layout_status (layouts.TheVariants.TooMany line) = BadLayouts (layouts.TheVariants.TooMany line)
+layout_status (layouts.TheVariants.BadWeight line) = BadLayouts (layouts.TheVariants.BadWeight line)
 layout_status layouts.TheVariants.NoneLeft = BadLayouts layouts.TheVariants.NoneLeft
 layout_status layouts.TheVariants.Memory = Memory
 
@@ -39,8 +41,12 @@ abbrev pub report_status : report.ReportFault → Status
 report_status (report.TheVariants.Fault line kind) = BadReport line kind
 report_status report.TheVariants.Memory = Memory
 
+abbrev pub log_status : log.LogFault → Status
+log_status (log.TheVariants.Line line) = BadLog line
+log_status log.TheVariants.Memory = Memory
+
 abbrev pub make_status : make.MakeFault → Status
-make_status (make.TheVariants.MoreThan64 count) = BadMake (make.TheVariants.MoreThan64 count)
+make_status (make.TheVariants.TooManyFit count) = BadMake (make.TheVariants.TooManyFit count)
 make_status make.TheVariants.NoneFit = BadMake make.TheVariants.NoneFit
 make_status make.TheVariants.NotShown = BadMake make.TheVariants.NotShown
 make_status make.TheVariants.Memory = Memory

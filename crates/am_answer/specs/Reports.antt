@@ -1,39 +1,47 @@
 -- What is written where a job is done.
 use Rattle.std.specs.Prelude.{◌≡◌, ℕ, Bool, List, map, length, All}
 use Rattle.strategy_games.specs.Plans.{IsFront}
-use Rattle.strategy_games.specs.Choosing.{IsChosenPlan, IsBestCount, IsNamedCard}
+use Rattle.strategy_games.specs.Choosing.{IsChosenPlan, IsBestCount, IsNamedCard, IsBestWeight, IsNamedByWeight}
 use Rattle.strategy_tree.specs.Bridge.{bridge}
 use Rattle.trick_rules.specs.Nodes.{NodeValue}
 use Rattle.fusion_base.specs.Sampling.{card_vectors}
+use Rattle.log_check.specs.declared.lines.LogLine.{LogLine}
+use Rattle.log_check.specs.declared.check.LogVerdict.TheVariants.{Yes}
+use Rattle.log_check.specs.LogVerdicts.{IsLogVerdict}
+use Rattle.log_maker.specs.LogsFor.{IsLogFor}
+use Rattle.log_texts.specs.LogText.{log_text}
 use Rattle.am_report.specs.Answers.{SolveAnswerValue}
 use Rattle.am_report.specs.Card.{card_text}
 use Rattle.am_report.specs.Check.{check_text}
+use Rattle.am_report.specs.Audit.{audit_text}
 use Rattle.am_report.specs.Fusion.{fusion_text}
 use Rattle.am_report.specs.LayoutFile.{list_text}
 use Rattle.am_report.specs.Made.{made_text}
 use Rattle.am_report.specs.Solve.{solve_text}
 use Rattle.am_answer.specs.declared.root.Root.{Root}
-use Rattle.am_answer.specs.Answers.{TaskValue, Report, NamedCard, PlayedOut, Sample, Good, AllLayouts, Problem}
+use Rattle.am_answer.specs.Answers.{TaskValue, Report, NamedCard, PlayedOut, Sample, Proof, Audit, Good, AllLayouts, Problem}
+use Rattle.am_answer.specs.Auditing.{AuditValue}
+use Rattle.am_answer.specs.ReportOrder.{IsReportedFront}
 use Rattle.am_answer.specs.Matches.{IsMatchText}
 use Rattle.am_match.specs.Defences.{Sitter}
 
--- the vectors of the front in order, each with the plan that is chosen for it; the named card; and the best count
-pub record IsSolveAnswer (n : NodeValue) (moves : ℕ) (found : SolveAnswerValue) : Type 0 where
-  pub vectors : IsFront bridge n moves (map (λ e. e.vector) found.entries)
+-- the vectors of the front in report order, each with the plan that is chosen for it; the named card; and the best weight
+pub record IsSolveAnswer (n : NodeValue) (weights : List ℕ) (moves : ℕ) (found : SolveAnswerValue) : Type 0 where
+  pub vectors : IsReportedFront n weights moves (map (λ e. e.vector) found.entries)
   pub plans : All (λ e. IsChosenPlan bridge e.plan n moves e.vector) found.entries
-  pub card : IsNamedCard bridge n moves found.card
-  pub count : IsBestCount bridge n moves found.count
+  pub card : IsNamedByWeight bridge weights n moves found.card
+  pub weight : IsBestWeight bridge weights n moves found.weight
 
 -- the report of a root: no number of workers, size of a table or rule of cuts stands in it
 abbrev pub IsSolveText : Root → ℕ → List ℕ → Type 0
-IsSolveText root moves text = (found : SolveAnswerValue) × IsSolveAnswer root.kept.node moves found
+IsSolveText root moves text = (found : SolveAnswerValue) × IsSolveAnswer root.kept.node root.kept.weights moves found
     × (text ≡ solve_text root.board root.kept moves found)
 
--- the card to play, its count, and the number of kept layouts
+-- the card to play, and its weight among those of the kept layouts
 abbrev pub IsCardText : Root → ℕ → List ℕ → Type 0
-IsCardText root moves text = (card count : ℕ) × IsNamedCard bridge root.kept.node moves card
-    × IsBestCount bridge root.kept.node moves count
-    × (text ≡ card_text card count (length root.kept.node.lefts))
+IsCardText root moves text = (card weight : ℕ) × IsNamedByWeight bridge root.kept.weights root.kept.node moves card
+    × IsBestWeight bridge root.kept.weights root.kept.node moves weight
+    × (text ≡ card_text card weight root.kept.weights)
 
 -- the moves of a problem that is made from a number
 abbrev pub made_moves : ℕ
@@ -45,12 +53,23 @@ IsMadeText number root moves text = (vectors : List (List Bool)) × (card count 
     × IsNamedCard bridge root.kept.node moves card × IsBestCount bridge root.kept.node moves count
     × (text ≡ made_text (record { number = number; layouts = length root.kept.node.lefts; front = length vectors; best = count; card = card }))
 
+-- the log of a root by so many moves
+abbrev pub IsProofText : Root → ℕ → List ℕ → Type 0
+IsProofText root moves text = (lines : List LogLine) × IsLogFor root.kept.node moves lines × (text ≡ log_text lines)
+
+-- that a log proves a report's vectors complete
+abbrev pub IsAuditText : Root → AuditValue → List ℕ → Type 0
+IsAuditText root audit text = IsLogVerdict root.kept.node audit.moves audit.vectors audit.lines Yes
+    × (text ≡ audit_text (length audit.lines))
+
 -- the text of a job that asks no defender for a card
 abbrev pub IsText : TaskValue → List ℕ → Type 0
 IsText (Report root moves search) text = IsSolveText root moves text
 IsText (NamedCard root moves search) text = IsCardText root moves text
 IsText (PlayedOut root moves search playing) text = ⊥
-IsText (Sample root) text = text ≡ fusion_text (card_vectors root.kept.node)
+IsText (Sample root) text = text ≡ fusion_text (card_vectors root.kept.node) root.kept.weights
+IsText (Proof root moves nodes) text = IsProofText root moves text
+IsText (Audit root audit) text = IsAuditText root audit text
 IsText (Good plans) text = text ≡ check_text plans
 IsText (AllLayouts board layouts) text = text ≡ list_text board layouts
 IsText (Problem number root search) text = IsMadeText number root made_moves text

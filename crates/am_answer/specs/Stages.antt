@@ -1,11 +1,11 @@
 -- How each stage of a run may end without its result: reading the words and the files, understanding them, and the work.
 use Rattle.std.specs.Prelude.{◌≡◌, ⊤, ℕ, List, Result, Ok, Err}
 use Rattle.am_answer.specs.declared.status.Status.{Status}
-use Rattle.am_answer.specs.declared.status.Status.TheVariants.{Done, BadWords, Unread, Spent, Unwritten, Memory, TooLong}
+use Rattle.am_answer.specs.declared.status.Status.TheVariants.{Done, BadWords, Unread, Spent, Unwritten, Memory, TooLong, Unproved}
 use Rattle.am_answer.specs.Answers.{TaskValue}
 use Rattle.am_answer.specs.Reports.{IsText, IsTextAt}
 use Rattle.am_match.specs.Defences.{Sitter}
-use Rattle.am_answer.specs.Endings.{IsSpentOn, IsWithinIfPlain}
+use Rattle.am_answer.specs.Endings.{IsSpentOn, IsUnprovedOn, IsWithinIfPlain}
 
 -- a status of reading a file
 abbrev pub IsOfFiles : Status → Type 0
@@ -33,14 +33,16 @@ IsFileRefusal expected Done = ⊥
 IsFileRefusal expected BadWords = ⊥
 IsFileRefusal expected (Unread file) = ⊥
 IsFileRefusal expected (Spent card) = ⊥
+IsFileRefusal expected (Unproved number) = ⊥
 IsFileRefusal expected Unwritten = ⊥
 IsFileRefusal expected Memory = ⊤
 IsFileRefusal expected (TooLong file) = ⊥
 IsFileRefusal expected status = expected ≡ Err status
 
--- what the files say, or a search that is too large, or else no memory
+-- what the files say, or a search that is too large, or a log that doesn't prove, or else no memory
 abbrev pub IsTaskRefusal : Result TaskValue Status → Status → Type 0
 IsTaskRefusal answer (Spent card) = (task : TaskValue) × (answer ≡ Ok task) × IsSpentOn task card
+IsTaskRefusal answer (Unproved number) = (task : TaskValue) × (answer ≡ Ok task) × IsUnprovedOn task number
 IsTaskRefusal answer status = IsFileRefusal answer status
 
 -- the answer is a job, and this is its text; a plain search has met no tree that is too large
@@ -62,6 +64,7 @@ abbrev pub IsRefusal : Result TaskValue Status → Status → Type 0
 IsRefusal answer Done = ⊥
 IsRefusal answer (Unread file) = ⊤
 IsRefusal answer (Spent card) = (task : TaskValue) × (answer ≡ Ok task) × IsSpentOn task card
+IsRefusal answer (Unproved number) = (task : TaskValue) × (answer ≡ Ok task) × IsUnprovedOn task number
 IsRefusal answer Unwritten = ⊥
 IsRefusal answer Memory = ⊤
 IsRefusal answer status = answer ≡ Err status

@@ -2,7 +2,7 @@
 use byte_text::Text;
 use job_words::Search;
 
-/// A job on layouts, with the report that it judges.
+/// A job on layouts, with the report that it judges and the log that it judges it by.
 #[derive(Drop)]
 pub enum Work {
     /// The report of the root, by so many moves of declarer's side.
@@ -15,8 +15,9 @@ pub enum Work {
         moves: u8,
         search: Search,
     },
-    /// The first strategy of the front by so many moves of declarer's side, played out in the layout
-    /// of a number. Another defender comes to Left's seat before the card of the switch's number.
+    /// The first strategy that is printed, by so many moves of declarer's side, played out in the
+    /// layout of a number. Another defender comes to Left's seat before the card of the switch's
+    /// number.
     Match {
         moves: u8,
         search: Search,
@@ -28,6 +29,17 @@ pub enum Work {
     /// Whether each plan of the report wins exactly its vector.
     Check {
         report: Text,
+    },
+    /// The log that proves the front complete, by so many moves of declarer's side, where the tree of
+    /// each root card has so many nodes at most.
+    Prove {
+        moves: u8,
+        nodes: u64,
+    },
+    /// Whether the log proves that no strategy wins more than the report says.
+    Audit {
+        report: Text,
+        log: Text,
     },
 }
 

@@ -1,5 +1,5 @@
 //! What words and files lead to: a job and its text, or a refusal; and the statuses of a run.
-//! It stands on the readers, the search, plain sampling and the texts, for what they mean.
+//! It stands on the readers, the search, plain sampling, logs and the texts, for what they mean.
 //! Its contract promises the number of each status, and the status of each fault.
 #![tactic(auto)]
 
@@ -10,7 +10,8 @@ mod status;
 
 pub use inputs::{Inputs, Work};
 pub use refusals::{
-    board_status, layout_status, make_status, report_status, root_status, syntax_status,
+    board_status, layout_status, log_status, make_status, report_status, root_status,
+    syntax_status,
 };
 pub use root::Root;
 pub use status::{FileWord, PbnKind, Place, Status};

@@ -1,13 +1,14 @@
 //! The status of each fault that a reader, a search or a maker of layouts answers.
 ghost use Rattle.std.specs.Prelude.{◌≡◌};
 ghost use Rattle.am_answer.specs.Refusals.{syntax_status, board_status, layout_status, root_status};
-ghost use Rattle.am_answer.specs.Refusals.{report_status, make_status};
+ghost use Rattle.am_answer.specs.Refusals.{report_status, make_status, log_status};
 
 use crate::status::{PbnKind, Status};
 use alphamu_core::RootFault;
 use am_report::ReportFault;
 use layout_list::LayoutFault;
 use layout_maker::MakeFault;
+use log_texts::LogFault;
 use pbn_deal::BoardRefusal;
 use pbn_text::TextFault;
 
@@ -58,6 +59,16 @@ pub fn report_status(fault: ReportFault) -> Status
     match fault {
         ReportFault::Fault { line, kind } => Status::BadReport(line, kind),
         ReportFault::Memory => Status::Memory,
+    }
+}
+
+/// The status of a log that isn't read.
+pub fn log_status(fault: LogFault) -> Status
+    ensures { result ≡ log_status fault }
+{
+    match fault {
+        LogFault::Line(line) => Status::BadLog(line),
+        LogFault::Memory => Status::Memory,
     }
 }
 

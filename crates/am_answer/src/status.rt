@@ -17,6 +17,7 @@ pub enum FileWord {
     Deal,
     Layouts,
     Report,
+    Log,
 }
 
 /// What is wrong with a deal file.
@@ -37,6 +38,8 @@ pub enum Place {
     Head,
     /// The vector isn't as wide as there are kept layouts.
     Width,
+    /// The number behind the vector isn't what it wins by the weights of the kept layouts.
+    Weight,
     /// The plan is no strategy: its first node that doesn't fit, counted from 1, each before those
     /// below it.
     Node(u32),
@@ -68,7 +71,8 @@ pub enum Status {
     Unwritten,
     /// Memory was refused.
     Memory,
-    /// The file has more bytes than its limit: 1,048,576, and 16,777,216 for a report.
+    /// The file has more bytes than its limit: 1,048,576, and 16,777,216 for a report or a
+    /// log.
     TooLong(FileWord),
     /// The report is refused at this line.
     BadReport(u32, ReportKind),
@@ -76,6 +80,12 @@ pub enum Status {
     BadMake(MakeFault),
     /// The layout of this number isn't among the kept ones.
     NoLayout(u16),
+    /// The log is refused at this line.
+    BadLog(u32),
+    /// The log doesn't prove the report complete: the first of its lines that doesn't follow, counted
+    /// from 1 without the first line of the file; or the number after the last, where all follow and
+    /// the last one leaves out what the report has to cover.
+    Unproved(u32),
 }
 
 impl Status {
@@ -98,6 +108,8 @@ impl Status {
             Status::BadReport(_, _) => 11,
             Status::BadMake(_) => 12,
             Status::NoLayout(_) => 14,
+            Status::BadLog(_) => 15,
+            Status::Unproved(_) => 16,
         }
     }
 }

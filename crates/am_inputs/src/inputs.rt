@@ -7,7 +7,7 @@ ghost use Rattle.job_words.specs.Asks.{Made, ask_of, job_of, texts_of};
 ghost use Rattle.job_words.specs.Asks.{IsWithinLimits, IsJobWithinLimits};
 ghost use Rattle.job_words.specs.Words.{words_read};
 ghost use Rattle.am_answer.specs.Files.{file_read, inputs_read, limit_of, name_of, named_read};
-ghost use Rattle.am_answer.specs.Files.{report_named, work_read, AreWithin, IsWithin};
+ghost use Rattle.am_answer.specs.Files.{file_named, work_read, AreWithin, IsWithin};
 ghost use Rattle.am_answer.specs.Files.{is_match_job, asks_match, is_match_work, is_match};
 ghost use Rattle.am_answer.specs.Refusals.{IsUnread};
 ghost use Rattle.am_answer.specs.Stages.{IsOfFiles, IsOfReading, IsReadRefusal};
@@ -24,7 +24,7 @@ fn limit_of(file: FileWord) -> u64
 {
     match file {
         FileWord::Deal | FileWord::Layouts => 1_048_576,
-        FileWord::Report => 16_777_216,
+        FileWord::Report | FileWord::Log => 16_777_216,
     }
 }
 
@@ -55,7 +55,7 @@ fn read_file<S: Shelf>(
     }
 }
 
-// What a job on layouts is to do, with the report where it judges one.
+// What a job on layouts is to do, with the report that it judges and the log that it judges it by.
 #[tactic(auto, unfolding(am_answer::specs::Files::work_read))]
 fn read_work<S: Shelf>(alloc: Global, shelf: &mut S, job: LayoutsJob<'_>) -> Result<Work, Status>
     requires { IsJobWithinLimits (job_of job) }
@@ -68,8 +68,7 @@ fn read_work<S: Shelf>(alloc: Global, shelf: &mut S, job: LayoutsJob<'_>) -> Res
         is_match_work work ≡ is_match_job (job_of job.entry)) }
     ensures only { IfErr result IsOfFiles }
     ensures unread { (file : FileWord) → IsErrOf result (Status.Unread file)
-        → (file ≡ FileWord.Report)
-        × IsSomeAnd (report_named (job_of job.entry)) (λ name.
+        → IsSomeAnd (file_named (job_of job.entry) file) (λ name.
         Rose (S.faults shelf.old name) (S.faults shelf.new name)) }
     ensures never_falls { (other : List ℕ) → S.faults shelf.old other ≤ S.faults shelf.new other }
     ensures same_files { S.told shelf.new ≡ S.told shelf.old }
@@ -93,10 +92,16 @@ fn read_work<S: Shelf>(alloc: Global, shelf: &mut S, job: LayoutsJob<'_>) -> Res
             let report = read_file(alloc, shelf, FileWord::Report, report)?;
             Ok(Work::Check { report })
         }
+        LayoutsJob::Prove { moves, nodes } => Ok(Work::Prove { moves, nodes }),
+        LayoutsJob::Audit { report, log } => {
+            let report = read_file(alloc, shelf, FileWord::Report, report)?;
+            let log = read_file(alloc, shelf, FileWord::Log, log)?;
+            Ok(Work::Audit { report, log })
+        }
     }
 }
 
-// The files that an ask names: the deal, then the layouts, then the report.
+// The files that an ask names: the deal, then the layouts, then the report, then the log.
 #[tactic(auto, unfolding(am_answer::specs::Files::named_read))]
 fn read_named<S: Shelf>(alloc: Global, shelf: &mut S, ask: Ask<'_>) -> Result<Inputs, Status>
     requires { IsWithinLimits (ask_of ask) }
@@ -147,8 +152,8 @@ fn read_ask(alloc: Global, words: &[String]) -> Result<Ask<'_>, Status>
     }
 }
 
-/// Reads the words, then the files that they name: the deal, then the layouts, then the report. The
-/// problem of a number needs no file.
+/// Reads the words, then the files that they name: the deal, then the layouts, then the report, then
+/// the log. The problem of a number needs no file.
 #[tactic(auto, unfolding(am_answer::specs::Files::inputs_read))]
 pub fn read_inputs<S: Shelf>(
     alloc: Global,

@@ -37,6 +37,7 @@ fn read_layouts(alloc: Global, file: &Text, board: &Board) -> Result<Kept, Statu
     requires { length file.now < 2 ^ 32 - 1 }
     ensures kept { IfOk result (λ kept. kept_in file.now board.now ≡ Ok kept) }
     ensures as_many { IfOk result (λ kept. length kept.numbers ≡ length kept.node.lefts) }
+    ensures weighed { IfOk result (λ kept. length kept.weights ≡ length kept.node.lefts) }
     ensures refused { IfErr result (IsFileRefusal (kept_in file.now board.now)) }
 {
     match layouts(alloc, file.bytes(), board) {
@@ -61,6 +62,8 @@ pub fn read_root(alloc: Global, deal: &Text, layouts: &Text) -> Result<Root, Sta
     ensures turn { IfOk result (λ root. has_choice root.kept.node ≡ true) }
     ensures as_many { IfOk result (λ root.
         length root.kept.numbers ≡ length root.kept.node.lefts) }
+    ensures weighed { IfOk result (λ root.
+        length root.kept.weights ≡ length root.kept.node.lefts) }
     ensures refused { IfErr result (IsFileRefusal (root_in deal.now layouts.now)) }
 {
     let board = read_deal(alloc, deal)?;

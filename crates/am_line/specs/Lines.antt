@@ -11,7 +11,7 @@ use Rattle.layout_list.specs.declared.fault.LayoutFault as layouts
 use Rattle.layout_maker.specs.declared.fault.MakeFault as make
 use Rattle.am_answer.specs.declared.status.Place as place
 use Rattle.am_answer.specs.declared.status.Status.{Status}
-use Rattle.am_answer.specs.declared.status.Status.TheVariants.{Done, Refuted, BadWords, Unread, BadPbn, BadLayouts, NoTurn, Spent, Unwritten, Memory, TooLong, BadReport, BadMake, NoLayout}
+use Rattle.am_answer.specs.declared.status.Status.TheVariants.{Done, Refuted, BadWords, Unread, BadPbn, BadLayouts, NoTurn, Spent, Unwritten, Memory, TooLong, BadReport, BadMake, NoLayout, BadLog, Unproved}
 use Rattle.am_line.specs.Names.{file_name, deal_name, kind_name, report_name}
 
 -- pieces of a line, one after another
@@ -23,6 +23,7 @@ abbrev pub layouts_line : layouts.LayoutFault → List (List ℕ)
 layouts_line (layouts.TheVariants.BadLine line fault) = codes "alphamu: layouts line " ∷ decimal line ∷ codes ": BadLine " ∷ deal_name fault ∷ codes "\n" ∷ []
 layouts_line (layouts.TheVariants.OtherHands line) = codes "alphamu: layouts line " ∷ decimal line ∷ codes ": OtherHands\n" ∷ []
 layouts_line (layouts.TheVariants.TooMany line) = codes "alphamu: layouts line " ∷ decimal line ∷ codes ": TooMany\n" ∷ []
+layouts_line (layouts.TheVariants.BadWeight line) = codes "alphamu: layouts line " ∷ decimal line ∷ codes ": BadWeight\n" ∷ []
 layouts_line layouts.TheVariants.NoneLeft = codes "alphamu: layouts: NoneLeft\n" ∷ []
 layouts_line layouts.TheVariants.Memory = codes "alphamu: out of memory\n" ∷ []
 
@@ -34,12 +35,13 @@ spent_line card = codes "alphamu: nodes spent at " ∷ letters_of card ∷ codes
 abbrev pub refuted_line : ℕ → place.Place → List (List ℕ)
 refuted_line plan place.TheVariants.Head = codes "alphamu: plan " ∷ decimal plan ∷ codes ": head differs\n" ∷ []
 refuted_line plan place.TheVariants.Width = codes "alphamu: plan " ∷ decimal plan ∷ codes ": width differs\n" ∷ []
+refuted_line plan place.TheVariants.Weight = codes "alphamu: plan " ∷ decimal plan ∷ codes ": weight differs\n" ∷ []
 refuted_line plan (place.TheVariants.Node node) = codes "alphamu: plan " ∷ decimal plan ∷ codes ": not a strategy at node " ∷ decimal node ∷ codes "\n" ∷ []
 refuted_line plan (place.TheVariants.Layout layout bit) = codes "alphamu: plan " ∷ decimal plan ∷ codes ": layout " ∷ decimal layout ∷ (if bit then codes " is 1\n" else codes " is 0\n") ∷ []
 
 -- how many layouts fit, where they aren't listed
 abbrev pub make_line : make.MakeFault → List (List ℕ)
-make_line (make.TheVariants.MoreThan64 count) = codes "alphamu: " ∷ decimal count ∷ codes " layouts fit\n" ∷ []
+make_line (make.TheVariants.TooManyFit count) = codes "alphamu: " ∷ decimal count ∷ codes " layouts fit\n" ∷ []
 make_line make.TheVariants.NoneFit = codes "alphamu: 0 layouts fit\n" ∷ []
 make_line make.TheVariants.NotShown = codes "alphamu: defenders not shown\n" ∷ []
 make_line make.TheVariants.Memory = codes "alphamu: out of memory\n" ∷ []
@@ -60,6 +62,8 @@ pieces_of (TooLong file) = codes "alphamu: " ∷ file_name file ∷ codes " too 
 pieces_of (BadReport line kind) = codes "alphamu: report line " ∷ decimal line ∷ codes ": " ∷ report_name kind ∷ codes "\n" ∷ []
 pieces_of (BadMake fault) = make_line fault
 pieces_of (NoLayout layout) = codes "alphamu: no layout " ∷ decimal layout ∷ codes "\n" ∷ []
+pieces_of (BadLog line) = codes "alphamu: log file line " ∷ decimal line ∷ codes "\n" ∷ []
+pieces_of (Unproved line) = codes "alphamu: log line " ∷ decimal line ∷ codes " not proved\n" ∷ []
 
 -- the line of a status
 unfoldable pub status_line : Status → List ℕ

@@ -12,6 +12,7 @@ abbrev pub file_name : file.FileWord → List ℕ
 file_name file.TheVariants.Deal = codes "deal"
 file_name file.TheVariants.Layouts = codes "layouts"
 file_name file.TheVariants.Report = codes "report"
+file_name file.TheVariants.Log = codes "log"
 
 abbrev pub syntax_name : syntax.Syntax → List ℕ
 syntax_name syntax.TheVariants.OpenString = codes "OpenString"

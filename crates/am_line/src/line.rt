@@ -60,6 +60,14 @@ fn write_layouts<O: Sink>(out: &mut O, fault: LayoutFault) -> Result<(), SinkFai
                 b": TooMany\n",
             ],
         ),
+        LayoutFault::BadWeight(line) => write_pieces(
+            out,
+            &[
+                b"alphamu: layouts line ",
+                number.format(line).as_bytes(),
+                b": BadWeight\n",
+            ],
+        ),
         LayoutFault::NoneLeft => write_pieces(out, &[b"alphamu: layouts: NoneLeft\n"]),
         LayoutFault::Memory => write_pieces(out, &[b"alphamu: out of memory\n"]),
     }
@@ -77,6 +85,7 @@ fn write_refuted<O: Sink>(out: &mut O, plan: u32, place: Place) -> Result<(), Si
     match place {
         Place::Head => write_pieces(out, &[b"alphamu: plan ", number, b": head differs\n"]),
         Place::Width => write_pieces(out, &[b"alphamu: plan ", number, b": width differs\n"]),
+        Place::Weight => write_pieces(out, &[b"alphamu: plan ", number, b": weight differs\n"]),
         Place::Node(node) => write_pieces(
             out,
             &[
@@ -115,7 +124,7 @@ fn write_make<O: Sink>(out: &mut O, fault: MakeFault) -> Result<(), SinkFailed>
 {
     let mut number = Buffer::new();
     match fault {
-        MakeFault::MoreThan64(count) => write_pieces(
+        MakeFault::TooManyFit(count) => write_pieces(
             out,
             &[
                 b"alphamu: ",
@@ -178,6 +187,22 @@ fn write_line<O: Sink>(out: &mut O, status: &Status) -> Result<(), SinkFailed>
                 b"alphamu: no layout ",
                 number.format(*layout).as_bytes(),
                 b"\n",
+            ],
+        ),
+        Status::BadLog(line) => write_pieces(
+            out,
+            &[
+                b"alphamu: log file line ",
+                number.format(*line).as_bytes(),
+                b"\n",
+            ],
+        ),
+        Status::Unproved(line) => write_pieces(
+            out,
+            &[
+                b"alphamu: log line ",
+                number.format(*line).as_bytes(),
+                b" not proved\n",
             ],
         ),
     }

@@ -15,6 +15,7 @@ pub fn file_name(file: FileWord) -> &'static [u8]
         FileWord::Deal => b"deal",
         FileWord::Layouts => b"layouts",
         FileWord::Report => b"report",
+        FileWord::Log => b"log",
     }
 }
 

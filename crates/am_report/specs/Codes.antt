@@ -4,7 +4,7 @@ use Rattle.std.specs.Coded.{Coded, code_by, coded×, coded_ℕ, coded_bool, code
 use base.Stored.{Gv, gnil, gnum, gcons, num}
 use mathlib.Core.Path.{sym, ap, subst}
 use Rattle.strategy_games.specs.Plans.{Plan, Replies, Stop, Play, Hear, NoReply, Reply}
-use Rattle.am_report.specs.Answers.{EntryValue, SolveAnswerValue}
+use Rattle.am_report.specs.Answers.{EntryValue, ReadEntryValue, SolveAnswerValue}
 
 -- ---- the parts of a tree
 
@@ -71,8 +71,12 @@ entry_code =
     (λ p. record { vector = p.0; plan = p.1 })
     (λ _. refl)
 
+abbrev pub read_entry_code : Coded ReadEntryValue
+read_entry_code =
+    code_by (EntryValue × ℕ) (coded× entry_code coded_ℕ) (λ e. (e.entry, e.weight)) (λ p. record { entry = p.0; weight = p.1 }) (λ _. refl)
+
 abbrev pub answer_code : Coded SolveAnswerValue
 answer_code =
-    code_by (List EntryValue × (ℕ × ℕ)) (coded× (coded_list entry_code) (coded× coded_ℕ coded_ℕ)) (λ a. (a.entries, (a.card, a.count)))
-    (λ p. record { entries = p.0; card = p.1.0; count = p.1.1 })
+    code_by (List EntryValue × (ℕ × ℕ)) (coded× (coded_list entry_code) (coded× coded_ℕ coded_ℕ)) (λ a. (a.entries, (a.card, a.weight)))
+    (λ p. record { entries = p.0; card = p.1.0; weight = p.1.1 })
     (λ _. refl)

@@ -15,6 +15,7 @@ use Rattle.layout_list.specs.declared.kept.Dropped.{Dropped}
 use Rattle.layout_list.specs.Kept.{KeptValue}
 use Rattle.byte_text.specs.Lines.{line_of}
 use Rattle.am_report.specs.Lines.{spaced}
+use Rattle.am_report.specs.Versions.{version_of, version_number, weights_line}
 
 -- the letter of a seat's place at the table
 abbrev pub seat_text : BoardValue → Seat → List ℕ
@@ -62,11 +63,13 @@ position_text board table =
 unfoldable pub kept_line : List ℕ → List ℕ
 kept_line numbers = line_of (codes "kept " ++ spaced decimal numbers)
 
--- the whole head: the table, the moves of declarer's side, the kept layouts, and a line for each dropped one
+-- the whole head: the version, the table, the moves of declarer's side, the kept layouts with their weights, and a line for
+-- each dropped one
 unfoldable pub head_text : BoardValue → KeptValue → ℕ → List ℕ
 head_text board kept moves =
-    line_of (codes "alphamu report 1")
+    line_of (codes "alphamu report " ++ version_number (version_of kept.weights))
     ++ position_text board kept.node.position
     ++ line_of (codes "moves " ++ decimal moves)
     ++ kept_line kept.numbers
+    ++ weights_line (version_of kept.weights) kept.weights
     ++ flat_map dropped_line kept.dropped

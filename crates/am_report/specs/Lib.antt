@@ -1,10 +1,12 @@
 pub mod Answers
 pub mod Codes
 pub mod Lines
+pub mod Versions
 pub mod Head
 pub mod Card
 pub mod Solve
 pub mod Check
+pub mod Audit
 pub mod Made
 pub mod Match
 pub mod Fusion

@@ -1,5 +1,5 @@
 -- How a report is read: the version, the head, the front with its plans, the card to play and the end. The first fault is the answer.
-use Rattle.std.specs.Prelude.{◌≡◌, ℕ, zero, suc, ◌+◌, ◌-◌, Bool, List, [], ◌∷◌, length, take, drop, find, Option, Some, None, option_and_then, Result, Ok, Err, if◌then◌else◌, codes}
+use Rattle.std.specs.Prelude.{◌≡◌, ℕ, zero, suc, ◌+◌, ◌-◌, ◌++◌, Bool, List, [], ◌∷◌, length, take, drop, find, Option, Some, None, option_and_then, Result, Ok, Err, ok_or, if◌then◌else◌, codes}
 use Rattle.std.specs.Option.{option_map, is_some}
 use Rattle.std.specs.List.{slice_split, filter_map, range_with_len}
 use Rattle.strategy_games.specs.Plans.{Plan as PlanValue}
@@ -14,16 +14,21 @@ use Rattle.am_report.specs.declared.fault.ReportFault.{ReportFault}
 use Rattle.am_report.specs.declared.fault.ReportFault.TheVariants as faults
 use Rattle.am_report.specs.declared.reading.Head.{Head}
 use Rattle.am_report.specs.declared.reading.ReadReport.{ReadReport}
-use Rattle.am_report.specs.Answers.{EntryValue}
+use Rattle.am_report.specs.declared.version.Version.{Version}
+use Rattle.am_report.specs.declared.version.Version.TheVariants.{Counts, Weights}
+use Rattle.am_report.specs.Versions.{version_number}
+use Rattle.am_report.specs.Answers.{ReadEntryValue}
 use Rattle.am_report.specs.ReportLines.{front_said, moves_said, vector_said, card_said}
 
--- what a report says: the text of its head, the moves, the front with its plans, the card to play and its count of layouts
+-- what a report says: its version, the text of its head, the moves, the front with its plans, the card to play, and how many
+-- layouts make the contract, or their weight
 pub record ReadReportValue : Type 0 where
+  pub version : Version
   pub head : List ℕ
   pub moves : ℕ
-  pub entries : List EntryValue
+  pub entries : List ReadEntryValue
   pub card : ℕ
-  pub count : ℕ
+  pub weight : ℕ
 
 -- ---- lines by their numbers
 
@@ -38,9 +43,13 @@ expected kind bytes at (Some x) = Ok x
 
 -- ---- the head
 
--- line 1
-abbrev pub has_version : List ℕ → Bool
-has_version bytes = is_some (text_after (line_of (codes "alphamu report 1")) bytes)
+-- whether line 1 is that of a version
+abbrev pub has_version : Version → List ℕ → Bool
+has_version version bytes = is_some (text_after (line_of (codes "alphamu report " ++ version_number version)) bytes)
+
+-- the version that line 1 gives
+unfoldable pub version_said : List ℕ → Option Version
+version_said bytes = if has_version Counts bytes then Some Counts else if has_version Weights bytes then Some Weights else None
 
 -- whether a line that begins with `front ` follows the line end at a place
 abbrev pub is_front : List ℕ → ℕ → Bool
@@ -87,19 +96,19 @@ plan_or_fault bytes (Err (plan_faults.Line at)) = Err (line_number bytes at, kin
 plan_or_fault bytes (Err (plan_faults.Deep at)) = Err (line_number bytes at, kinds.TooDeep)
 plan_or_fault bytes (Err plan_faults.Memory) = Err (0, kinds.Plan)
 
--- a vector with its plan, and the place after them
-unfoldable pub entry_read : List ℕ → ℕ → Result (EntryValue × ℕ) (ℕ × ReportKind)
-entry_read bytes at = do
-  said ← expected kinds.Vector bytes at (said_at vector_said bytes at)
+-- a vector with its weight and its plan, and the place after them
+unfoldable pub entry_read : Version → List ℕ → ℕ → Result (ReadEntryValue × ℕ) (ℕ × ReportKind)
+entry_read version bytes at = do
+  said ← expected kinds.Vector bytes at (said_at (vector_said version) bytes at)
   plan ← plan_or_fault bytes (plan_read bytes said.1)
-  Ok (record { vector = said.0; plan = plan.0 }, plan.1)
+  Ok (record { entry = record { vector = said.0.0; plan = plan.0 }; weight = said.0.1 }, plan.1)
 
 -- so many of them, and the place after them
-abbrev pub entries_read : ℕ → List ℕ → ℕ → Result (List EntryValue × ℕ) (ℕ × ReportKind)
-entries_read zero bytes at = Ok ([], at)
-entries_read (suc count) bytes at = do
-  entry ← entry_read bytes at
-  later ← entries_read count bytes entry.1
+abbrev pub entries_read : Version → ℕ → List ℕ → ℕ → Result (List ReadEntryValue × ℕ) (ℕ × ReportKind)
+entries_read version zero bytes at = Ok ([], at)
+entries_read version (suc count) bytes at = do
+  entry ← entry_read version bytes at
+  later ← entries_read version count bytes entry.1
   Ok (entry.0 ∷ later.0, later.1)
 
 -- ---- the whole
@@ -114,23 +123,39 @@ unfoldable pub end_read : List ℕ → ℕ → Result (Unit {0}) (ℕ × ReportK
 end_read bytes at = nothing_more bytes at (text_after (line_of (codes "end")) (drop at bytes))
 
 -- what stands below the version
-unfoldable pub below_read : List ℕ → Result ReadReportValue (ℕ × ReportKind)
-below_read bytes = do
+unfoldable pub below_read : Version → List ℕ → Result ReadReportValue (ℕ × ReportKind)
+below_read version bytes = do
   head ← head_read bytes
-  front ← entries_read head.vectors bytes head.next
-  said ← expected kinds.Card bytes front.1 (said_at card_said bytes front.1)
+  front ← entries_read version head.vectors bytes head.next
+  said ← expected kinds.Card bytes front.1 (said_at (card_said version) bytes front.1)
   ended ← end_read bytes said.1
-  Ok (record { head = take head.place bytes; moves = head.moves; entries = front.0; card = said.0.0; count = said.0.1 })
+  Ok (record {
+    version = version;
+    head = take head.place bytes;
+    moves = head.moves;
+    entries = front.0;
+    card = said.0.0;
+    weight = said.0.1;
+  })
 
 -- what a report says, or its first fault with its line
 unfoldable pub report_read : List ℕ → Result ReadReportValue (ℕ × ReportKind)
-report_read bytes = if has_version bytes then below_read bytes else Err (1, kinds.Version)
+report_read bytes = do
+  version ← ok_or (version_said bytes) (1, kinds.Version)
+  below_read version bytes
 
 -- ---- what the reader gives
 
 -- a report in memory
 abbrev pub report_of : ReadReport → ReadReportValue
-report_of report = record { head = report.head; moves = report.moves; entries = report.entries.items; card = report.card; count = report.count }
+report_of report = record {
+  version = report.version;
+  head = report.head;
+  moves = report.moves;
+  entries = report.entries.items;
+  card = report.card;
+  weight = report.weight;
+}
 
 -- the fault that was found, or memory ran out
 abbrev pub IsReportFaultOf : {A : Type 0} → ReportFault → Result A (ℕ × ReportKind) → Type 0

@@ -1,32 +1,34 @@
 -- The report of an answer.
 use Rattle.std.specs.Prelude.{ℕ, Bool, List, ◌++◌, length, map, flat_map, if◌then◌else◌, codes}
 use Rattle.std.specs.Fmt.{decimal}
-use Rattle.win_vectors.specs.Vectors.{ones_of}
+use Rattle.win_vectors.specs.Weights.{weight_of}
 use Rattle.pbn_deal.specs.Boards.{BoardValue}
 use Rattle.layout_list.specs.Kept.{KeptValue}
 use Rattle.byte_text.specs.Lines.{line_of}
 use Rattle.strategy_tree.specs.PlanText.{plan_text}
 use Rattle.am_report.specs.Answers.{EntryValue, SolveAnswerValue}
 use Rattle.am_report.specs.Head.{head_text}
-use Rattle.am_report.specs.Card.{count_text}
+use Rattle.am_report.specs.Card.{named_text}
+use Rattle.am_report.specs.Versions.{version_of, weight_text}
 
 -- 1 where the contract is made, and 0 where it isn't
 abbrev pub bit_letter : Bool → ℕ
 bit_letter bit = if bit then 49 else 48
 
--- a vector's bits, one for each kept layout, and how many of them are ones
-unfoldable pub vector_line : List Bool → List ℕ
-vector_line vector = line_of (codes "vector " ++ map bit_letter vector ++ codes " count " ++ decimal (ones_of vector))
+-- a vector's bits, one for each kept layout, and how many of them are ones, or the weight of these
+unfoldable pub vector_line : List ℕ → List Bool → List ℕ
+vector_line weights vector =
+    line_of (codes "vector " ++ map bit_letter vector ++ weight_text (version_of weights) (weight_of weights vector))
 
 -- a vector of the front, and its plan
-unfoldable pub entry_text : EntryValue → List ℕ
-entry_text entry = vector_line entry.vector ++ plan_text entry.plan
+unfoldable pub entry_text : List ℕ → EntryValue → List ℕ
+entry_text weights entry = vector_line weights entry.vector ++ plan_text entry.plan
 
 -- the head, the front with its plans, and the card to play
 unfoldable pub solve_text : BoardValue → KeptValue → ℕ → SolveAnswerValue → List ℕ
 solve_text board kept moves answer =
     head_text board kept moves
     ++ line_of (codes "front " ++ decimal (length answer.entries))
-    ++ flat_map entry_text answer.entries
-    ++ line_of (count_text answer.card answer.count)
+    ++ flat_map (entry_text kept.weights) answer.entries
+    ++ line_of (named_text (version_of kept.weights) answer.card answer.weight)
     ++ line_of (codes "end")

@@ -23,13 +23,31 @@ impl Model for Entry {
     ghost view = { λ entry. record { vector = entry.vector; plan = plan_of entry.plan } };
 }
 
-/// The front with a plan for each of its vectors, in vector order; the card to play, and in how
-/// many of the kept layouts the contract is made.
+/// An entry as a report gives it, with the number behind the vector: how many layouts it wins, or their weight.
+#[derive(Debug, Drop)]
+pub struct ReadEntry {
+    pub entry: Entry,
+    pub weight: u32,
+}
+
+impl Model for ReadEntry {
+    ghost use Rattle.am_report.specs.Answers.{ReadEntryValue};
+    ghost use Rattle.am_report.specs.Codes.{read_entry_code};
+
+    ghost Value = { ReadEntryValue };
+
+    ghost coded = { read_entry_code };
+
+    ghost view = { λ read. record { entry = read.entry; weight = read.weight } };
+}
+
+/// The front with a plan for each of its vectors, in report order; the card to play, and the weight
+/// of the kept layouts in which the contract is made.
 #[derive(Debug, Drop)]
 pub struct SolveAnswer {
     pub entries: Vec<Entry>,
     pub card: Card,
-    pub count: u16,
+    pub weight: u32,
 }
 
 impl Model for SolveAnswer {
@@ -43,6 +61,6 @@ impl Model for SolveAnswer {
     ghost view = { λ answer. record {
       entries = answer.entries.items;
       card = answer.card;
-      count = answer.count;
+      weight = answer.weight;
     } };
 }

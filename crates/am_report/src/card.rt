@@ -1,38 +1,49 @@
 //! The text of an answer that is one card.
 ghost use Rattle.std.specs.Prelude.{◌≡◌, ◌++◌, IfOk, OnOk};
-ghost use Rattle.am_report.specs.Card.{card_text, count_text};
+ghost use Rattle.am_report.specs.Card.{card_text, named_text};
 
 use crate::lines::push_line;
+use crate::version::{Version, push_weight};
 use byte_text::Text;
 use card_letters::letters_of;
 use card_sets::Card;
 use std::alloc::{AllocError, Global};
+use win_vectors::{Weights, WinVector};
 
-// Appends `card`, the card, `count` and the number.
-pub(crate) fn push_count(
+// Appends `card`, the card, and the count or weight with its word.
+#[tactic(auto, unfolding(crate::specs::Card::named_text))]
+pub(crate) fn push_named(
     text: &mut Text,
     alloc: Global,
+    version: Version,
     card: Card,
-    count: u16,
+    weight: u32,
 ) -> Result<(), AllocError>
-    ensures { OnOk result (text.new ≡ text.old ++ count_text card count) }
+    ensures { OnOk result (text.new ≡ text.old ++ named_text version card weight) }
 {
     text.push(b"card ")?;
     text.push(&letters_of(card))?;
-    text.push(b" count ")?;
-    text.push_number(alloc, u64::from(count))
+    push_weight(text, alloc, version, weight)
 }
 
-/// The card to play, and in how many of how many kept layouts the contract is made.
+/// The card to play, and how many of how many kept layouts make the contract: where each of them
+/// weighs 1, and else the weight of the former and of all.
 #[tactic(auto, unfolding(crate::specs::Card::card_text))]
-pub fn card_text(alloc: Global, card: Card, count: u16, width: u16) -> Result<Text, AllocError>
-    ensures { IfOk result (λ text. text ≡ card_text card count width) }
+pub fn card_text(
+    alloc: Global,
+    card: Card,
+    weight: u32,
+    weights: &Weights,
+) -> Result<Text, AllocError>
+    ensures { IfOk result (λ text. text ≡ card_text card weight weights.now) }
 {
+    let version = Version::of(weights);
     let mut text = Text::new(alloc);
-    text.push(b"alphamu card 1\n")?;
-    push_count(&mut text, alloc, card, count)?;
+    push_line(&mut text, b"alphamu card ", version.number())?;
+    push_named(&mut text, alloc, version, card, weight)?;
     text.push(b" of ")?;
-    text.push_number(alloc, u64::from(width))?;
+    let all = WinVector::all(weights.width());
+    text.push_number(alloc, u64::from(weights.total(all)))?;
     text.push(b"\n")?;
     Ok(text)
 }

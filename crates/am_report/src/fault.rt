@@ -8,15 +8,16 @@ use thiserror::Error;
 /// What the first line at fault was to be.
 #[derive(Clone, Copy, Debug, PartialEq, Eq, Error)]
 pub enum ReportKind {
-    /// Line 1 isn't `alphamu report 1`.
+    /// Line 1 is neither `alphamu report 1` nor `alphamu report 2`.
     #[error("line 1 is not the version")]
     Version,
     /// The lines above the front haven't exactly one number of moves from 1 to 26, or no line gives
     /// the front's length.
     #[error("the head has no front, or not one number of moves")]
     Head,
-    /// A vector's line isn't 1 to 64 bits and the count of its ones.
-    #[error("a vector does not stand with its count")]
+    /// A vector's line isn't 1 to 256 bits with the count of its ones, or in version 2 with a weight
+    /// from 0 to 256,000,000.
+    #[error("a vector does not stand with its count or weight")]
     Vector,
     /// A plan's line isn't one that may stand there.
     #[error("a line is none of a plan")]
@@ -24,8 +25,9 @@ pub enum ReportKind {
     /// A plan's node would stand at level 65, whatever its line says.
     #[error("a plan has more than 64 levels")]
     TooDeep,
-    /// The line after the last plan isn't the card with a count from 0 to 64.
-    #[error("the card does not stand with its count")]
+    /// The line after the last plan isn't the card with a count from 0 to 256, or in version 2 with a
+    /// weight from 0 to 256,000,000.
+    #[error("the card does not stand with its count or weight")]
     Card,
     /// The last line isn't `end`, or something follows it.
     #[error("the report does not end")]

@@ -1,52 +1,69 @@
 //! The text of plain sampling: each card with its vector, and the card that is named.
-ghost use Rattle.std.specs.Prelude.{◌≡◌, ◌++◌, IfOk, OnOk, flat_map};
-ghost use Rattle.am_report.specs.Fusion.{judged_line, most_ones, first_best, named_line, fusion_text};
+ghost use Rattle.std.specs.Prelude.{◌≡◌, ◌++◌, IfOk, OnOk, flat_map, length, All};
+ghost use Rattle.am_report.specs.Fusion.{judged_line, greatest_of, first_best};
+ghost use Rattle.am_report.specs.Fusion.{named_line, fusion_text};
 
 use crate::lines::push_line;
 use crate::solve::push_vector_line;
+use crate::version::Version;
 use byte_text::Text;
 use card_letters::letters_of;
 use fusion_base::CardVector;
 use std::alloc::{AllocError, Global};
+use win_vectors::Weights;
 
 #[tactic(auto, unfolding(crate::specs::Fusion::judged_line))]
-fn push_judged_line(text: &mut Text, alloc: Global, entry: &CardVector) -> Result<(), AllocError>
-    ensures { OnOk result (text.new ≡ text.old ++ judged_line entry.now) }
+fn push_judged_line(
+    text: &mut Text,
+    alloc: Global,
+    weights: &Weights,
+    entry: &CardVector,
+) -> Result<(), AllocError>
+    requires { length weights.now ≡ length entry.now.vector }
+    ensures { OnOk result (text.new ≡ text.old ++ judged_line weights.now entry.now) }
 {
     text.push(b"card ")?;
     text.push(&letters_of(entry.card))?;
     text.push(b" ")?;
-    push_vector_line(text, alloc, entry.vector)
+    push_vector_line(text, alloc, weights, entry.vector)
 }
 
 // Appends a line for each card.
-fn push_judged(text: &mut Text, alloc: Global, table: &[CardVector]) -> Result<(), AllocError>
-    ensures { OnOk result (text.new ≡ text.old ++ flat_map judged_line table.now) }
+fn push_judged(
+    text: &mut Text,
+    alloc: Global,
+    weights: &Weights,
+    table: &[CardVector],
+) -> Result<(), AllocError>
+    requires { All (λ entry. length weights.now ≡ length entry.vector) table.now }
+    ensures { OnOk result (text.new ≡ text.old ++ flat_map (judged_line weights.now) table.now) }
 {
     for entry in table {
-        push_judged_line(text, alloc, entry)?;
+        push_judged_line(text, alloc, weights, entry)?;
     }
     Ok(())
 }
 
-// The greatest count of ones.
-fn most_ones(table: &[CardVector]) -> u16
-    ensures { result ≡ most_ones table.now }
+// The greatest weight of a card's vector.
+fn greatest_of(weights: &Weights, table: &[CardVector]) -> u32
+    requires { All (λ entry. length weights.now ≡ length entry.vector) table.now }
+    ensures { result ≡ greatest_of weights.now table.now }
 {
-    let mut most = 0;
+    let mut greatest = 0;
     for entry in table {
-        most = most.max(entry.vector.count());
+        greatest = greatest.max(weights.total(entry.vector));
     }
-    most
+    greatest
 }
 
-// The first entry with the greatest count of ones.
-fn first_best(table: &[CardVector]) -> Option<CardVector>
-    ensures { result ≡ first_best table.now }
+// The first entry of the greatest weight.
+fn first_best(weights: &Weights, table: &[CardVector]) -> Option<CardVector>
+    requires { All (λ entry. length weights.now ≡ length entry.vector) table.now }
+    ensures { result ≡ first_best weights.now table.now }
 {
-    let most = most_ones(table);
+    let greatest = greatest_of(weights, table);
     for entry in table {
-        if entry.vector.count() == most {
+        if weights.total(entry.vector) == greatest {
             return Some(*entry);
         }
     }
@@ -62,15 +79,21 @@ fn push_named_line(text: &mut Text, named: Option<CardVector>) -> Result<(), All
     }
 }
 
-/// A line for each card with its vector and the count of its ones, in the table's order; and the
-/// first card with the greatest count, which a table that is empty doesn't have.
+/// A line for each card with its vector and the weight of this, in the table's order; and the first
+/// card of the greatest weight, which a table that is empty doesn't have. Where each layout weighs
+/// 1, the weight is a count of layouts.
 #[tactic(auto, unfolding(crate::specs::Fusion::fusion_text))]
-pub fn fusion_text(alloc: Global, table: &[CardVector]) -> Result<Text, AllocError>
-    ensures { IfOk result (λ text. text ≡ fusion_text table.now) }
+pub fn fusion_text(
+    alloc: Global,
+    table: &[CardVector],
+    weights: &Weights,
+) -> Result<Text, AllocError>
+    requires { All (λ entry. length weights.now ≡ length entry.vector) table.now }
+    ensures { IfOk result (λ text. text ≡ fusion_text table.now weights.now) }
 {
     let mut text = Text::new(alloc);
-    text.push(b"alphamu fusion 1\n")?;
-    push_judged(&mut text, alloc, table)?;
-    push_named_line(&mut text, first_best(table))?;
+    push_line(&mut text, b"alphamu fusion ", Version::of(weights).number())?;
+    push_judged(&mut text, alloc, weights, table)?;
+    push_named_line(&mut text, first_best(weights, table))?;
     Ok(text)
 }

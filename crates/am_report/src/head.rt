@@ -3,9 +3,13 @@ ghost use Rattle.std.specs.Prelude.{◌≡◌, ◌++◌, IfOk, OnOk, flat_map, c
 ghost use Rattle.std.specs.Fmt.{decimal};
 ghost use Rattle.byte_text.specs.Lines.{line_of};
 ghost use Rattle.am_report.specs.Lines.{spaced};
-ghost use Rattle.am_report.specs.Head.{trump_text, hand_line, cards_text, trick_line, cause_text, dropped_line, kept_line, position_text, head_text};
+ghost use Rattle.am_report.specs.Head.{trump_text, hand_line, cards_text, trick_line};
+ghost use Rattle.am_report.specs.Head.{cause_text, dropped_line, kept_line, position_text};
+ghost use Rattle.am_report.specs.Head.{head_text};
+ghost use Rattle.am_report.specs.Versions.{weights_line};
 
 use crate::lines::{push_line, push_number_line};
+use crate::version::Version;
 use byte_text::Text;
 use card_letters::{compass_letter, letters_of, suit_letter};
 use card_sets::{Card, CardSet, Seat};
@@ -13,6 +17,7 @@ use layout_list::{Cause, Dropped, Kept};
 use pbn_deal::{Board, hand_text};
 use std::alloc::{AllocError, Global};
 use trick_rules::{Position, Trick, Trump};
+use win_vectors::Weights;
 
 fn push_trump_line(text: &mut Text, trump: Trump) -> Result<(), AllocError>
     ensures { OnOk result (text.new ≡ text.old ++ line_of (codes "trump " ++ trump_text trump)) }
@@ -110,6 +115,37 @@ fn push_kept_line(text: &mut Text, alloc: Global, numbers: &[u16]) -> Result<(),
     text.push(b"\n")
 }
 
+// Appends weights with single spaces between them.
+fn push_each_weight(text: &mut Text, alloc: Global, weights: &Weights) -> Result<(), AllocError>
+    ensures { OnOk result (text.new ≡ text.old ++ spaced decimal weights.now) }
+{
+    text.push_number(alloc, u64::from(weights.get(0)))?;
+    for place in 1..weights.width() {
+        text.push(b" ")?;
+        text.push_number(alloc, u64::from(weights.get(place)))?;
+    }
+    Ok(())
+}
+
+// Appends the line of the weights, where the version has it.
+fn push_weights_line(
+    text: &mut Text,
+    alloc: Global,
+    version: Version,
+    weights: &Weights,
+) -> Result<(), AllocError>
+    ensures { OnOk result (text.new ≡ text.old ++ weights_line version weights.now) }
+{
+    match version {
+        Version::Counts => Ok(()),
+        Version::Weights => {
+            text.push(b"weights ")?;
+            push_each_weight(text, alloc, weights)?;
+            text.push(b"\n")
+        }
+    }
+}
+
 fn cause_text(cause: Cause) -> &'static [u8]
     ensures { result.now ≡ cause_text cause }
 {
@@ -141,17 +177,19 @@ fn push_dropped(text: &mut Text, alloc: Global, dropped: &[Dropped]) -> Result<(
 }
 
 /// The head of a report: the table after the play, with declarer's hand and then dummy's; the moves
-/// that declarer's side has, and the numbers of the kept layouts; and for each dropped layout the
-/// cause and the card that it contradicts.
+/// that declarer's side has, and the numbers of the kept layouts, with their weights where not each
+/// weighs 1; and for each dropped layout the cause and the card that it contradicts.
 #[tactic(auto, unfolding(crate::specs::Head::head_text))]
 pub fn head_text(alloc: Global, board: &Board, kept: &Kept, moves: u8) -> Result<Text, AllocError>
     ensures { IfOk result (λ text. text ≡ head_text board.now kept.now moves) }
 {
     let mut text = Text::new(alloc);
-    text.push(b"alphamu report 1\n")?;
+    let version = Version::of(&kept.weights);
+    push_line(&mut text, b"alphamu report ", version.number())?;
     push_position(&mut text, alloc, board, kept.node.position())?;
     push_number_line(&mut text, alloc, b"moves ", u64::from(moves))?;
     push_kept_line(&mut text, alloc, &kept.numbers)?;
+    push_weights_line(&mut text, alloc, version, &kept.weights)?;
     push_dropped(&mut text, alloc, &kept.dropped)?;
     Ok(text)
 }

@@ -8,11 +8,11 @@ ghost use Rattle.am_report.specs.Solve.{solve_text};
 ghost use Rattle.am_report.specs.Reading.{report_read};
 ghost use Rattle.am_report.specs.ReadBack.{IsPrintable, printed_report};
 
-/// What is written of an answer is read back as the same head, moves, vectors, plans, card and
-/// count.
+/// What is written of an answer is read back as the same version, head, moves, vectors, plans, card
+/// and weights.
 pub fn solve_text_reads_back()
     ensures { (board : BoardValue) (kept : KeptValue) (moves : ℕ) (answer : SolveAnswerValue)
-        → IsPrintable moves answer
+        → IsPrintable kept.weights moves answer
         → report_read (solve_text board kept moves answer)
         ≡ Ok (printed_report board kept moves answer) }
 {}

@@ -7,6 +7,7 @@
 #![tactic(auto)]
 
 mod answer;
+mod audit;
 mod card;
 mod check;
 mod fault;
@@ -20,8 +21,10 @@ mod played;
 mod reading;
 mod report_lines;
 mod solve;
+mod version;
 
-pub use answer::{Entry, SolveAnswer};
+pub use answer::{Entry, ReadEntry, SolveAnswer};
+pub use audit::audit_text;
 pub use card::card_text;
 pub use check::check_text;
 pub use fault::{ReportFault, ReportKind};
@@ -32,3 +35,4 @@ pub use made::{MadeSummary, made_text};
 pub use played::match_text;
 pub use reading::{ReadReport, read_report};
 pub use solve::solve_text;
+pub use version::Version;

@@ -4,11 +4,16 @@ ghost use Rattle.std.specs.List.{range_with_len};
 ghost use Rattle.strategy_tree.specs.PlanMeaning.{plan_of};
 ghost use Rattle.byte_text.specs.Lines.{said_at, line_number};
 ghost use Rattle.am_report.specs.ReportLines.{vector_said, card_said};
-ghost use Rattle.am_report.specs.Reading.{expected, line_after_last, has_version, is_front, front_place, moves_of_head, head_said, head_read, report_fault, entry_read, entries_read, end_read, below_read, report_read, report_of, IsReportFaultOf, GivesReport};
+ghost use Rattle.am_report.specs.Reading.{expected, line_after_last, has_version, version_said};
+ghost use Rattle.am_report.specs.Reading.{is_front, front_place, moves_of_head, head_said};
+ghost use Rattle.am_report.specs.Reading.{head_read, report_fault, entry_read, entries_read};
+ghost use Rattle.am_report.specs.Reading.{end_read, below_read, report_read, report_of};
+ghost use Rattle.am_report.specs.Reading.{IsReportFaultOf, GivesReport};
 
-use crate::answer::Entry;
+use crate::answer::{Entry, ReadEntry};
 use crate::fault::{ReportFault, ReportKind};
 use crate::report_lines::{card_at, front_at, read_moves, vector_at};
+use crate::version::Version;
 use byte_text::{Text, line_number, split_line, text_after};
 use card_sets::Card;
 use std::alloc::Global;
@@ -18,15 +23,16 @@ use win_vectors::WinVector;
 /// What a report says.
 #[derive(Debug, Drop)]
 pub struct ReadReport {
+    pub version: Version,
     /// The text of the lines above the front.
     pub head: Text,
     /// The number of moves that the head gives.
     pub moves: u8,
-    /// The front: each vector with its plan.
-    pub entries: Vec<Entry>,
+    /// The front: each vector with its weight and its plan.
+    pub entries: Vec<ReadEntry>,
     pub card: Card,
-    /// In how many of the kept layouts the contract is made.
-    pub count: u16,
+    /// How many of the kept layouts make the contract, or their weight.
+    pub weight: u32,
 }
 
 /// What the lines down to the front's length say, with the places where that line and the next one
@@ -48,39 +54,47 @@ pub fn read_report(alloc: Global, bytes: &[u8]) -> Result<ReadReport, ReportFaul
     ensures read { IfOk result (λ report. report_read bytes.now ≡ Ok (report_of report)) }
     ensures fault { IfErr result (λ fault. IsReportFaultOf fault (report_read bytes.now)) }
 {
-    if !has_version(bytes) {
-        return Err(ReportFault::Fault {
+    match read_version(bytes) {
+        Some(version) => read_below(alloc, version, bytes),
+        None => Err(ReportFault::Fault {
             line: 1,
             kind: ReportKind::Version,
-        });
+        }),
     }
-    read_below(alloc, bytes)
 }
 
-// Whether line 1 is the version.
-fn has_version(bytes: &[u8]) -> bool
-    ensures { result ≡ has_version bytes.now }
+// The version that line 1 gives.
+#[tactic(auto, unfolding(crate::specs::Reading::version_said))]
+fn read_version(bytes: &[u8]) -> Option<Version>
+    ensures { result ≡ version_said bytes.now }
 {
-    text_after(bytes, b"alphamu report 1\n").is_some()
+    if text_after(bytes, b"alphamu report 1\n").is_some() {
+        Some(Version::Counts)
+    } else if text_after(bytes, b"alphamu report 2\n").is_some() {
+        Some(Version::Weights)
+    } else {
+        None
+    }
 }
 
 // What the lines below the version say.
-fn read_below(alloc: Global, bytes: &[u8]) -> Result<ReadReport, ReportFault>
+fn read_below(alloc: Global, version: Version, bytes: &[u8]) -> Result<ReadReport, ReportFault>
     requires { length bytes.now < 2 ^ 32 - 1 }
-    ensures read { IfOk result (λ report. below_read bytes.now ≡ Ok (report_of report)) }
-    ensures fault { IfErr result (λ fault. IsReportFaultOf fault (below_read bytes.now)) }
+    ensures read { IfOk result (λ report. below_read version bytes.now ≡ Ok (report_of report)) }
+    ensures fault { IfErr result (λ fault. IsReportFaultOf fault (below_read version bytes.now)) }
 {
     let head = read_head(bytes)?;
-    let (entries, at) = read_entries(alloc, bytes, head.next, head.vectors)?;
-    let (named, next) = read_card(bytes, at)?;
+    let (entries, at) = read_entries(alloc, version, bytes, head.next, head.vectors)?;
+    let (named, next) = read_card(version, bytes, at)?;
     read_end(bytes, next)?;
     let text = Text::from_bytes(alloc, &bytes[..head.place])?;
     Ok(ReadReport {
+        version,
         head: text,
         moves: head.moves,
         entries,
         card: named.0,
-        count: named.1,
+        weight: named.1,
     })
 }
 
@@ -207,36 +221,50 @@ fn read_head(bytes: &[u8]) -> Result<Head, ReportFault>
     }
 }
 
-// The vector's line, and the place after it.
-fn read_vector(bytes: &[u8], at: usize) -> Result<(WinVector, usize), ReportFault>
+// The vector's line with its weight, and the place after it.
+fn read_vector(
+    version: Version,
+    bytes: &[u8],
+    at: usize,
+) -> Result<((WinVector, u32), usize), ReportFault>
     requires place { at ≤ length bytes.now }
     requires short { length bytes.now < 2 ^ 32 - 1 }
     ensures read { GivesReport result
-        (expected ReportKind.Vector bytes.now at (said_at vector_said bytes.now at)) }
+        (expected ReportKind.Vector bytes.now at
+        (said_at (vector_said version) bytes.now at)) }
     ensures within { IfOk result (λ read. read.1 ≤ length bytes.now) }
 {
-    match vector_at(bytes, at) {
+    match vector_at(version, bytes, at) {
         Some(said) => Ok(said),
         None => Err(fault_at(bytes, at, ReportKind::Vector)),
     }
 }
 
-fn entry_of(vector: WinVector, plan: Plan) -> Entry
-    ensures { result ≡ record { vector = vector; plan = plan_of plan } }
+fn entry_of(vector: WinVector, weight: u32, plan: Plan) -> ReadEntry
+    ensures { result
+        ≡ record { entry = record { vector = vector; plan = plan_of plan }; weight = weight } }
 {
-    Entry { vector, plan }
+    ReadEntry {
+        entry: Entry { vector, plan },
+        weight,
+    }
 }
 
-// A vector with its plan, and the place after them.
-fn read_entry(alloc: Global, bytes: &[u8], at: usize) -> Result<(Entry, usize), ReportFault>
+// A vector with its weight and its plan, and the place after them.
+fn read_entry(
+    alloc: Global,
+    version: Version,
+    bytes: &[u8],
+    at: usize,
+) -> Result<(ReadEntry, usize), ReportFault>
     requires place { at ≤ length bytes.now }
     requires short { length bytes.now < 2 ^ 32 - 1 }
-    ensures read { GivesReport result (entry_read bytes.now at) }
+    ensures read { GivesReport result (entry_read version bytes.now at) }
     ensures within { IfOk result (λ read. read.1 ≤ length bytes.now) }
 {
-    let (vector, next) = read_vector(bytes, at)?;
+    let (said, next) = read_vector(version, bytes, at)?;
     match read_plan(alloc, bytes, next) {
-        Ok((plan, end)) => Ok((entry_of(vector, plan), end)),
+        Ok((plan, end)) => Ok((entry_of(said.0, said.1, plan), end)),
         Err(fault) => Err(report_fault(bytes, fault)),
     }
 }
@@ -244,37 +272,43 @@ fn read_entry(alloc: Global, bytes: &[u8], at: usize) -> Result<(Entry, usize), 
 // So many vectors with their plans, and the place after them.
 fn read_entries(
     alloc: Global,
+    version: Version,
     bytes: &[u8],
     start: usize,
     count: u32,
-) -> Result<(Vec<Entry>, usize), ReportFault>
+) -> Result<(Vec<ReadEntry>, usize), ReportFault>
     requires place { start ≤ length bytes.now }
     requires short { length bytes.now < 2 ^ 32 - 1 }
     ensures read { IfOk result
-        (λ read. entries_read count bytes.now start ≡ Ok (read.0.items, read.1)) }
+        (λ read. entries_read version count bytes.now start ≡ Ok (read.0.items, read.1)) }
     ensures within { IfOk result (λ read. read.1 ≤ length bytes.now) }
     ensures fault { IfErr result
-        (λ fault. IsReportFaultOf fault (entries_read count bytes.now start)) }
+        (λ fault. IsReportFaultOf fault (entries_read version count bytes.now start)) }
 {
     let mut entries = Vec::new(alloc);
     let mut at = start;
     for _ in 0..count {
-        let (entry, end) = read_entry(alloc, bytes, at)?;
+        let (entry, end) = read_entry(alloc, version, bytes, at)?;
         entries.push(entry)?;
         at = end;
     }
     Ok((entries, at))
 }
 
-// The line of the card to play and the count of layouts, and the place after it.
-fn read_card(bytes: &[u8], at: usize) -> Result<((Card, u16), usize), ReportFault>
+// The line of the card to play and its weight, and the place after it.
+fn read_card(
+    version: Version,
+    bytes: &[u8],
+    at: usize,
+) -> Result<((Card, u32), usize), ReportFault>
     requires place { at ≤ length bytes.now }
     requires short { length bytes.now < 2 ^ 32 - 1 }
     ensures read { GivesReport result
-        (expected ReportKind.Card bytes.now at (said_at card_said bytes.now at)) }
+        (expected ReportKind.Card bytes.now at
+        (said_at (card_said version) bytes.now at)) }
     ensures within { IfOk result (λ read. read.1 ≤ length bytes.now) }
 {
-    match card_at(bytes, at) {
+    match card_at(version, bytes, at) {
         Some(said) => Ok(said),
         None => Err(fault_at(bytes, at, ReportKind::Card)),
     }

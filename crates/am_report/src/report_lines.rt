@@ -3,8 +3,12 @@ ghost use Rattle.std.specs.Prelude.{◌≡◌, ◌==◌, ◌≤◌, ◌<◌, ◌
 ghost use Rattle.std.specs.List.{position_or_len};
 ghost use Rattle.byte_text.specs.Lines.{said_at};
 ghost use Rattle.layout_list.specs.Lines.{most_listed};
-ghost use Rattle.am_report.specs.ReportLines.{ends_bits, is_one, front_said, moves_said, count_said, bits_said, vector_said, card_counted, card_said};
+ghost use Rattle.am_report.specs.ReportLines.{ends_bits, is_one, front_said, moves_said};
+ghost use Rattle.am_report.specs.ReportLines.{weight_said, bits_said, vector_said};
+ghost use Rattle.am_report.specs.ReportLines.{weighed, card_weighed, card_said};
+ghost use Rattle.am_report.specs.Versions.{may_stand};
 
+use crate::version::Version;
 use byte_text::{line_at, read_number, text_after};
 use card_letters::read_card;
 use card_sets::Card;
@@ -27,12 +31,21 @@ pub(crate) fn read_moves(text: &[u8]) -> Option<u8>
     Some(moves as u8)
 }
 
-#[tactic(auto, unfolding(crate::specs::ReportLines::count_said))]
-fn read_count(text: &[u8]) -> Option<u16>
-    ensures { result ≡ count_said text.now }
+#[tactic(auto, unfolding(crate::specs::ReportLines::weight_said))]
+fn read_weight(version: Version, text: &[u8]) -> Option<u32>
+    ensures { result ≡ weight_said version text.now }
 {
-    let count = read_number(text_after(text, b" count ")?, 0, MOST_LISTED as u32)?;
-    Some(count as u16)
+    read_number(text_after(text, version.word())?, 0, version.most_written())
+}
+
+// Whether a number may stand behind a vector.
+fn may_stand(version: Version, vector: WinVector, weight: u32) -> bool
+    ensures { result ≡ may_stand version vector weight }
+{
+    match version {
+        Version::Counts => weight == u32::from(vector.count()),
+        Version::Weights => true,
+    }
 }
 
 // How many bits stand at the front.
@@ -58,46 +71,52 @@ fn vector_of(text: &[u8]) -> WinVector
     vector
 }
 
-#[tactic(auto, unfolding(crate::specs::ReportLines::bits_said))]
-fn read_bits(text: &[u8]) -> Option<WinVector>
-    ensures { result ≡ bits_said text.now }
+// The vector with its weight, where the text gives one that may stand behind it.
+fn read_weighed(version: Version, vector: WinVector, text: &[u8]) -> Option<(WinVector, u32)>
+    ensures { result ≡ weighed version vector text.now }
 {
-    let width = bits_len(text);
-    if width == 0 || width > MOST_LISTED {
-        return None;
-    }
-    let vector = vector_of(&text[..width]);
-    let count = read_count(&text[width..])?;
-    if count == vector.count() {
-        Some(vector)
+    let weight = read_weight(version, text)?;
+    if may_stand(version, vector, weight) {
+        Some((vector, weight))
     } else {
         None
     }
 }
 
-#[tactic(auto, unfolding(crate::specs::ReportLines::vector_said))]
-fn read_vector(text: &[u8]) -> Option<WinVector>
-    ensures { result ≡ vector_said text.now }
+#[tactic(auto, unfolding(crate::specs::ReportLines::bits_said))]
+fn read_bits(version: Version, text: &[u8]) -> Option<(WinVector, u32)>
+    ensures { result ≡ bits_said version text.now }
 {
-    read_bits(text_after(text, b"vector ")?)
+    let width = bits_len(text);
+    if width == 0 || width > MOST_LISTED {
+        return None;
+    }
+    read_weighed(version, vector_of(&text[..width]), &text[width..])
 }
 
-fn read_counted_card(text: &[u8]) -> Option<(Card, u16)>
-    ensures { result ≡ card_counted text.now }
+#[tactic(auto, unfolding(crate::specs::ReportLines::vector_said))]
+fn read_vector(version: Version, text: &[u8]) -> Option<(WinVector, u32)>
+    ensures { result ≡ vector_said version text.now }
+{
+    read_bits(version, text_after(text, b"vector ")?)
+}
+
+fn read_weighed_card(version: Version, text: &[u8]) -> Option<(Card, u32)>
+    ensures { result ≡ card_weighed version text.now }
 {
     let [suit, rank, rest @ ..] = text else {
         return None;
     };
     let card = read_card(*suit, *rank)?;
-    let count = read_count(rest)?;
-    Some((card, count))
+    let weight = read_weight(version, rest)?;
+    Some((card, weight))
 }
 
 #[tactic(auto, unfolding(crate::specs::ReportLines::card_said))]
-fn read_card_line(text: &[u8]) -> Option<(Card, u16)>
-    ensures { result ≡ card_said text.now }
+fn read_card_line(version: Version, text: &[u8]) -> Option<(Card, u32)>
+    ensures { result ≡ card_said version text.now }
 {
-    read_counted_card(text_after(text, b"card ")?)
+    read_weighed_card(version, text_after(text, b"card ")?)
 }
 
 // The number of vectors in the line that begins at a place, and the place after it.
@@ -111,24 +130,32 @@ pub(crate) fn front_at(bytes: &[u8], at: usize) -> Option<(u32, usize)>
     Some((vectors, at + text.len() + 1))
 }
 
-// The same of a vector.
-pub(crate) fn vector_at(bytes: &[u8], at: usize) -> Option<(WinVector, usize)>
+// The same of a vector with its weight.
+pub(crate) fn vector_at(
+    version: Version,
+    bytes: &[u8],
+    at: usize,
+) -> Option<((WinVector, u32), usize)>
     requires { at ≤ length bytes.now }
-    ensures value { result ≡ said_at vector_said bytes.now at }
+    ensures value { result ≡ said_at (vector_said version) bytes.now at }
     ensures within { IfSome result (λ said. said.1 ≤ length bytes.now) }
 {
     let text = line_at(bytes, at)?;
-    let vector = read_vector(text)?;
+    let vector = read_vector(version, text)?;
     Some((vector, at + text.len() + 1))
 }
 
-// The same of the card to play, and the count of layouts.
-pub(crate) fn card_at(bytes: &[u8], at: usize) -> Option<((Card, u16), usize)>
+// The same of the card to play, and its weight.
+pub(crate) fn card_at(
+    version: Version,
+    bytes: &[u8],
+    at: usize,
+) -> Option<((Card, u32), usize)>
     requires { at ≤ length bytes.now }
-    ensures value { result ≡ said_at card_said bytes.now at }
+    ensures value { result ≡ said_at (card_said version) bytes.now at }
     ensures within { IfSome result (λ said. said.1 ≤ length bytes.now) }
 {
     let text = line_at(bytes, at)?;
-    let card = read_card_line(text)?;
+    let card = read_card_line(version, text)?;
     Some((card, at + text.len() + 1))
 }

@@ -1,19 +1,20 @@
 //! The report of an answer.
-ghost use Rattle.std.specs.Prelude.{◌≡◌, ◌++◌, IfOk, OnOk, map, flat_map};
-ghost use Rattle.am_report.specs.Card.{count_text};
+ghost use Rattle.std.specs.Prelude.{◌≡◌, ◌++◌, IfOk, OnOk, map, flat_map, length, All};
+ghost use Rattle.am_report.specs.Card.{named_text};
 ghost use Rattle.am_report.specs.Solve.{bit_letter, vector_line, entry_text, solve_text};
 ghost use Rattle.byte_text.specs.Lines.{line_of};
 
 use crate::answer::{Entry, SolveAnswer};
-use crate::card::push_count;
+use crate::card::push_named;
 use crate::head::head_text;
-use crate::lines::{push_line, push_number_line};
+use crate::lines::push_number_line;
+use crate::version::{Version, push_weight};
 use byte_text::Text;
 use card_sets::Card;
 use layout_list::Kept;
 use pbn_deal::Board;
 use std::alloc::{AllocError, Global};
-use win_vectors::WinVector;
+use win_vectors::{Weights, WinVector};
 
 pub(crate) fn bit_letter(bit: bool) -> u8
     ensures { result ≡ bit_letter bit }
@@ -35,35 +36,53 @@ fn push_bits(text: &mut Text, vector: WinVector) -> Result<(), AllocError>
 pub(crate) fn push_vector_line(
     text: &mut Text,
     alloc: Global,
+    weights: &Weights,
     vector: WinVector,
 ) -> Result<(), AllocError>
-    ensures { OnOk result (text.new ≡ text.old ++ vector_line vector) }
+    requires { length weights.now ≡ length vector }
+    ensures { OnOk result (text.new ≡ text.old ++ vector_line weights.now vector) }
 {
     text.push(b"vector ")?;
     push_bits(text, vector)?;
-    push_number_line(text, alloc, b" count ", u64::from(vector.count()))
+    push_weight(text, alloc, Version::of(weights), weights.total(vector))?;
+    text.push(b"\n")
 }
 
 // Appends each vector with its plan.
-fn push_entries(text: &mut Text, alloc: Global, entries: &[Entry]) -> Result<(), AllocError>
-    ensures { OnOk result (text.new ≡ text.old ++ flat_map entry_text entries.now) }
+fn push_entries(
+    text: &mut Text,
+    alloc: Global,
+    weights: &Weights,
+    entries: &[Entry],
+) -> Result<(), AllocError>
+    requires { All (λ entry. length weights.now ≡ length entry.vector) entries.now }
+    ensures { OnOk result (text.new ≡ text.old ++ flat_map (entry_text weights.now) entries.now) }
 {
     for entry in entries {
-        push_vector_line(text, alloc, entry.vector)?;
+        push_vector_line(text, alloc, weights, entry.vector)?;
         entry.plan.lines(alloc, text)?;
     }
     Ok(())
 }
 
-fn push_count_line(text: &mut Text, alloc: Global, card: Card, count: u16) -> Result<(), AllocError>
-    ensures { OnOk result (text.new ≡ text.old ++ line_of (count_text card count)) }
+// Appends the line of the card to play.
+fn push_named_line(
+    text: &mut Text,
+    alloc: Global,
+    version: Version,
+    card: Card,
+    weight: u32,
+) -> Result<(), AllocError>
+    ensures { OnOk result (text.new ≡ text.old ++ line_of (named_text version card weight)) }
 {
-    push_count(text, alloc, card, count)?;
+    push_named(text, alloc, version, card, weight)?;
     text.push(b"\n")
 }
 
-/// The report: its head, then the number of vectors of the front, each vector with its plan, and
-/// the card to play with the number of kept layouts in which the contract is made.
+/// The report: its head, then the number of vectors of the front, each vector with its weight and
+/// its plan, and the card to play with the weight of the kept layouts in which the contract is made.
+/// Where each layout weighs 1, a weight is a count of layouts. The vectors have a bit for each
+/// layout.
 #[tactic(auto, unfolding(crate::specs::Solve::solve_text))]
 pub fn solve_text(
     alloc: Global,
@@ -72,12 +91,15 @@ pub fn solve_text(
     moves: u8,
     answer: &SolveAnswer,
 ) -> Result<Text, AllocError>
+    requires { All (λ entry. length kept.now.weights ≡ length entry.vector)
+        answer.now.entries }
     ensures { IfOk result (λ text. text ≡ solve_text board.now kept.now moves answer.now) }
 {
     let mut text = head_text(alloc, board, kept, moves)?;
     push_number_line(&mut text, alloc, b"front ", answer.entries.len() as u64)?;
-    push_entries(&mut text, alloc, &answer.entries)?;
-    push_count_line(&mut text, alloc, answer.card, answer.count)?;
+    push_entries(&mut text, alloc, &kept.weights, &answer.entries)?;
+    let version = Version::of(&kept.weights);
+    push_named_line(&mut text, alloc, version, answer.card, answer.weight)?;
     text.push(b"end\n")?;
     Ok(text)
 }

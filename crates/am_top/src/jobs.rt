@@ -11,10 +11,12 @@ use am_inputs::{read_deal, read_root};
 use am_match::Defender;
 use am_outside::Gate;
 use byte_text::Text;
+use job_audit::audit_report;
 use job_check::check_report;
 use job_fusion::sample_text;
 use job_list::list_layouts;
 use job_match::play_match;
+use job_prove::prove_front;
 use job_search::{name_card, solve, summarize};
 use job_words::Search;
 use layout_maker::made_problem;
@@ -33,6 +35,7 @@ fn work<R: Threads + Sync, G: Gate>(
 ) -> Result<Text, Status>
     requires turn { has_choice root.now.kept.node ≡ true }
     requires as_many { length root.now.kept.numbers ≡ length root.now.kept.node.lefts }
+    requires weighed { length root.now.kept.weights ≡ length root.now.kept.node.lefts }
     requires within { IsWithin work.now }
     requires seats { length table.old.items ≡ 3 }
     ensures text { IfOk result (IsTextForAt (task_at root.now work.now)
@@ -56,6 +59,8 @@ fn work<R: Threads + Sync, G: Gate>(
         ),
         Work::Fusion => Ok(sample_text(rt, alloc, root)?),
         Work::Check { report } => check_report(alloc, root, report),
+        Work::Prove { moves, nodes } => prove_front(alloc, root, *moves, *nodes),
+        Work::Audit { report, log } => audit_report(alloc, root, report, log),
     }
 }
 

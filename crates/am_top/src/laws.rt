@@ -1,6 +1,6 @@
 //! What a report says, in the words of the game. A call does nothing: its contract is the law.
-ghost use Rattle.std.specs.Prelude.{◌≡◌, ◌≤◌, ◌<◌, ◌^◌, ℕ, Bool, true, List, Some, Ok, length, map, Contains};
-ghost use Rattle.win_vectors.specs.Vectors.{ones_of};
+ghost use Rattle.std.specs.Prelude.{◌≡◌, ◌≤◌, ◌<◌, ◌^◌, ℕ, Bool, true, List, Some, Ok, length, map, All, Contains};
+ghost use Rattle.win_vectors.specs.Weights.{weight_of, IsWeight};
 ghost use Rattle.win_vectors.specs.Fronts.{Covers};
 ghost use Rattle.trick_rules.specs.Nodes.{NodeValue, IsNode, most_moves};
 ghost use Rattle.strategy_games.specs.Plans.{Plan, Fits, wins_vector};
@@ -13,7 +13,7 @@ ghost use Rattle.layout_list.specs.Lines.{most_listed};
 ghost use Rattle.am_report.specs.Answers.{SolveAnswerValue, EntryValue};
 ghost use Rattle.am_report.specs.Solve.{solve_text};
 ghost use Rattle.am_answer.specs.declared.root.Root.{Root};
-ghost use Rattle.am_answer.specs.Answers.{Playing, Report, NamedCard, Problem, answer};
+ghost use Rattle.am_answer.specs.Answers.{Playing, Report, NamedCard, Proof, Problem, answer};
 ghost use Rattle.am_answer.specs.Judging.{plans_in};
 ghost use Rattle.am_answer.specs.Matches.{IsPlayed};
 ghost use Rattle.am_match.specs.Defences.{Sitter};
@@ -23,33 +23,34 @@ ghost use Rattle.am_answer.specs.Reports.{IsSolveAnswer, IsText};
 /// layout it is made against every line of legal defence, by defenders who know the layout and the
 /// plan, or else it isn't.
 pub fn printed_plan_wins()
-    ensures { (n : NodeValue) (moves : ℕ) (found : SolveAnswerValue) (entry : EntryValue) → IsNode n
-        → IsSolveAnswer n moves found → Contains found.entries entry
+    ensures { (n : NodeValue) (weights : List ℕ) (moves : ℕ) (found : SolveAnswerValue)
+        (entry : EntryValue) → IsNode n → IsSolveAnswer n weights moves found → Contains found.entries entry
         → Fits bridge entry.plan n moves × (wins_vector bridge entry.plan n ≡ entry.vector) }
 {}
 
 /// Every strategy with that many moves of declarer's side, followed by double dummy, wins a vector
-/// that a printed one dominates, and no more layouts than the count that is printed.
+/// that a printed one dominates, and no greater weight than the one that is printed.
 pub fn printed_vectors_cover()
-    ensures covers { (n : NodeValue) (moves : ℕ) (found : SolveAnswerValue) (plan : Plan ℕ)
-        → IsSolveAnswer n moves found
+    ensures covers { (n : NodeValue) (weights : List ℕ) (moves : ℕ) (found : SolveAnswerValue)
+        (plan : Plan ℕ) → IsSolveAnswer n weights moves found
         → Fits bridge plan n moves
         → Covers (map (λ e. e.vector) found.entries) (wins_vector bridge plan n) }
-    ensures most { (n : NodeValue) (moves : ℕ) (found : SolveAnswerValue) (plan : Plan ℕ)
-        → IsSolveAnswer n moves found
-        → Fits bridge plan n moves → ones_of (wins_vector bridge plan n) ≤ found.count }
+    ensures most { (n : NodeValue) (weights : List ℕ) (moves : ℕ) (found : SolveAnswerValue)
+        (plan : Plan ℕ) → IsSolveAnswer n weights moves found
+        → Fits bridge plan n moves
+        → weight_of weights (wins_vector bridge plan n) ≤ found.weight }
 {}
 
 /// A match in a layout at which the vector has a 1 is made, whoever the defenders are and whoever
 /// comes in.
 pub fn a_bit_of_1_is_made()
-    ensures { (n : NodeValue) (moves : ℕ) (playing : Playing) (table later : List Sitter)
-        (cards : List ℕ) (made : Bool) → IsNode n
-        → IsPlayed n moves playing table later true cards made → made ≡ true }
+    ensures { (n : NodeValue) (weights : List ℕ) (moves : ℕ) (playing : Playing)
+        (table later : List Sitter) (cards : List ℕ) (made : Bool) → IsNode n
+        → IsPlayed n weights moves playing table later true cards made → made ≡ true }
 {}
 
-/// A root and a number of moves have one report and one card, and a number one summary of its
-/// problem: no number of workers, size of the table, rule of cuts or number of nodes changes a
+/// A root and a number of moves have one report, one card and one log, and a number one summary of
+/// its problem: no number of workers, size of the table, rule of cuts or number of nodes changes a
 /// byte.
 pub fn one_text()
     ensures report { (root : Root) (moves : ℕ) (search other : Search) (text more : List ℕ)
@@ -57,6 +58,9 @@ pub fn one_text()
         → text ≡ more }
     ensures card { (root : Root) (moves : ℕ) (search other : Search) (text more : List ℕ)
         → IsText (NamedCard root moves search) text → IsText (NamedCard root moves other) more
+        → text ≡ more }
+    ensures proof { (root : Root) (moves nodes others : ℕ) (text more : List ℕ)
+        → IsText (Proof root moves nodes) text → IsText (Proof root moves others) more
         → text ≡ more }
     ensures problem { (number : ℕ) (root : Root) (search other : Search) (text more : List ℕ)
         → IsText (Problem number root search) text → IsText (Problem number root other) more
@@ -72,10 +76,12 @@ pub fn made_problems_are_accepted()
 {}
 
 /// What is written for `solve` is found good by `check`, for every root with no more layouts than
-/// a file may have, and every number of moves.
+/// a file may have, each with its weight, and every number of moves.
 pub fn solved_reports_are_good()
     ensures { (root : Root) (moves : ℕ) (found : SolveAnswerValue) → IsNode root.kept.node
-        → length root.kept.node.lefts ≤ most_listed → 1 ≤ moves → moves ≤ most_moves
-        → IsSolveAnswer root.kept.node moves found → length found.entries < 2 ^ 32
+        → length root.kept.node.lefts ≤ most_listed
+        → length root.kept.weights ≡ length root.kept.node.lefts
+        → All IsWeight root.kept.weights → 1 ≤ moves → moves ≤ most_moves
+        → IsSolveAnswer root.kept.node root.kept.weights moves found → length found.entries < 2 ^ 32
         → plans_in root (solve_text root.board root.kept moves found) ≡ Ok (length found.entries) }
 {}

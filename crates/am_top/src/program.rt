@@ -13,7 +13,7 @@ ghost use Rattle.am_answer.specs.Stages.{IsRefusal, IsTaskRefusal, IsTextForAt};
 ghost use Rattle.am_match.specs.Defences.{sitter};
 ghost use Rattle.am_line.specs.Lines.{status_line, IsSaid};
 ghost use Rattle.am_answer.specs.Refusals.{IsUnread};
-ghost use Rattle.am_answer.specs.Endings.{IsStatusFor, IsReported, IsReportedInPart, IsWithinNodes};
+ghost use Rattle.am_answer.specs.Endings.{IsStatusFor, IsReported, IsReportedInPart, HasText};
 ghost use Rattle.am_answer.specs.Endings.{IsDoneOrMemory, IsKeptInFront, IsMadeRun, HasNoFault};
 
 use crate::jobs::text_in;
@@ -92,8 +92,8 @@ fn deliver<O: Sink, E: Sink>(text: &Text, out: &mut O, err: &mut E) -> Status
 /// `out`, or a line that says why not to `err`. The words don't include the program's name.
 ///
 /// The whole text is made before its first byte is written. The first refusal ends the run, in the
-/// order: words, the deal file, the layout file, the report, the board, the layouts, whose turn it
-/// is, the report's grammar, the work of the job, the output. A step that the job doesn't need is
+/// order: words, the deal file, the layout file, the report, the log, the board, the layouts, whose turn it
+/// is, the report's grammar, the log's grammar, the work of the job, the output. A step that the job doesn't need is
 /// left out.
 ///
 /// A match is played at the table of three defenders: the first sits at Left, the second at Right,
@@ -126,7 +126,7 @@ pub fn run<R: Threads + Sync, S: Shelf, O: Sink, E: Sink, G: Gate>(
         IsStatusFor (answer (texts_of words.now) files) result) }
     ensures complete { IfSome (S.told shelf.old) (λ files. (ask : AskValue) (task : TaskValue)
         → words_read (texts_of words.now) ≡ Some ask → answer (texts_of words.now) files ≡ Ok task
-        → IsWithinNodes task → HasNoFault ask (S.faults shelf.old) (S.faults shelf.new)
+        → HasText task → HasNoFault ask (S.faults shelf.old) (S.faults shelf.new)
         → ¬ (Rose (O.faults out.old) (O.faults out.new)) → IsDoneOrMemory result) }
 
     // The problem of a number needs no file: what is said of it holds over every shelf.
@@ -141,7 +141,7 @@ pub fn run<R: Threads + Sync, S: Shelf, O: Sink, E: Sink, G: Gate>(
         → IsMadeRun number search result }
     ensures made_complete { (number : ℕ) (search : Search) (task : TaskValue)
         → words_read (texts_of words.now) ≡ Some (Made number search)
-        → problem_of number search ≡ Ok task → IsWithinNodes task
+        → problem_of number search ≡ Ok task → HasText task
         → ¬ (Rose (O.faults out.old) (O.faults out.new)) → IsDoneOrMemory result }
 
     // What shows each cause.

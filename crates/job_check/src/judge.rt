@@ -1,6 +1,7 @@
 //! A report that is judged without any search: its head, then each plan with its vector.
-ghost use Rattle.std.specs.Prelude.{◌≡◌, ◌<◌, ◌-◌, ◌^◌, Ok, length, All, IfOk, IfErr};
+ghost use Rattle.std.specs.Prelude.{◌≡◌, ◌<◌, ◌-◌, ◌^◌, Ok, length, All, IfOk, IfErr, bytes_eq};
 ghost use Rattle.strategy_games.specs.Misfits.{node_count};
+ghost use Rattle.am_report.specs.Head.{head_text};
 ghost use Rattle.am_report.specs.Reading.{report_of};
 ghost use Rattle.am_answer.specs.declared.inputs.Work.TheVariants as works;
 ghost use Rattle.am_answer.specs.Answers.{task_at};
@@ -8,20 +9,26 @@ ghost use Rattle.am_answer.specs.Judging.{entry_fault, first_plan_fault, judged,
 ghost use Rattle.am_answer.specs.Stages.{IsFileRefusal, IsTextFor};
 
 use am_answer::{Place, Root, Status, report_status};
-use am_report::{Entry, ReadReport, check_text, head_text, read_report};
+use am_report::{ReadEntry, ReadReport, check_text, head_text, read_report};
 use byte_text::Text;
-use std::alloc::Global;
+use std::alloc::{AllocError, Global};
 use strategy_check::{Verdict, check};
 use trick_rules::Node;
+use win_vectors::Weights;
 
-// Where a plan with its vector is at fault.
+// Where a plan with its vector and the number behind this is at fault.
 #[tactic(auto, unfolding(am_answer::specs::Judging::entry_fault))]
-fn entry_fault(node: &Node, moves: u8, entry: &Entry) -> Option<Place>
-    requires { node_count entry.now.plan < 2 ^ 32 }
-    ensures { result ≡ entry_fault node.now moves entry.now }
+fn entry_fault(node: &Node, weights: &Weights, moves: u8, read: &ReadEntry) -> Option<Place>
+    requires weighed { length weights.now ≡ length node.now.lefts }
+    requires countable { node_count read.now.entry.plan < 2 ^ 32 }
+    ensures { result ≡ entry_fault node.now weights.now moves read.now }
 {
+    let entry = &read.entry;
     if entry.vector.width() != node.width() {
         return Some(Place::Width);
+    }
+    if read.weight != weights.total(entry.vector) {
+        return Some(Place::Weight);
     }
     match check(node, moves, &entry.plan, &entry.vector) {
         Verdict::Good => None,
@@ -31,32 +38,49 @@ fn entry_fault(node: &Node, moves: u8, entry: &Entry) -> Option<Place>
 }
 
 // The first plan at fault, from 1, and where.
-fn first_plan_fault(node: &Node, moves: u8, entries: &[Entry]) -> Option<(u32, Place)>
+fn first_plan_fault(
+    node: &Node,
+    weights: &Weights,
+    moves: u8,
+    entries: &[ReadEntry],
+) -> Option<(u32, Place)>
+    requires weighed { length weights.now ≡ length node.now.lefts }
     requires few { length entries.now < 2 ^ 32 }
-    requires countable { All (λ entry. node_count entry.plan < 2 ^ 32) entries.now }
-    ensures { result ≡ first_plan_fault node.now moves 1 entries.now }
+    requires countable { All (λ read. node_count read.entry.plan < 2 ^ 32) entries.now }
+    ensures { result ≡ first_plan_fault node.now weights.now moves 1 entries.now }
 {
-    for (index, entry) in entries.iter().enumerate() {
-        if let Some(place) = entry_fault(node, moves, entry) {
+    for (index, read) in entries.iter().enumerate() {
+        if let Some(place) = entry_fault(node, weights, moves, read) {
             return Some((index as u32 + 1, place));
         }
     }
     None
 }
 
+/// Whether the head of a report is that of the files.
+pub fn has_head(alloc: Global, root: &Root, report: &ReadReport) -> Result<bool, AllocError>
+    ensures { IfOk result (λ same. same ≡ bytes_eq report.now.head
+        (head_text root.now.board root.now.kept report.now.moves)) }
+{
+    let head = head_text(alloc, &root.board, &root.kept, report.moves)?;
+    Ok(report.head.bytes() == head.bytes())
+}
+
 // The number of plans of a report whose head is that of the files and whose plans are good.
 #[tactic(auto, unfolding(am_answer::specs::Judging::judged))]
 fn judged(alloc: Global, root: &Root, report: &ReadReport) -> Result<u32, Status>
+    requires weighed { length root.now.kept.weights ≡ length root.now.kept.node.lefts }
     requires few { length report.now.entries.items < 2 ^ 32 }
-    requires countable { All (λ entry. node_count entry.plan < 2 ^ 32) report.now.entries.items }
+    requires countable { All (λ read. node_count read.entry.plan < 2 ^ 32)
+        report.now.entries.items }
     ensures plans { IfOk result (λ plans. judged root.now (report_of report.now) ≡ Ok plans) }
     ensures refused { IfErr result (IsFileRefusal (judged root.now (report_of report.now))) }
 {
-    let head = head_text(alloc, &root.board, &root.kept, report.moves)?;
-    if report.head.bytes() != head.bytes() {
+    if !has_head(alloc, root, report)? {
         return Err(Status::Refuted(0, Place::Head));
     }
-    match first_plan_fault(&root.kept.node, report.moves, &report.entries) {
+    let kept = &root.kept;
+    match first_plan_fault(&kept.node, &kept.weights, report.moves, &report.entries) {
         Some((plan, place)) => Err(Status::Refuted(plan, place)),
         None => Ok(report.entries.len() as u32),
     }
@@ -65,7 +89,8 @@ fn judged(alloc: Global, root: &Root, report: &ReadReport) -> Result<u32, Status
 // The number of plans of a report, where each of them is good.
 #[tactic(auto, unfolding(am_answer::specs::Judging::plans_in))]
 fn count_good_plans(alloc: Global, root: &Root, bytes: &[u8]) -> Result<u32, Status>
-    requires { length bytes.now < 2 ^ 32 - 1 }
+    requires weighed { length root.now.kept.weights ≡ length root.now.kept.node.lefts }
+    requires short { length bytes.now < 2 ^ 32 - 1 }
     ensures plans { IfOk result (λ plans. plans_in root.now bytes.now ≡ Ok plans) }
     ensures refused { IfErr result (IsFileRefusal (plans_in root.now bytes.now)) }
 {
@@ -80,7 +105,8 @@ fn count_good_plans(alloc: Global, root: &Root, bytes: &[u8]) -> Result<u32, Sta
 /// plan and the place.
 #[tactic(auto, unfolding(am_answer::specs::Answers::task_at))]
 pub fn check_report(alloc: Global, root: &Root, report: &Text) -> Result<Text, Status>
-    requires { length report.now < 2 ^ 32 - 1 }
+    requires weighed { length root.now.kept.weights ≡ length root.now.kept.node.lefts }
+    requires short { length report.now < 2 ^ 32 - 1 }
     ensures text { IfOk result (IsTextFor (task_at root.now (works.Check report.now))) }
     ensures refused { IfErr result (IsFileRefusal (task_at root.now (works.Check report.now))) }
 {

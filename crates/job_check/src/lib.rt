@@ -5,4 +5,4 @@
 
 mod judge;
 
-pub use judge::check_report;
+pub use judge::{check_report, has_head};

@@ -1,5 +1,5 @@
 //! What plain sampling believes, as text.
-ghost use Rattle.std.specs.Prelude.{◌≡◌, true, IfOk};
+ghost use Rattle.std.specs.Prelude.{◌≡◌, true, IfOk, length};
 ghost use Rattle.am_answer.specs.Answers.{Sample, has_choice};
 ghost use Rattle.am_answer.specs.Reports.{IsText};
 
@@ -17,9 +17,10 @@ pub fn sample_text<R: Threads + Sync>(
     alloc: Global,
     root: &Root,
 ) -> Result<Text, AllocError>
-    requires { has_choice root.now.kept.node ≡ true }
+    requires turn { has_choice root.now.kept.node ≡ true }
+    requires weighed { length root.now.kept.weights ≡ length root.now.kept.node.lefts }
     ensures { IfOk result (IsText (Sample root.now)) }
 {
     let table = per_card(rt, alloc, &root.kept.node)?;
-    fusion_text(alloc, &table)
+    fusion_text(alloc, &table, &root.kept.weights)
 }

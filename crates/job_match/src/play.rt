@@ -61,7 +61,8 @@ fn played_text(
     switch: Option<u16>,
     table: &mut Vec<Box<dyn Defender>>,
 ) -> Result<Text, AllocError>
-    requires first { IsFirstStrategy root.now.kept.node moves first.now.vector first.now.plan }
+    requires first { IsFirstStrategy root.now.kept.node root.now.kept.weights moves
+        first.now.vector first.now.plan }
     requires inside { place < length root.now.kept.node.lefts }
     requires switch { IfSome switch IsSwitch }
     requires seats { length table.old.items ≡ 3 }
@@ -87,7 +88,7 @@ fn played_text(
     match_text(alloc, layout, bit, &played.cards, played.made)
 }
 
-/// Plays the first strategy of a root's front, by so many moves of declarer's side, in the kept
+/// Plays the first strategy that is printed for a root, by so many moves of declarer's side, in the kept
 /// layout of a number.
 ///
 /// The table's first defender sits at Left and its second at Right. With a switch the third is
@@ -109,6 +110,7 @@ pub fn play_match<R: Threads + Sync, G: Gate>(
 ) -> Result<Text, Status>
     requires turn { has_choice root.now.kept.node ≡ true }
     requires as_many { length root.now.kept.numbers ≡ length root.now.kept.node.lefts }
+    requires weighed { length root.now.kept.weights ≡ length root.now.kept.node.lefts }
     requires moves { IsMoves moves }
     requires limits { IsSearchWithinLimits search.now }
     requires switch { IfSome switch IsSwitch }

@@ -12,7 +12,7 @@ use alphamu_core::RootFault;
 use am_outside::Gate;
 use card_sets::Card;
 use pareto_fronts::Front;
-use root_workers::{Options, root_card, root_front};
+use root_workers::{Options, root_front};
 use shared_table::{Pass, SharedTable};
 use std::alloc::Global;
 use std::thread::Threads;
@@ -23,13 +23,6 @@ use win_vectors::Weights;
 #[derive(Drop)]
 pub struct CountedFront {
     pub front: Front,
-    pub card: Card,
-    pub count: u16,
-}
-
-/// The card to play at a root, and how many layouts it wins.
-#[derive(Clone, Copy, Debug, PartialEq, Eq)]
-pub struct CountedCard {
     pub card: Card,
     pub count: u16,
 }
@@ -75,41 +68,6 @@ pub fn counted_front<R: Threads + Sync, G: Gate>(
     let found = root_front(rt, alloc, node, moves, &weights, options, table, pass, gate)?;
     Ok(CountedFront {
         front: found.front,
-        card: found.card,
-        count: count_of(found.weight),
-    })
-}
-
-/// As `root_card`, with a count for the weight.
-pub fn counted_card<R: Threads + Sync, G: Gate>(
-    rt: &R,
-    alloc: Global,
-    node: &Node,
-    moves: u8,
-    options: &Options,
-    table: &SharedTable,
-    pass: &mut Pass,
-    gate: &G,
-) -> Result<CountedCard, RootFault>
-    requires ours { bridge.is_ours node.now ≡ true }
-    requires goes_on { bridge.is_over node.now ≡ false }
-    requires some_moves { 1 ≤ moves }
-    requires few_moves { moves ≤ most_moves }
-    requires workers { HasWorkers options.now }
-    requires pass { IsPassOf table.now pass.old }
-    ensures card { IfOk result (λ root. IsNamedCard bridge node.now moves root.card) }
-    ensures count { IfOk result (λ root. IsBestCount bridge node.now moves root.count) }
-    ensures fits { IsPlain options.now
-        → IfOk result (λ _. AllFit node.now moves options.now.nodes) }
-    ensures spent { (card : ℕ) → IsErrOf result (RootFault.Spent card)
-        → IsSpentAt node.now moves options.now.nodes card }
-    ensures first_spent { IsPlain options.now → (card : ℕ)
-        → IsErrOf result (RootFault.Spent card)
-        → IsFirstSpentAt node.now moves options.now.nodes card }
-{
-    let weights = Weights::equal(node.width());
-    let found = root_card(rt, alloc, node, moves, &weights, options, table, pass, gate)?;
-    Ok(CountedCard {
         card: found.card,
         count: count_of(found.weight),
     })

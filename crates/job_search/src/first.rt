@@ -1,5 +1,5 @@
-//! The first strategy of a root's front.
-ghost use Rattle.std.specs.Prelude.{◌≡◌, ℕ, true, Ok, IfOk, IfErr, IsErrOf};
+//! The first strategy that is printed for a root.
+ghost use Rattle.std.specs.Prelude.{◌≡◌, ℕ, true, Ok, IfOk, IfErr, IsErrOf, length};
 ghost use Rattle.strategy_tree.specs.Bridge.{bridge};
 ghost use Rattle.front_table.specs.Proven.{IsFrontAt};
 ghost use Rattle.root_workers.specs.Roots.{IsSpentAt, AllFit};
@@ -10,7 +10,7 @@ ghost use Rattle.am_answer.specs.Endings.{IsPlain};
 ghost use Rattle.am_answer.specs.Matches.{IsFirstStrategy};
 ghost use Rattle.am_answer.specs.Stages.{IsTaskRefusal};
 
-use crate::counted::counted_front;
+use crate::order::reported;
 use crate::table::{options_of, table_of};
 use alphamu_core::RootFault;
 use am_answer::{Root, Status, root_status};
@@ -21,32 +21,37 @@ use front_table::{FrontStore, NoStore};
 use job_words::Search;
 use pareto_fronts::Front;
 use plan_finder::plan_for;
+use root_workers::root_front;
 use shared_table::{Pass, SharedStore, SharedTable};
 use std::alloc::Global;
 use std::thread::Threads;
 use trick_rules::Node;
 use wide_store::WideStore;
+use win_vectors::Weights;
 
-// The first vector of a front, with the plan for it.
+// The first vector of a front in report order, with the plan for it.
 fn first_entry<S: FrontStore>(
     alloc: Global,
     store: &mut S,
     solver: &mut Solver,
     node: &Node,
+    weights: &Weights,
     moves: u8,
     search: &Search,
     front: &Front,
 ) -> Result<Entry, RootFault>
     requires turn { has_choice node.now ≡ true }
+    requires weighed { length weights.now ≡ length node.now.lefts }
     requires moves { IsMoves moves }
     requires front { IsFrontAt node.now moves front.now }
     ensures first { IfOk result (λ entry.
-        IsFirstStrategy node.now moves entry.vector entry.plan) }
+        IsFirstStrategy node.now weights.now moves entry.vector entry.plan) }
     ensures spent { (card : ℕ) → IsErrOf result (RootFault.Spent card)
         → IsSpentAt node.now moves search.now.nodes card }
 {
     prove!(node.width() > 0);
-    let vector = front.get(0);
+    let vectors = reported(alloc, node, moves, weights, front)?;
+    let vector = vectors[0];
     let plan = plan_for(
         alloc,
         store,
@@ -67,29 +72,42 @@ fn first_over(
     table: &SharedTable,
     pass: &mut Pass,
     node: &Node,
+    weights: &Weights,
     moves: u8,
     search: &Search,
     front: &Front,
 ) -> Result<Entry, RootFault>
     requires pass { IsPassOf table.now pass.old }
     requires turn { has_choice node.now ≡ true }
+    requires weighed { length weights.now ≡ length node.now.lefts }
     requires moves { IsMoves moves }
     requires front { IsFrontAt node.now moves front.now }
     ensures first { IfOk result (λ entry.
-        IsFirstStrategy node.now moves entry.vector entry.plan) }
+        IsFirstStrategy node.now weights.now moves entry.vector entry.plan) }
     ensures spent { (card : ℕ) → IsErrOf result (RootFault.Spent card)
         → IsSpentAt node.now moves search.now.nodes card }
 {
     let mut solver = Solver::new(alloc);
     if search.table {
         let mut store = WideStore::new(alloc, SharedStore::new(table, pass));
-        first_entry(alloc, &mut store, &mut solver, node, moves, search, front)
+        first_entry(
+            alloc, &mut store, &mut solver, node, weights, moves, search, front,
+        )
     } else {
-        first_entry(alloc, &mut NoStore, &mut solver, node, moves, search, front)
+        first_entry(
+            alloc,
+            &mut NoStore,
+            &mut solver,
+            node,
+            weights,
+            moves,
+            search,
+            front,
+        )
     }
 }
 
-/// The first vector of a root's front, by so many moves of declarer's side, with the plan for it.
+/// The first vector that is printed for a root, by so many moves of declarer's side, with its plan.
 /// Refused as `solve` is.
 pub fn first_strategy<R: Threads + Sync, G: Gate>(
     rt: &R,
@@ -100,23 +118,29 @@ pub fn first_strategy<R: Threads + Sync, G: Gate>(
     gate: &G,
 ) -> Result<Entry, Status>
     requires turn { has_choice root.now.kept.node ≡ true }
+    requires weighed { length root.now.kept.weights ≡ length root.now.kept.node.lefts }
     requires moves { IsMoves moves }
     requires limits { IsSearchWithinLimits search.now }
     ensures first { IfOk result (λ entry.
-        IsFirstStrategy root.now.kept.node moves entry.vector entry.plan) }
+        IsFirstStrategy root.now.kept.node root.now.kept.weights moves
+        entry.vector entry.plan) }
     ensures fits { IfOk result (λ _. IsPlain search.now
         → AllFit root.now.kept.node moves search.now.nodes) }
     ensures refused { (playing : Playing)
         → IfErr result (IsTaskRefusal (Ok (PlayedOut root.now moves search.now playing))) }
 {
     let node = &root.kept.node;
+    let weights = &root.kept.weights;
     let options = options_of(search);
     let (table, mut pass) = table_of(alloc, search)?;
-    let found = match counted_front(rt, alloc, node, moves, &options, &table, &mut pass, gate) {
+    let found = match root_front(
+        rt, alloc, node, moves, weights, &options, &table, &mut pass, gate,
+    ) {
         Ok(found) => found,
         Err(fault) => return Err(root_status(fault)),
     };
-    match first_over(alloc, &table, &mut pass, node, moves, search, &found.front) {
+    let front = &found.front;
+    match first_over(alloc, &table, &mut pass, node, weights, moves, search, front) {
         Ok(entry) => Ok(entry),
         Err(fault) => Err(root_status(fault)),
     }

@@ -1,5 +1,5 @@
 //! The jobs that search: a root's report, its card alone, the summary of a made problem, and the
-//! first strategy of a front.
+//! first strategy that is printed.
 //! It stands on `root_workers` for fronts, on `plan_finder` for plans, on `am_report` for texts.
 //! Its contract promises each text by its definition, or the first root card with too large a tree.
 #![tactic(auto)]
@@ -8,6 +8,7 @@ mod card;
 mod counted;
 mod first;
 mod made;
+mod order;
 mod report;
 mod table;
 

@@ -1,16 +1,18 @@
-//! The report of a root: the front with a plan for each vector, the named card and the best count.
-ghost use Rattle.std.specs.Prelude.{◌≡◌, ℕ, true, map, All, Ok, IfOk, IfErr, IsErrOf};
-ghost use Rattle.strategy_games.specs.Choosing.{IsChosenPlan, IsBestCount, IsNamedCard};
+//! The report of a root: the front in report order with a plan for each vector, the named card and
+//! the best weight.
+ghost use Rattle.std.specs.Prelude.{◌≡◌, ℕ, true, map, length, All, Ok, IfOk, IfErr, IsErrOf};
+ghost use Rattle.strategy_games.specs.Choosing.{IsChosenPlan, IsBestWeight, IsNamedByWeight};
 ghost use Rattle.strategy_tree.specs.Bridge.{bridge};
 ghost use Rattle.front_table.specs.Proven.{IsFrontAt};
 ghost use Rattle.root_workers.specs.Roots.{IsSpentAt};
 ghost use Rattle.shared_table.specs.Passes.{IsPassOf};
 ghost use Rattle.job_words.specs.Asks.{IsMoves, IsSearchWithinLimits};
 ghost use Rattle.am_answer.specs.Answers.{has_choice, Report};
+ghost use Rattle.am_answer.specs.ReportOrder.{IsReportedFront};
 ghost use Rattle.am_answer.specs.Reports.{IsSolveText};
 ghost use Rattle.am_answer.specs.Stages.{IsTaskRefusal, IsTextFor};
 
-use crate::counted::{CountedFront, counted_front};
+use crate::order::reported;
 use crate::table::{options_of, table_of};
 use alphamu_core::RootFault;
 use am_answer::{Root, Status, root_status};
@@ -22,28 +24,32 @@ use front_table::{FrontStore, NoStore};
 use job_words::Search;
 use pareto_fronts::Front;
 use plan_finder::{PlanMemo, plan_over};
+use root_workers::{RootFront, root_front};
 use shared_table::{Pass, SharedStore, SharedTable};
 use std::alloc::Global;
 use std::thread::Threads;
 use trick_rules::Node;
 use wide_store::WideStore;
+use win_vectors::Weights;
 
-// Each vector of the front, with the plan for it. The plans have many parts in common, which are
-// found once.
+// Each vector of the front in report order, with the plan for it. The plans have many parts in
+// common, which are found once.
 fn entries<S: FrontStore>(
     alloc: Global,
     store: &mut S,
     solver: &mut Solver,
     node: &Node,
+    weights: &Weights,
     moves: u8,
     search: &Search,
     front: &Front,
 ) -> Result<Vec<Entry>, RootFault>
     requires turn { has_choice node.now ≡ true }
+    requires weighed { length weights.now ≡ length node.now.lefts }
     requires moves { IsMoves moves }
     requires front { IsFrontAt node.now moves front.now }
     ensures vectors { IfOk result (λ entries.
-        map (λ e. e.vector) entries.items ≡ front.now.vectors) }
+        IsReportedFront node.now weights.now moves (map (λ e. e.vector) entries.items)) }
     ensures plans { IfOk result (λ entries.
         All (λ e. IsChosenPlan bridge e.plan node.now moves e.vector) entries.items) }
     ensures spent { (card : ℕ) → IsErrOf result (RootFault.Spent card)
@@ -51,8 +57,7 @@ fn entries<S: FrontStore>(
 {
     let mut memo = PlanMemo::new(alloc);
     let mut entries = Vec::new(alloc);
-    for place in 0..front.len() {
-        let vector = front.get(place);
+    for vector in reported(alloc, node, moves, weights, front)? {
         let plan = plan_over(
             alloc,
             &mut memo,
@@ -77,13 +82,16 @@ fn report<S: FrontStore>(
     root: &Root,
     moves: u8,
     search: &Search,
-    found: CountedFront,
+    found: RootFront,
 ) -> Result<Text, RootFault>
     requires turn { has_choice root.now.kept.node ≡ true }
     requires moves { IsMoves moves }
     requires front { IsFrontAt root.now.kept.node moves found.front }
-    requires card { IsNamedCard bridge root.now.kept.node moves found.card }
-    requires count { IsBestCount bridge root.now.kept.node moves found.count }
+    requires weighed { length root.now.kept.weights ≡ length root.now.kept.node.lefts }
+    requires card { IsNamedByWeight bridge root.now.kept.weights root.now.kept.node moves
+        found.card }
+    requires weight { IsBestWeight bridge root.now.kept.weights root.now.kept.node moves
+        found.weight }
     ensures text { IfOk result (IsSolveText root.now moves) }
     ensures spent { (card : ℕ) → IsErrOf result (RootFault.Spent card)
         → IsSpentAt root.now.kept.node moves search.now.nodes card }
@@ -93,6 +101,7 @@ fn report<S: FrontStore>(
         store,
         solver,
         &root.kept.node,
+        &root.kept.weights,
         moves,
         search,
         &found.front,
@@ -100,7 +109,7 @@ fn report<S: FrontStore>(
     let answer = SolveAnswer {
         entries,
         card: found.card,
-        count: found.count,
+        weight: found.weight,
     };
     let text = solve_text(alloc, &root.board, &root.kept, moves, &answer)?;
     Ok(text)
@@ -115,14 +124,17 @@ fn report_over(
     root: &Root,
     moves: u8,
     search: &Search,
-    found: CountedFront,
+    found: RootFront,
 ) -> Result<Text, RootFault>
     requires pass { IsPassOf table.now pass.old }
     requires turn { has_choice root.now.kept.node ≡ true }
     requires moves { IsMoves moves }
     requires front { IsFrontAt root.now.kept.node moves found.front }
-    requires card { IsNamedCard bridge root.now.kept.node moves found.card }
-    requires count { IsBestCount bridge root.now.kept.node moves found.count }
+    requires weighed { length root.now.kept.weights ≡ length root.now.kept.node.lefts }
+    requires card { IsNamedByWeight bridge root.now.kept.weights root.now.kept.node moves
+        found.card }
+    requires weight { IsBestWeight bridge root.now.kept.weights root.now.kept.node moves
+        found.weight }
     ensures text { IfOk result (IsSolveText root.now moves) }
     ensures spent { (card : ℕ) → IsErrOf result (RootFault.Spent card)
         → IsSpentAt root.now.kept.node moves search.now.nodes card }
@@ -148,6 +160,7 @@ pub fn solve<R: Threads + Sync, G: Gate>(
     gate: &G,
 ) -> Result<Text, Status>
     requires turn { has_choice root.now.kept.node ≡ true }
+    requires weighed { length root.now.kept.weights ≡ length root.now.kept.node.lefts }
     requires moves { IsMoves moves }
     requires limits { IsSearchWithinLimits search.now }
     ensures text { IfOk result (IsTextFor (Ok (Report root.now moves search.now))) }
@@ -155,11 +168,12 @@ pub fn solve<R: Threads + Sync, G: Gate>(
 {
     let options = options_of(search);
     let (table, mut pass) = table_of(alloc, search)?;
-    let found = match counted_front(
+    let found = match root_front(
         rt,
         alloc,
         &root.kept.node,
         moves,
+        &root.kept.weights,
         &options,
         &table,
         &mut pass,

@@ -14,7 +14,7 @@ flag_option name = record (new_rule name) { long = Some name; action = Some SetT
 
 abbrev pub value_names : List Text
 value_names = codes "job" ∷ codes "deal" ∷ codes "layouts" ∷ codes "report" ∷ codes "moves"
-    ∷ codes "number" ∷ codes "layout" ∷ codes "switch" ∷ codes "nodes" ∷ codes "workers" ∷ codes "shards" ∷ codes "room" ∷ []
+    ∷ codes "number" ∷ codes "layout" ∷ codes "switch" ∷ codes "log" ∷ codes "nodes" ∷ codes "workers" ∷ codes "shards" ∷ codes "room" ∷ []
 
 abbrev pub flag_names : List Text
 flag_names = codes "no-table" ∷ codes "no-cuts" ∷ []

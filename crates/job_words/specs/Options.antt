@@ -18,6 +18,7 @@ pub record OptionValues : Type 0 where
   pub number : Option Text
   pub layout : Option Text
   pub switch : Option Text
+  pub log : Option Text
   pub nodes : Option Text
   pub workers : Option Text
   pub shards : Option Text
@@ -40,6 +41,7 @@ options_at rows = record {
   number = first_of (codes "number") rows;
   layout = first_of (codes "layout") rows;
   switch = first_of (codes "switch") rows;
+  log = first_of (codes "log") rows;
   nodes = first_of (codes "nodes") rows;
   workers = first_of (codes "workers") rows;
   shards = first_of (codes "shards") rows;
@@ -65,6 +67,7 @@ options_of o = record {
   number = option_map (λ s. s.now) o.number;
   layout = option_map (λ s. s.now) o.layout;
   switch = option_map (λ s. s.now) o.switch;
+  log = option_map (λ s. s.now) o.log;
   nodes = option_map (λ s. s.now) o.nodes;
   workers = option_map (λ s. s.now) o.workers;
   shards = option_map (λ s. s.now) o.shards;

@@ -44,4 +44,6 @@ job_named name =
     else if bytes_eq name (codes "list") then Some jobs.List
     else if bytes_eq name (codes "check") then Some jobs.Check
     else if bytes_eq name (codes "made") then Some jobs.Made
+    else if bytes_eq name (codes "prove") then Some jobs.Prove
+    else if bytes_eq name (codes "audit") then Some jobs.Audit
     else None

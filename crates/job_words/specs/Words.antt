@@ -5,7 +5,8 @@ use Rattle.std.specs.Str.{bytes_eq}
 use Rattle.trick_rules.specs.Nodes.{most_moves}
 use Rattle.job_words.specs.declared.asks.Search.{Search}
 use Rattle.job_words.specs.declared.table.Job as jobs
-use Rattle.job_words.specs.Asks.{AskValue, Card, Check, Fusion, LayoutsJobValue, ListOf, Made, Match, OnLayouts, Solve}
+use Rattle.job_words.specs.Asks.{most_entries, most_logged}
+use Rattle.job_words.specs.Asks.{AskValue, Audit, Card, Check, Fusion, LayoutsJobValue, ListOf, Made, Match, OnLayouts, Prove, Solve}
 use Rattle.job_words.specs.Options.{OptionValues, options_read}
 use Rattle.job_words.specs.Values.{file_named, job_named, number_in, number_or}
 use Rattle.job_words.specs.Table.{keeps_to, uses_by}
@@ -22,12 +23,12 @@ job_in o = do
   job ← job_named name
   if keeps_to (uses_by job) o then Some job else None
 
--- the shards of the table and the room of each, for 1,048,576 entries in all at most
+-- the shards of the table and the room of each, for 262,144 entries in all at most
 unfoldable pub table_in : OptionValues → Option (ℕ × ℕ)
 table_in o = do
   shards ← number_or 16 1 64 o.shards
   room ← number_or 16384 1 65536 o.room
-  if nat_le (shards * room) 1048576 then Some (shards, room) else None
+  if nat_le (shards * room) most_entries then Some (shards, room) else None
 
 -- how to search
 unfoldable pub search_in : OptionValues → Option Search
@@ -85,6 +86,20 @@ check_in o = do
   report ← o.report >>= file_named
   Some (Check report)
 
+-- the log that proves a front complete, where the tree of each card has so many nodes at most
+unfoldable pub prove_in : OptionValues → Option LayoutsJobValue
+prove_in o = do
+  moves ← moves_in o
+  nodes ← number_or 10000000 1 most_logged o.nodes
+  Some (Prove moves nodes)
+
+-- the audit of a report by a log
+unfoldable pub audit_in : OptionValues → Option LayoutsJobValue
+audit_in o = do
+  report ← o.report >>= file_named
+  log ← o.log >>= file_named
+  Some (Audit report log)
+
 -- a job on the two files
 unfoldable pub on_layouts : OptionValues → LayoutsJobValue → Option AskValue
 on_layouts o job = do
@@ -114,6 +129,8 @@ ask_by jobs.TheVariants.Fusion o = on_layouts o Fusion
 ask_by jobs.TheVariants.List o = list_in o
 ask_by jobs.TheVariants.Check o = check_in o >>= on_layouts o
 ask_by jobs.TheVariants.Made o = made_in o
+ask_by jobs.TheVariants.Prove o = prove_in o >>= on_layouts o
+ask_by jobs.TheVariants.Audit o = audit_in o >>= on_layouts o
 
 -- what the options ask for
 unfoldable pub ask_in : OptionValues → Option AskValue

@@ -9,13 +9,19 @@ pub struct Search {
     pub workers: u32,
     /// How many shards the table of fronts has: 1 to 64.
     pub shards: u32,
-    /// How many fronts a shard holds: 1 to 65,536, and 1,048,576 in all shards at most.
+    /// How many fronts a shard holds: 1 to 65,536, and 262,144 in all shards at most.
     pub room: u32,
     /// Whether the search looks into the table of fronts.
     pub table: bool,
     /// Whether the search cuts what can't matter.
     pub cuts: bool,
 }
+
+/// The most entries that all shards of a table have room for.
+pub(crate) const MOST_ENTRIES: u64 = 262_144;
+
+/// The most nodes that the tree of a card may have where a log is written of it.
+pub(crate) const MOST_LOGGED: u64 = 268_435_456;
 
 /// A job on a deal and its layouts.
 #[derive(Clone, Copy, Debug, PartialEq, Eq)]
@@ -51,6 +57,20 @@ pub enum LayoutsJob<'a> {
     Check {
         /// The name of the file of the report.
         report: &'a str,
+    },
+    /// A log that proves the front complete.
+    Prove {
+        /// How many cards of declarer's side the strategies go through: 1 to 26.
+        moves: u8,
+        /// The most nodes that the tree of a card at the root may have: 1 to 268,435,456.
+        nodes: u64,
+    },
+    /// Whether a log proves that no strategy wins more than a report says.
+    Audit {
+        /// The name of the file of the report.
+        report: &'a str,
+        /// The name of the file of the log.
+        log: &'a str,
     },
 }
 

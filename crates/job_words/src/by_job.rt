@@ -1,10 +1,13 @@
 //! What the options ask for, by the job that they name.
 ghost use Rattle.std.specs.Prelude.{◌≡◌, ◌≤◌, ◌*◌, IfSome, option_map};
-ghost use Rattle.job_words.specs.Asks.{IsJobWithinLimits, IsMoves, IsSearchWithinLimits, IsSwitch, IsWithinLimits, ask_of, job_of};
+ghost use Rattle.job_words.specs.Asks.{IsJobWithinLimits, IsMoves, IsSearchWithinLimits};
+ghost use Rattle.job_words.specs.Asks.{IsSwitch, IsWithinLimits, ask_of, job_of, most_entries};
 ghost use Rattle.job_words.specs.Options.{options_of};
-ghost use Rattle.job_words.specs.Words.{ask_in, card_in, check_in, job_in, list_in, made_in, match_in, moves_in, on_layouts, search_in, solve_in, switch_in, table_in};
+ghost use Rattle.job_words.specs.Words.{ask_in, audit_in, card_in, check_in, job_in, list_in};
+ghost use Rattle.job_words.specs.Words.{made_in, match_in, moves_in, on_layouts, prove_in};
+ghost use Rattle.job_words.specs.Words.{search_in, solve_in, switch_in, table_in};
 
-use crate::asks::{Ask, LayoutsJob, Search};
+use crate::asks::{Ask, LayoutsJob, MOST_ENTRIES, MOST_LOGGED, Search};
 use crate::options::Options;
 use crate::table::{Job, uses_by};
 use crate::values::{file_named, job_named, number_in, number_or};
@@ -25,6 +28,8 @@ pub(crate) fn ask_in<'a>(options: &Options<'a>) -> Option<Ask<'a>>
         Job::List => list_in(options),
         Job::Check => on_layouts(options, check_in(options)?),
         Job::Made => made_in(options),
+        Job::Prove => on_layouts(options, prove_in(options)?),
+        Job::Audit => on_layouts(options, audit_in(options)?),
     }
 }
 
@@ -44,11 +49,11 @@ fn job_in(options: &Options<'_>) -> Option<Job>
 fn table_in(options: &Options<'_>) -> Option<(u32, u32)>
     ensures size { result ≡ table_in (options_of options.now) }
     ensures limits { IfSome result (λ size. (1 ≤ size.0) × (size.0 ≤ 64) × (1 ≤ size.1)
-        × (size.1 ≤ 65536) × (size.0 * size.1 ≤ 1048576)) }
+        × (size.1 ≤ 65536) × (size.0 * size.1 ≤ most_entries)) }
 {
     let shards = number_or(16, 1, 64, options.shards)?;
     let room = number_or(16_384, 1, 65_536, options.room)?;
-    if shards * room <= 1_048_576 {
+    if shards * room <= MOST_ENTRIES {
         Some((shards as u32, room as u32))
     } else {
         None
@@ -140,6 +145,26 @@ fn check_in<'a>(options: &Options<'a>) -> Option<LayoutsJob<'a>>
 {
     let report = file_named(options.report?)?;
     Some(LayoutsJob::Check { report })
+}
+
+#[tactic(auto, unfolding(crate::specs::Words::prove_in))]
+fn prove_in<'a>(options: &Options<'a>) -> Option<LayoutsJob<'a>>
+    ensures job { option_map job_of result ≡ prove_in (options_of options.now) }
+    ensures limits { IfSome result (λ job. IsJobWithinLimits (job_of job)) }
+{
+    let moves = moves_in(options)?;
+    let nodes = number_or(10_000_000, 1, MOST_LOGGED, options.nodes)?;
+    Some(LayoutsJob::Prove { moves, nodes })
+}
+
+#[tactic(auto, unfolding(crate::specs::Words::audit_in))]
+fn audit_in<'a>(options: &Options<'a>) -> Option<LayoutsJob<'a>>
+    ensures job { option_map job_of result ≡ audit_in (options_of options.now) }
+    ensures limits { IfSome result (λ job. IsJobWithinLimits (job_of job)) }
+{
+    let report = file_named(options.report?)?;
+    let log = file_named(options.log?)?;
+    Some(LayoutsJob::Audit { report, log })
 }
 
 #[tactic(auto, unfolding(crate::specs::Words::on_layouts))]

@@ -20,6 +20,7 @@ pub(crate) struct Options<'a> {
     pub(crate) number: Option<&'a str>,
     pub(crate) layout: Option<&'a str>,
     pub(crate) switch: Option<&'a str>,
+    pub(crate) log: Option<&'a str>,
     pub(crate) nodes: Option<&'a str>,
     pub(crate) workers: Option<&'a str>,
     pub(crate) shards: Option<&'a str>,
@@ -45,9 +46,9 @@ pub(crate) fn read_options<'a>(
     }
 }
 
-const VALUE_NAMES: [&str; 12] = [
-    "job", "deal", "layouts", "report", "moves", "number", "layout", "switch", "nodes", "workers",
-    "shards", "room",
+const VALUE_NAMES: [&str; 13] = [
+    "job", "deal", "layouts", "report", "moves", "number", "layout", "switch", "log", "nodes",
+    "workers", "shards", "room",
 ];
 
 fn option_command<'a>(alloc: Global) -> Result<Command<'a>, AllocError>
@@ -98,6 +99,7 @@ fn options_in<'a>(matches: &ArgMatches<'a>) -> Options<'a>
         number: value_of(matches, "number"),
         layout: value_of(matches, "layout"),
         switch: value_of(matches, "switch"),
+        log: value_of(matches, "log"),
         nodes: value_of(matches, "nodes"),
         workers: value_of(matches, "workers"),
         shards: value_of(matches, "shards"),

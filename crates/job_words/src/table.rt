@@ -15,6 +15,8 @@ pub(crate) enum Job {
     List,
     Check,
     Made,
+    Prove,
+    Audit,
 }
 
 /// What a job makes of an option.
@@ -37,7 +39,8 @@ impl Use {
     }
 }
 
-/// What a job makes of each option. The options on how to search go together.
+/// What a job makes of each option. The options on how to search go together, but for the number of
+/// nodes.
 #[derive(Clone, Copy)]
 pub(crate) struct Uses {
     pub(crate) deal: Use,
@@ -47,6 +50,8 @@ pub(crate) struct Uses {
     pub(crate) number: Use,
     pub(crate) layout: Use,
     pub(crate) switch: Use,
+    pub(crate) log: Use,
+    pub(crate) nodes: Use,
     pub(crate) search: Use,
 }
 
@@ -58,6 +63,8 @@ const NO_OPTIONS: Uses = Uses {
     number: Use::Refused,
     layout: Use::Refused,
     switch: Use::Refused,
+    log: Use::Refused,
+    nodes: Use::Refused,
     search: Use::Refused,
 };
 
@@ -70,6 +77,7 @@ pub(crate) fn uses_by(job: Job) -> Uses
             deal: Use::Required,
             layouts: Use::Required,
             moves: Use::Required,
+            nodes: Use::Allowed,
             search: Use::Allowed,
             ..NO_OPTIONS
         },
@@ -79,6 +87,7 @@ pub(crate) fn uses_by(job: Job) -> Uses
             moves: Use::Required,
             layout: Use::Required,
             switch: Use::Allowed,
+            nodes: Use::Allowed,
             search: Use::Allowed,
             ..NO_OPTIONS
         },
@@ -99,7 +108,22 @@ pub(crate) fn uses_by(job: Job) -> Uses
         },
         Job::Made => Uses {
             number: Use::Required,
+            nodes: Use::Allowed,
             search: Use::Allowed,
+            ..NO_OPTIONS
+        },
+        Job::Prove => Uses {
+            deal: Use::Required,
+            layouts: Use::Required,
+            moves: Use::Required,
+            nodes: Use::Allowed,
+            ..NO_OPTIONS
+        },
+        Job::Audit => Uses {
+            deal: Use::Required,
+            layouts: Use::Required,
+            report: Use::Required,
+            log: Use::Required,
             ..NO_OPTIONS
         },
     }
@@ -119,18 +143,19 @@ impl Uses {
             (self.number, options.number.is_some()),
             (self.layout, options.layout.is_some()),
             (self.switch, options.switch.is_some()),
+            (self.log, options.log.is_some()),
+            (self.nodes, options.nodes.is_some()),
             (self.search, has_search(options)),
         ];
         uses.iter().all(|(wanted, given)| wanted.is_used_so(*given))
     }
 }
 
-// Whether an option on how to search is given.
+// Whether an option on how to search is given, but for the number of nodes.
 fn has_search(options: &Options<'_>) -> bool
     ensures { result ≡ has_search (options_of options.now) }
 {
-    options.nodes.is_some()
-        || options.workers.is_some()
+    options.workers.is_some()
         || options.shards.is_some()
         || options.room.is_some()
         || options.no_table

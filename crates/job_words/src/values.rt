@@ -65,6 +65,8 @@ pub(crate) fn job_named(name: &str) -> Option<Job>
         "list" => Some(Job::List),
         "check" => Some(Job::Check),
         "made" => Some(Job::Made),
+        "prove" => Some(Job::Prove),
+        "audit" => Some(Job::Audit),
         _ => None,
     }
 }

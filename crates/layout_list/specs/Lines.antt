@@ -1,8 +1,11 @@
 -- The lines of a layout file, read one by one.
-use Rattle.std.specs.Prelude.{◌≡◌, ℕ, ◌+◌, Bool, true, false, not, ◌&&◌, ◌||◌, ◌==◌, Option, None, Some, Result, Ok, Err, List, [], ◌∷◌, length, filter, All, ok_or, bytes_eq, if◌then◌else◌}
-use Rattle.std.specs.List.{list_all, slice_split, enumerate_from}
+use Rattle.std.specs.Prelude.{◌≡◌, ℕ, ◌+◌, Bool, true, false, not, ◌&&◌, ◌||◌, ◌==◌, nat_le, Option, None, Some, Result, Ok, Err, List, [], ◌∷◌, length, filter, take, drop, All, ok_or, bytes_eq, if◌then◌else◌}
+use Rattle.std.specs.List.{list_all, slice_split, enumerate_from, position_or_len}
+use Rattle.std.specs.Option.{option_map}
+use Rattle.std.specs.Str.{all_ascii_digits}
+use Rattle.std.specs.Str.Parse.{digits_value}
 use Rattle.card_sets.specs.declared.seat.Seat.TheVariants.{Left, Dummy, Right}
-use Rattle.byte_text.specs.Blanks.{is_blank}
+use Rattle.byte_text.specs.Blanks.{is_blank, after_blanks}
 use Rattle.byte_text.specs.Lines.{is_line_end}
 use Rattle.pbn_deal.specs.declared.deal.DealValue.{DealValue}
 use Rattle.pbn_deal.specs.declared.deal.DealFault.{DealFault}
@@ -12,9 +15,11 @@ use Rattle.pbn_deal.specs.BoardRead.{together}
 use Rattle.pbn_deal.specs.Deal.{deal_read, hand_at}
 use Rattle.pbn_deal.specs.Sections.{prepend}
 use Rattle.byte_text.specs.Steps.{◌>>=◌}
+use Rattle.win_vectors.specs.Weights.{IsWeight}
 use Rattle.layout_list.specs.declared.fault.LayoutFault.{LayoutFault}
-use Rattle.layout_list.specs.declared.fault.LayoutFault.TheVariants.{BadLine, OtherHands, TooMany}
+use Rattle.layout_list.specs.declared.fault.LayoutFault.TheVariants.{BadLine, OtherHands, TooMany, BadWeight}
 use Rattle.layout_list.specs.declared.line.Layout.{Layout}
+use Rattle.layout_list.specs.declared.line.Weighed.{Weighed}
 
 -- ---- lines
 
@@ -39,6 +44,41 @@ lines_left number (Some text) = enumerate_from number (slice_split is_line_end t
 -- the lines that aren't skipped, each a layout
 abbrev pub layout_lines : List (ℕ × List ℕ) → List (ℕ × List ℕ)
 layout_lines lines = filter (λ line. not (is_skipped line.1)) lines
+
+-- ---- the weight of a layout
+
+-- the greatest weight of a layout
+abbrev pub most_weight : ℕ
+most_weight = 1000000
+
+-- a byte that is no digit
+abbrev pub ends_digits : ℕ → Bool
+ends_digits byte = not (all_ascii_digits (byte ∷ []))
+
+-- the weight that digits write: 1 to 1,000,000, leading zeros allowed
+abbrev pub weight_said : List ℕ → Option ℕ
+weight_said digits =
+    let weight = digits_value 10 digits in
+    if nat_le 1 weight && nat_le weight most_weight then Some weight else None
+
+-- whether a text begins with a blank
+abbrev pub begins_blank : List ℕ → Bool
+begins_blank [] = false
+begins_blank (byte ∷ rest) = is_blank byte
+
+-- the weight that so many digits at the front of a text write, and what stands behind them, where a blank does
+abbrev pub weight_of_digits : ℕ → List ℕ → Option (ℕ × List ℕ)
+weight_of_digits count text =
+    if begins_blank (drop count text) then option_map (λ weight. (weight, drop count text)) (weight_said (take count text))
+    else None
+
+-- the weight at the front of a line and what stands behind it; weight 1 before the whole line where its first byte that isn't
+-- a blank is no digit
+unfoldable pub weight_read : List ℕ → Option (ℕ × List ℕ)
+weight_read line =
+    let text = after_blanks line in
+    let count = position_or_len ends_digits text in
+    if count == 0 then Some (1, line) else weight_of_digits count text
 
 -- ---- one layout
 
@@ -68,22 +108,25 @@ abbrev pub deal_of_line : BoardValue → Option (List ℕ) → ℕ → Result De
 deal_of_line board unseen number (Ok deal) = ok_or (layout_in board unseen deal) (OtherHands number)
 deal_of_line board unseen number (Err fault) = Err (BadLine number fault)
 
--- the defenders' hands in a line, or its refusal
-unfoldable pub line_read : BoardValue → Option (List ℕ) → ℕ → List ℕ → Result Layout LayoutFault
-line_read board unseen number line = deal_of_line board unseen number (deal_read line)
+-- the weight and the defenders' hands in a line, or its refusal
+unfoldable pub line_read : BoardValue → Option (List ℕ) → ℕ → List ℕ → Result Weighed LayoutFault
+line_read board unseen number line = do
+  said ← ok_or (weight_read line) (BadWeight number)
+  layout ← deal_of_line board unseen number (deal_read said.1)
+  Ok (record { weight = said.0; layout = layout })
 
 -- ---- all layouts
 
 -- the most layouts of a file
 abbrev pub most_listed : ℕ
-most_listed = 64
+most_listed = 256
 
--- the layouts of the lines, after some that were read: at most 64 in all, and each with the unseen cards of the first where the board doesn't tell them
-abbrev pub lines_read : BoardValue → Option (List ℕ) → ℕ → List (ℕ × List ℕ) → Result (List Layout) LayoutFault
+-- the layouts of the lines, after some that were read: at most 256 in all, and each with the unseen cards of the first where the board doesn't tell them
+abbrev pub lines_read : BoardValue → Option (List ℕ) → ℕ → List (ℕ × List ℕ) → Result (List Weighed) LayoutFault
 lines_read board unseen count [] = Ok []
 lines_read board unseen count (line ∷ lines) =
     if count == most_listed then Err (TooMany line.0)
-    else line_read board unseen line.0 line.1 >>= (λ layout. prepend (layout ∷ []) (lines_read board (Some (together layout.left layout.right)) (count + 1) lines))
+    else line_read board unseen line.0 line.1 >>= (λ weighed. prepend (weighed ∷ []) (lines_read board (Some (together weighed.layout.left weighed.layout.right)) (count + 1) lines))
 
 -- ---- what a layout that was read keeps
 
@@ -104,11 +147,15 @@ pub record FitsOver (board : BoardValue) (unseen : List ℕ) (layout : Layout) :
   pub same : together layout.left layout.right ≡ unseen
 
 -- layouts of a board, each with the same cards together, which are told if there is a layout
-abbrev pub AreOver : BoardValue → Option (List ℕ) → List Layout → Type 0
+abbrev pub AreOver : BoardValue → Option (List ℕ) → List Weighed → Type 0
 AreOver board None layouts = layouts ≡ []
-AreOver board (Some unseen) layouts = All (FitsOver board unseen) layouts
+AreOver board (Some unseen) layouts = All (λ weighed. FitsOver board unseen weighed.layout) layouts
 
 -- layouts of a board whose defenders hold the same cards together
-abbrev pub IsOneDeal : BoardValue → List Layout → Type 0
+abbrev pub IsOneDeal : BoardValue → List Weighed → Type 0
 IsOneDeal board [] = Unit {0}
-IsOneDeal board (first ∷ rest) = All (FitsOver board (together first.left first.right)) (first ∷ rest)
+IsOneDeal board (first ∷ rest) = All (λ weighed. FitsOver board (together first.layout.left first.layout.right) weighed.layout) (first ∷ rest)
+
+-- each has a weight that a layout may have
+abbrev pub HaveWeights : List Weighed → Type 0
+HaveWeights layouts = All (λ weighed. IsWeight weighed.weight) layouts

@@ -11,8 +11,8 @@ pub enum LayoutFault {
     /// A layout hides a hand, or its hands aren't those of the board.
     #[error("line {0}: the hands are not those of the board")]
     OtherHands(u32),
-    /// The file has more than 64 layouts.
-    #[error("line {0}: there are more than 64 layouts")]
+    /// The file has more than 256 layouts.
+    #[error("line {0}: there are more than 256 layouts")]
     TooMany(u32),
     /// The play rules out each layout of the file.
     #[error("no layout is left")]
@@ -20,4 +20,7 @@ pub enum LayoutFault {
     /// Memory was refused.
     #[error("out of memory")]
     Memory,
+    /// A layout's weight isn't a number from 1 to 1,000,000, or no blank follows it.
+    #[error("line {0}: the weight is not a number from 1 to 1000000 before a blank")]
+    BadWeight(u32),
 }

@@ -1,6 +1,7 @@
 //! What is kept of a layout file, and what the play has ruled out.
 use std::marker::Model;
 use trick_rules::Node;
+use win_vectors::Weights;
 
 /// Why a layout is dropped at a defender's card.
 #[derive(Clone, Copy, Debug, PartialEq, Eq)]
@@ -23,12 +24,14 @@ pub struct Dropped {
 /// The layouts of a file that the play allows, by number, and those that it doesn't, each in file
 /// order.
 ///
-/// The node is the position after the plays with the kept layouts, at least one of them.
+/// The node is the position after the plays with the kept layouts, at least one of them, and each
+/// has its weight.
 #[derive(Debug, Drop)]
 pub struct Kept {
     pub numbers: Vec<u16>,
     pub dropped: Vec<Dropped>,
     pub node: Node,
+    pub weights: Weights,
 }
 
 impl Model for Kept {
@@ -40,5 +43,6 @@ impl Model for Kept {
       numbers = kept.numbers.items;
       dropped = kept.dropped.items;
       node = kept.node;
+      weights = kept.weights;
     } };
 }

@@ -12,5 +12,5 @@ mod verdict;
 
 pub use fault::LayoutFault;
 pub use kept::{Cause, Dropped, Kept};
-pub use line::{Layout, MOST_LISTED};
+pub use line::{Layout, MOST_LISTED, Weighed};
 pub use list::layouts;

@@ -1,24 +1,90 @@
 //! The lines of a layout file.
 ghost use Rattle.std.specs.Prelude.{◌≡◌, ◌&&◌, ◌<◌, ◌≤◌, ◌-◌, ◌^◌, Ok, length, MatchResult, IfOk};
-ghost use Rattle.std.specs.Prelude.{IfSome};
+ghost use Rattle.std.specs.Prelude.{IfSome, map, take, drop, option_map};
+ghost use Rattle.std.specs.List.{position_or_len};
+ghost use Rattle.win_vectors.specs.Weights.{IsWeight};
 ghost use Rattle.pbn_deal.specs.BoardRead.{together};
 ghost use Rattle.pbn_deal.specs.Deal.{IsSoundDeal};
+ghost use Rattle.pbn_deal.specs.Deal.{deal_read};
 ghost use Rattle.layout_list.specs.Lines.{is_skipped, same_set, is_told, layout_in, line_read};
+ghost use Rattle.layout_list.specs.Lines.{deal_of_line};
 ghost use Rattle.layout_list.specs.Lines.{numbered_lines, layout_lines, lines_read, most_listed};
-ghost use Rattle.layout_list.specs.Lines.{FitsBoard, IsTold, IsOneDeal};
+ghost use Rattle.layout_list.specs.Lines.{ends_digits, weight_said, weight_of_digits, weight_read};
+ghost use Rattle.layout_list.specs.Lines.{FitsBoard, IsTold, IsOneDeal, HaveWeights};
 ghost use Rattle.layout_list.specs.Layouts.{IsLayoutFaultOf};
 
 use crate::fault::LayoutFault;
-use byte_text::{are_blanks, split_line};
+use byte_text::{are_blanks, is_blank, skip_blanks, split_line};
 use card_sets::{CardSet, Seat};
 use pbn_deal::{Board, DealValue, read_deal};
 use std::alloc::Global;
+use win_vectors::MAX_WEIGHT;
 
 /// The hands of the two defenders before the first card.
 #[derive(Clone, Copy, Debug)]
 pub struct Layout {
     pub left: CardSet,
     pub right: CardSet,
+}
+
+/// A layout of a file with its weight, from 1 to 1,000,000.
+#[derive(Clone, Copy, Debug)]
+pub struct Weighed {
+    pub weight: u32,
+    pub layout: Layout,
+}
+
+// The weight that digits write, with leading zeros or without.
+fn weight_said(digits: &[u8]) -> Option<u32>
+    ensures weight { result ≡ weight_said digits.now }
+    ensures range { IfSome result IsWeight }
+{
+    let mut weight = 0u32;
+    for digit in digits {
+        weight = (weight * 10 + u32::from(digit.wrapping_sub(b'0'))).min(MAX_WEIGHT + 1);
+    }
+    if 1 <= weight && weight <= MAX_WEIGHT {
+        Some(weight)
+    } else {
+        None
+    }
+}
+
+// How many digits stand at the front.
+fn digits_len(text: &[u8]) -> usize
+    ensures len { result ≡ position_or_len ends_digits text.now }
+    ensures inside { result ≤ length text.now }
+{
+    text.iter()
+        .position(|byte| !byte.is_ascii_digit())
+        .unwrap_or(text.len())
+}
+
+// The weight that so many digits at the front of a text write, and what stands behind them.
+fn weight_of_digits(count: usize, text: &[u8]) -> Option<(u32, &[u8])>
+    requires { count ≤ length text.now }
+    ensures { option_map (λ said. (said.0, said.1.now)) result ≡ weight_of_digits count text.now }
+{
+    let rest = &text[count..];
+    if !rest.first().is_some_and(|byte| is_blank(*byte)) {
+        return None;
+    }
+    let weight = weight_said(&text[..count])?;
+    Some((weight, rest))
+}
+
+// The weight at the front of a line and what stands behind it. A line that begins with no digit has
+// weight 1.
+#[tactic(auto, unfolding(crate::specs::Lines::weight_read))]
+fn read_weight(line: &[u8]) -> Option<(u32, &[u8])>
+    ensures said { option_map (λ said. (said.0, said.1.now)) result ≡ weight_read line.now }
+    ensures range { IfSome result (λ said. IsWeight said.0) }
+{
+    let text = skip_blanks(line);
+    match digits_len(text) {
+        0 => Some((1, line)),
+        count => weight_of_digits(count, text),
+    }
 }
 
 /// Whether a line is no layout: blanks alone, or a line that begins with `%`.
@@ -65,33 +131,51 @@ fn layout_in(board: &Board, unseen: Option<CardSet>, deal: &DealValue) -> Option
     }
 }
 
-// The defenders' hands in a line.
+// The defenders' hands in the Deal form, on a line of this number.
+fn read_hands(
+    board: &Board,
+    unseen: Option<CardSet>,
+    number: u32,
+    text: &[u8],
+) -> Result<Layout, LayoutFault>
+    ensures value { result ≡ deal_of_line board.now unseen number (deal_read text.now) }
+    ensures fits { IfOk result (FitsBoard board.now) }
+    ensures told { IfOk result (λ layout. IsTold unseen (together layout.left layout.right)) }
+{
+    match read_deal(text) {
+        Ok(deal) => layout_in(board, unseen, &deal).ok_or(LayoutFault::OtherHands(number)),
+        Err(fault) => Err(LayoutFault::BadLine(number, fault)),
+    }
+}
+
+// The weight and the defenders' hands in a line.
 #[tactic(auto, unfolding(crate::specs::Lines::line_read))]
 fn read_line(
     board: &Board,
     unseen: Option<CardSet>,
     number: u32,
     line: &[u8],
-) -> Result<Layout, LayoutFault>
+) -> Result<Weighed, LayoutFault>
     ensures value { result ≡ line_read board.now unseen number line.now }
-    ensures fits { IfOk result (FitsBoard board.now) }
-    ensures told { IfOk result (λ layout. IsTold unseen (together layout.left layout.right)) }
+    ensures weight { IfOk result (λ weighed. IsWeight weighed.weight) }
+    ensures fits { IfOk result (λ weighed. FitsBoard board.now weighed.layout) }
+    ensures told { IfOk result (λ weighed.
+        IsTold unseen (together weighed.layout.left weighed.layout.right)) }
 {
-    match read_deal(line) {
-        Ok(deal) => layout_in(board, unseen, &deal).ok_or(LayoutFault::OtherHands(number)),
-        Err(fault) => Err(LayoutFault::BadLine(number, fault)),
-    }
+    let (weight, text) = read_weight(line).ok_or(LayoutFault::BadWeight(number))?;
+    let layout = read_hands(board, unseen, number, text)?;
+    Ok(Weighed { weight, layout })
 }
 
 /// The most layouts of a file.
-pub const MOST_LISTED: usize = 64;
+pub const MOST_LISTED: usize = 256;
 
 // The layouts of a file's lines, in order, or the first fault.
 pub(crate) fn read_lines(
     alloc: Global,
     bytes: &[u8],
     board: &Board,
-) -> Result<Vec<Layout>, LayoutFault>
+) -> Result<Vec<Weighed>, LayoutFault>
     requires { length bytes.now < 2 ^ 32 - 1 }
     ensures layouts { MatchResult result
         (λ layouts. lines_read board.now board.now.unseen 0
@@ -99,6 +183,7 @@ pub(crate) fn read_lines(
         (IsLayoutFaultOf
         (lines_read board.now board.now.unseen 0 (layout_lines (numbered_lines bytes.now)))) }
     ensures one_deal { IfOk result (λ layouts. IsOneDeal board.now layouts.items) }
+    ensures weights { IfOk result (λ layouts. HaveWeights layouts.items) }
     ensures few { IfOk result (λ layouts. length layouts.items ≤ most_listed) }
 {
     let mut layouts = Vec::new(alloc);
@@ -115,9 +200,9 @@ pub(crate) fn read_lines(
         if layouts.len() == MOST_LISTED {
             return Err(LayoutFault::TooMany(number));
         }
-        let layout = read_line(board, unseen, number, line)?;
-        unseen = Some(layout.left.either(layout.right));
-        layouts.push(layout).map_err(|_| LayoutFault::Memory)?;
+        let weighed = read_line(board, unseen, number, line)?;
+        unseen = Some(weighed.layout.left.either(weighed.layout.right));
+        layouts.push(weighed).map_err(|_| LayoutFault::Memory)?;
     }
     Ok(layouts)
 }

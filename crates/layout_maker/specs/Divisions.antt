@@ -8,7 +8,7 @@ use Rattle.layout_list.specs.Lines.{most_listed}
 use Rattle.layout_list.specs.Verdicts.{first_position}
 use Rattle.layout_list.specs.Layouts.{verdict}
 use Rattle.layout_maker.specs.declared.fault.MakeFault.{MakeFault}
-use Rattle.layout_maker.specs.declared.fault.MakeFault.TheVariants.{MoreThan64, NoneFit, NotShown, Memory}
+use Rattle.layout_maker.specs.declared.fault.MakeFault.TheVariants.{TooManyFit, NoneFit, NotShown, Memory}
 
 -- ---- every division of the cards
 
@@ -36,11 +36,11 @@ is_allowed board unseen layout = is_none (verdict board.plays (first_position bo
 unfoldable pub layouts_over : BoardValue → List ℕ → List Layout
 layouts_over board unseen = filter (is_allowed board unseen) (divisions (tricks_of board) unseen)
 
--- a list of at least one layout and at most 64, or else why it isn't given
+-- a list of at least one layout and at most 256, or else why it isn't given
 abbrev pub if_few : List Layout → Result (List Layout) MakeFault
 if_few layouts =
     if length layouts == 0 then Err NoneFit
-    else if nat_lt most_listed (length layouts) then Err (MoreThan64 (length layouts))
+    else if nat_lt most_listed (length layouts) then Err (TooManyFit (length layouts))
     else Ok layouts
 
 -- the layouts over the unseen cards, where they are shown

@@ -4,9 +4,9 @@ use thiserror::Error;
 /// Why a board's layouts aren't listed.
 #[derive(Clone, Copy, Debug, PartialEq, Eq, Error)]
 pub enum MakeFault {
-    /// More than 64 layouts fit, as many as this.
+    /// More than 256 layouts fit, as many as this.
     #[error("{0} layouts fit")]
-    MoreThan64(u128),
+    TooManyFit(u128),
     /// The play rules out every layout.
     #[error("no layout fits")]
     NoneFit,

@@ -27,7 +27,7 @@ fn listed(alloc: Global, unseen: CardSet, choices: &Choices) -> Result<Vec<Layou
         return Err(MakeFault::NoneFit);
     }
     if count > MOST_LISTED as u64 {
-        return Err(MakeFault::MoreThan64(u128::from(count)));
+        return Err(MakeFault::TooManyFit(u128::from(count)));
     }
     match choices.layouts(alloc, unseen) {
         Ok(layouts) => Ok(layouts),
@@ -40,8 +40,8 @@ fn listed(alloc: Global, unseen: CardSet, choices: &Choices) -> Result<Vec<Layou
 ///
 /// The order is that of Left's cards still held, compared card by card in card order. The fault is
 /// `NotShown` exactly where the board doesn't tell the unseen cards, else `NoneFit` exactly where
-/// the play allows no division, and else `MoreThan64` exactly where it allows more than 64, with
-/// their number. `Memory` may come in place of any answer.
+/// the play allows no division, and else `TooManyFit` exactly where it allows more than 256,
+/// with their number. `Memory` may come in place of any answer.
 pub fn all_layouts(alloc: Global, board: &Board) -> Result<Vec<Layout>, MakeFault>
     ensures { MatchResult result
         (λ layouts. layouts_made board.now ≡ Ok layouts.items)

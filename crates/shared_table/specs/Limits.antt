@@ -11,4 +11,4 @@ most_room = 65536
 
 -- the most entries that a table may have room for, in all its shards
 abbrev pub most_entries : ℕ
-most_entries = 1048576
+most_entries = 262144

@@ -1,0 +1,29 @@
+//! The log that proves a root's front complete, as text.
+ghost use Rattle.std.specs.Prelude.{◌≡◌, ◌≤◌, true, Ok, IfOk, IfErr};
+ghost use Rattle.job_words.specs.Asks.{IsMoves, most_logged};
+ghost use Rattle.am_answer.specs.Answers.{has_choice, Proof};
+ghost use Rattle.am_answer.specs.Stages.{IsTaskRefusal, IsTextFor};
+
+use am_answer::{Root, Status, root_status};
+use byte_text::Text;
+use dd_solver::Solver;
+use log_maker::log_of;
+use log_texts::log_text;
+use std::alloc::Global;
+
+/// The log of a root's front, by so many moves of declarer's side, where the tree after each root
+/// card has at most so many nodes. Refused with `Spent` exactly where one has more, at the first
+/// such card, or with `Memory`.
+pub fn prove_front(alloc: Global, root: &Root, moves: u8, nodes: u64) -> Result<Text, Status>
+    requires turn { has_choice root.now.kept.node ≡ true }
+    requires moves { IsMoves moves }
+    requires nodes { nodes ≤ most_logged }
+    ensures text { IfOk result (IsTextFor (Ok (Proof root.now moves nodes))) }
+    ensures refused { IfErr result (IsTaskRefusal (Ok (Proof root.now moves nodes))) }
+{
+    let mut solver = Solver::new(alloc);
+    match log_of(alloc, &mut solver, &root.kept.node, moves, nodes) {
+        Ok(log) => Ok(log_text(alloc, &log)?),
+        Err(fault) => Err(root_status(fault)),
+    }
+}
