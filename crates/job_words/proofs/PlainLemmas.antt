@@ -16,9 +16,9 @@ use Rattle.job_words.specs.Command.{option_command}
 use Rattle.job_words.specs.Options.{OptionValues, options_at, options_read}
 use Rattle.job_words.specs.Values.{file_named, is_value, job_named, number_in, number_read, number_or}
 use Rattle.job_words.specs.Table.{keeps_to}
-use Rattle.job_words.specs.Asks.{Card, Check, Fusion, ListOf, Made, Match, OnLayouts, Solve}
-use Rattle.job_words.specs.Plain.{card_words, check_words, fusion_words, list_words, made_words, match_words, plain_search, solve_words}
-use Rattle.job_words.specs.Words.{ask_in, card_in, check_in, job_in, list_in, made_in, match_in, moves_in, on_layouts, search_in, solve_in, switch_in, table_in, words_read}
+use Rattle.job_words.specs.Asks.{Audit, Card, Check, Fusion, ListOf, Made, Match, OnLayouts, Prove, Solve}
+use Rattle.job_words.specs.Plain.{audit_words, card_words, check_words, fusion_words, list_words, made_words, match_words, plain_search, prove_words, solve_words}
+use Rattle.job_words.specs.Words.{ask_in, audit_in, card_in, check_in, job_in, list_in, made_in, match_in, moves_in, on_layouts, prove_in, search_in, solve_in, switch_in, table_in, words_read}
 
 unfoldable pub shape : Shape
 unfolding option_command
@@ -104,6 +104,10 @@ module _ (word : Text) (plain : IsPlainWord word) (rows : List Row) where
   unfolding shape option_command clap_on_literals
   number_value rest to = steps (waits rows (codes "number")) (has rows (codes "number") word) to word rest (rw (plain.dashes, plain.long, plain.short) refl) (rw (plain.dashes, plain.long, plain.short) refl)
 
+  log_value : (rest : List Text) (to : Walk) → Leads (has rows (codes "log") word) rest to → Leads (waits rows (codes "log")) (word ∷ rest) to
+  unfolding shape option_command clap_on_literals
+  log_value rest to = steps (waits rows (codes "log")) (has rows (codes "log") word) to word rest (rw (plain.dashes, plain.long, plain.short) refl) (rw (plain.dashes, plain.long, plain.short) refl)
+
   layout_value : (rest : List Text) (to : Walk) → Leads (has rows (codes "layout") word) rest to → Leads (waits rows (codes "layout")) (word ∷ rest) to
   unfolding shape option_command clap_on_literals
   layout_value rest to = steps (waits rows (codes "layout")) (has rows (codes "layout") word) to word rest (rw (plain.dashes, plain.long, plain.short) refl) (rw (plain.dashes, plain.long, plain.short) refl)
@@ -155,6 +159,12 @@ module _ (job deal layouts : Text) where
   unfolding shape option_command clap_on_literals
   layout_option moves rest to = steps (has three_rows (codes "moves") moves) (waits (row (codes "job") job ∷ row (codes "deal") deal ∷ row (codes "layouts") layouts ∷ row (codes "moves") moves ∷ []) (codes "layout")) to (codes "--layout") rest refl refl
 
+  log_option : (report : Text) (rest : List Text) (to : Walk)
+      → Leads (waits (row (codes "job") job ∷ row (codes "deal") deal ∷ row (codes "layouts") layouts ∷ row (codes "report") report ∷ []) (codes "log")) rest to
+      → Leads (has three_rows (codes "report") report) (codes "--log" ∷ rest) to
+  unfolding shape option_command clap_on_literals
+  log_option report rest to = steps (has three_rows (codes "report") report) (waits (row (codes "job") job ∷ row (codes "deal") deal ∷ row (codes "layouts") layouts ∷ row (codes "report") report ∷ []) (codes "log")) to (codes "--log") rest refl refl
+
 -- the words of a walk from its start that ends with all words read
 abbrev reads : List Text → Walk → Type 0
 reads all to = Leads (at [] None idle) all to
@@ -171,6 +181,7 @@ module _ (job deal : Text) where
     number = None;
     layout = None;
     switch = None;
+    log = None;
     nodes = None;
     workers = None;
     shards = None;
@@ -211,6 +222,7 @@ module _ (job deal layouts : Text) where
     number = None;
     layout = None;
     switch = None;
+    log = None;
     nodes = None;
     workers = None;
     shards = None;
@@ -251,6 +263,7 @@ module _ (job deal layouts moves : Text) where
     number = None;
     layout = None;
     switch = None;
+    log = None;
     nodes = None;
     workers = None;
     shards = None;
@@ -291,6 +304,7 @@ module _ (job deal layouts moves layout : Text) where
     number = None;
     layout = Some layout;
     switch = None;
+    log = None;
     nodes = None;
     workers = None;
     shards = None;
@@ -331,6 +345,7 @@ module _ (job deal layouts report : Text) where
     number = None;
     layout = None;
     switch = None;
+    log = None;
     nodes = None;
     workers = None;
     shards = None;
@@ -360,6 +375,47 @@ module _ (job deal layouts report : Text) where
       rw (check_no_fault _ leads, check_found _ leads) refl
 
 -- the words with these values
+module _ (job deal layouts report log : Text) where
+  abbrev audit_options : OptionValues
+  audit_options = record {
+    job = Some job;
+    deal = Some deal;
+    layouts = Some layouts;
+    report = Some report;
+    moves = None;
+    number = None;
+    layout = None;
+    switch = None;
+    log = Some log;
+    nodes = None;
+    workers = None;
+    shards = None;
+    room = None;
+    no_table = false;
+    no_cuts = false;
+  }
+
+  abbrev audit_walk : Walk
+  audit_walk = has (row (codes "job") job ∷ row (codes "deal") deal ∷ row (codes "layouts") layouts ∷ row (codes "report") report ∷ []) (codes "log") log
+
+  audit_no_fault : (all : List Text) → reads all audit_walk → fault_of option_command all ≡ []
+  unfolding shape option_command clap_on_literals
+  audit_no_fault all leads = rw (leads.fault, leads.walk) refl
+
+  audit_found : (all : List Text) → reads all audit_walk → options_at (matches_of option_command all) ≡ audit_options
+  unfolding shape option_command clap_on_literals
+  audit_found all leads = rw leads.walk refl
+
+  audit_leads : is_value job ≡ true → is_value deal ≡ true → is_value layouts ≡ true → is_value report ≡ true → is_value log ≡ true → reads (codes "--job" ∷ job ∷ codes "--deal" ∷ deal ∷ codes "--layouts" ∷ layouts ∷ codes "--report" ∷ report ∷ codes "--log" ∷ log ∷ []) audit_walk
+  audit_leads job_is deal_is layouts_is report_is log_is = job_option job deal layouts _ _ (job_value job (plain_word job job_is) _ _ _ (deal_option job deal layouts _ _ (deal_value deal (plain_word deal deal_is) _ _ _ (layouts_option job deal layouts _ _ (layouts_value layouts (plain_word layouts layouts_is) _ _ _ (report_option job deal layouts _ _ (report_value report (plain_word report report_is) _ _ _ (log_option job deal layouts report _ _ (log_value log (plain_word log log_is) _ _ _ (ends _))))))))))
+
+  audit_read : is_value job ≡ true → is_value deal ≡ true → is_value layouts ≡ true → is_value report ≡ true → is_value log ≡ true → options_read (codes "--job" ∷ job ∷ codes "--deal" ∷ deal ∷ codes "--layouts" ∷ layouts ∷ codes "--report" ∷ report ∷ codes "--log" ∷ log ∷ []) ≡ Some audit_options
+  unfolding options_read
+  audit_read job_is deal_is layouts_is report_is log_is =
+      let leads = audit_leads job_is deal_is layouts_is report_is log_is in
+      rw (audit_no_fault _ leads, audit_found _ leads) refl
+
+-- the words with these values
 module _ (job number : Text) where
   abbrev made_options : OptionValues
   made_options = record {
@@ -371,6 +427,7 @@ module _ (job number : Text) where
     number = Some number;
     layout = None;
     switch = None;
+    log = None;
     nodes = None;
     workers = None;
     shards = None;
@@ -507,4 +564,35 @@ made_asks number value number_is =
       (plain_word number digits_are).dashes,
       made_read (codes "made") number refl digits_are,
       number_is,
+    ) refl
+
+pub prove_asks : (deal layouts moves : List ℕ) (number : ℕ) → is_value deal ≡ true → is_value layouts ≡ true → number_in 1 most_moves moves ≡ Some number
+    → words_read (prove_words deal layouts moves) ≡ Some (OnLayouts deal layouts (Prove number 10000000))
+unfolding words_read ask_in job_in on_layouts prove_in moves_in job_named keeps_to file_named number_or
+prove_asks deal layouts moves number deal_is layouts_is number_is =
+    let moves_is = is_value-number_in 1 most_moves moves number number_is in
+    rw (
+      (plain_word deal deal_is).dashes,
+      (plain_word layouts layouts_is).dashes,
+      (plain_word moves moves_is).dashes,
+      searched_read (codes "prove") deal layouts moves refl deal_is layouts_is moves_is,
+      number_is,
+      deal_is,
+      layouts_is,
+    ) refl
+
+pub audit_asks : (deal layouts report log : List ℕ) → is_value deal ≡ true → is_value layouts ≡ true → is_value report ≡ true → is_value log ≡ true
+    → words_read (audit_words deal layouts report log) ≡ Some (OnLayouts deal layouts (Audit report log))
+unfolding words_read ask_in job_in on_layouts audit_in job_named keeps_to file_named number_or
+audit_asks deal layouts report log deal_is layouts_is report_is log_is =
+    rw (
+      (plain_word deal deal_is).dashes,
+      (plain_word layouts layouts_is).dashes,
+      (plain_word report report_is).dashes,
+      (plain_word log log_is).dashes,
+      audit_read (codes "audit") deal layouts report log refl deal_is layouts_is report_is log_is,
+      report_is,
+      log_is,
+      deal_is,
+      layouts_is,
     ) refl

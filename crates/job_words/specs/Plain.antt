@@ -36,6 +36,17 @@ check_words deal layouts report =
 abbrev pub made_words : List ℕ → List (List ℕ)
 made_words number = codes "--job" ∷ codes "made" ∷ codes "--number" ∷ number ∷ []
 
+-- the log that proves a front complete, by trees of 10,000,000 nodes at most
+abbrev pub prove_words : List ℕ → List ℕ → List ℕ → List (List ℕ)
+prove_words deal layouts moves =
+    codes "--job" ∷ codes "prove" ∷ codes "--deal" ∷ deal ∷ codes "--layouts" ∷ layouts ∷ codes "--moves" ∷ moves ∷ []
+
+-- the audit of a report by a log
+abbrev pub audit_words : List ℕ → List ℕ → List ℕ → List ℕ → List (List ℕ)
+audit_words deal layouts report log =
+    codes "--job" ∷ codes "audit" ∷ codes "--deal" ∷ deal ∷ codes "--layouts" ∷ layouts ∷ codes "--report" ∷ report
+    ∷ codes "--log" ∷ log ∷ []
+
 -- how to search where the words say nothing of it
 abbrev pub plain_search : Search
 plain_search = record {

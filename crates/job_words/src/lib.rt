@@ -1,4 +1,4 @@
-//! What the words of the command line ask for: one of seven jobs, with just what that job needs.
+//! What the words of the command line ask for: one of nine jobs, with just what that job needs.
 //! It stands on clap, which reads the options as one simple command.
 //! Its contract promises the one ask that the grammar of the words gives, or the refusal of all
 //! other words.
@@ -6,8 +6,11 @@
 
 ghost use Rattle.std.specs.Prelude.{◌≡◌, ◌-◌, ◌^◌, ℕ, List, None, Some, IfOk, IfSome, option_map, true};
 ghost use Rattle.trick_rules.specs.Nodes.{most_moves};
-ghost use Rattle.job_words.specs.Asks.{Card, Check, Fusion, IsWithinLimits, ListOf, Made, Match, OnLayouts, Solve, ask_of, texts_of};
-ghost use Rattle.job_words.specs.Plain.{card_words, check_words, fusion_words, list_words, made_words, match_words, plain_search, solve_words};
+ghost use Rattle.job_words.specs.Asks.{Audit, Card, Check, Fusion, IsWithinLimits, ListOf, Made};
+ghost use Rattle.job_words.specs.Asks.{Match, OnLayouts, Prove, Solve, ask_of, texts_of};
+ghost use Rattle.job_words.specs.Plain.{audit_words, card_words, check_words, fusion_words};
+ghost use Rattle.job_words.specs.Plain.{list_words, made_words, match_words, plain_search};
+ghost use Rattle.job_words.specs.Plain.{prove_words, solve_words};
 ghost use Rattle.job_words.specs.Values.{is_value, number_in};
 ghost use Rattle.job_words.specs.Words.{has_two_dashes, words_read};
 
@@ -66,6 +69,16 @@ pub fn plain_words_are_read()
         ≡ Some (OnLayouts deal layouts (Check report)) }
     ensures made { (digits : List ℕ) (number : ℕ) → number_in 0 (2 ^ 64 - 1) digits ≡ Some number
         → words_read (made_words digits) ≡ Some (Made number plain_search) }
+    ensures prove { (deal layouts moves : List ℕ) (number : ℕ) → is_value deal ≡ true
+        → is_value layouts ≡ true
+        → number_in 1 most_moves moves ≡ Some number
+        → words_read (prove_words deal layouts moves)
+        ≡ Some (OnLayouts deal layouts (Prove number 10000000)) }
+    ensures audit { (deal layouts report log : List ℕ) → is_value deal ≡ true
+        → is_value layouts ≡ true
+        → is_value report ≡ true → is_value log ≡ true
+        → words_read (audit_words deal layouts report log)
+        ≡ Some (OnLayouts deal layouts (Audit report log)) }
 {}
 
 fn has_two_dashes(words: &[String]) -> bool

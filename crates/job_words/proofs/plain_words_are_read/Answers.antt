@@ -1,4 +1,4 @@
-use Rattle.job_words.proofs.PlainLemmas.{card_asks, check_asks, fusion_asks, list_asks, made_asks, match_asks, solve_asks}
+use Rattle.job_words.proofs.PlainLemmas.{audit_asks, card_asks, check_asks, fusion_asks, list_asks, made_asks, match_asks, prove_asks, solve_asks}
 use Rattle.job_words.proofs.plain_words_are_read.Goals as goal
 
 pub returns-clause-solve : goal.returns-clause-solve
@@ -21,3 +21,9 @@ returns-clause-check c = check_asks
 
 pub returns-clause-made : goal.returns-clause-made
 returns-clause-made c = made_asks
+
+pub returns-clause-prove : goal.returns-clause-prove
+returns-clause-prove c = prove_asks
+
+pub returns-clause-audit : goal.returns-clause-audit
+returns-clause-audit c = audit_asks

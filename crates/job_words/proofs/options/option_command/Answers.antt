@@ -10,7 +10,7 @@ use Rattle.job_words.proofs.options.option_command.Goals as goal
 pub returns : goal.returns
 unfolding option_command
 returns c =
-    let all : c.loop-name.name-index ≡ 12 = omega arith in
+    let all : c.loop-name.name-index ≡ 13 = omega arith in
     let values : app_of c.loop-name.command ≡ fold with_rule bare_command (map value_option value_names) = rw all at c.loop-name.invariant in
     let table : app_of c.in_ok-arg.field-0 ≡ with_rule (fold with_rule bare_command (map value_option value_names)) (flag_option (codes "no-table")) =
     c.in_ok-arg.ensures.shape c.flag_option.ensures.local ∙ ap₂ with_rule values c.flag_option.ensures.rule in

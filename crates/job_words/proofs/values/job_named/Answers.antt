@@ -31,6 +31,14 @@ pub returns-in-made : goal.returns-in-made
 unfolding job_named
 returns-in-made c = sym (ap job_named c.in-made.is)
 
+pub returns-in-prove : goal.returns-in-prove
+unfolding job_named
+returns-in-prove c = sym (ap job_named c.in-prove.is)
+
+pub returns-in-audit : goal.returns-in-audit
+unfolding job_named
+returns-in-audit c = sym (ap job_named c.in-audit.is)
+
 pub returns-in_default : goal.returns-in_default
 unfolding job_named
 returns-in_default c =
@@ -41,4 +49,6 @@ returns-in_default c =
     let list = bytes_ne c.args.name.now (codes "list") c.in_default.not-list in
     let check = bytes_ne c.args.name.now (codes "check") c.in_default.not-check in
     let made = bytes_ne c.args.name.now (codes "made") c.in_default.not-made in
-    rw (solve, card, played, fusion, list, check, made) refl
+    let prove = bytes_ne c.args.name.now (codes "prove") c.in_default.not-prove in
+    let audit = bytes_ne c.args.name.now (codes "audit") c.in_default.not-audit in
+    rw (solve, card, played, fusion, list, check, made, prove, audit) refl

@@ -18,4 +18,6 @@ returns c =
     let number = is_some-text options.number ∙ sym c.is_some-5.ensures in
     let layout = is_some-text options.layout ∙ sym c.is_some-6.ensures in
     let switch = is_some-text options.switch ∙ sym c.is_some-7.ensures in
-    rw (deal, layouts, report, moves, number, layout, switch, sym c.has_search.ensures) all
+    let log = is_some-text options.log ∙ sym c.is_some-8.ensures in
+    let nodes = is_some-text options.nodes ∙ sym c.is_some-9.ensures in
+    rw (deal, layouts, report, moves, number, layout, switch, log, nodes, sym c.has_search.ensures) all
