@@ -9,8 +9,10 @@ use std::thread::Threads;
 mod jobs;
 mod matches;
 mod options;
+mod proofs;
 mod refusals;
 mod reports;
+mod weights;
 mod workers;
 
 // Two spades opposite king and jack, with one of two tricks needed and North, dummy, to lead.

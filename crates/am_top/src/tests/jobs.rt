@@ -47,7 +47,7 @@ fn layouts_that_are_not_listed_are_counted(rt: HostRuntime) -> Result<(), Fail> 
         "[Deal \"N:32.AKQJ.JT98.432 - AQ.T987.KQ5.AKQ5 -\"]\n[Declarer \"S\"]\n[Contract \"6NT\"]\n";
     let run = ran(&rt, rt.alloc(), LIST, deal, "")?;
     let line = "alphamu: 10400600 layouts fit\n";
-    assert!(rt; run.ends_with(Status::BadMake(MakeFault::MoreThan64(10_400_600)), "", line));
+    assert!(rt; run.ends_with(Status::BadMake(MakeFault::TooManyFit(10_400_600)), "", line));
     let deal =
         "[Deal \"N:32... A7... KJ... Q5...\"]\n[Declarer \"S\"]\n[Contract \"1NT\"]\n[EndNeed \"1\"]\n[EndLead \"N\"]\n[Play \"N\"]\nS2 S9 - -\n*\n";
     let run = ran(&rt, rt.alloc(), LIST, deal, "")?;

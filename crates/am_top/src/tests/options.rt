@@ -6,11 +6,12 @@ use card_sets::{Card, Rank, Suit};
 use std::test::Fail;
 
 // The queen is on either side, with two moves.
-const QUEEN_WITH: [&str; 4] = [
+const QUEEN_WITH: [&str; 5] = [
     "--job solve --deal deal --layouts layouts --moves 2 --no-table",
     "--job solve --deal deal --layouts layouts --moves 2 --no-cuts",
     "--job solve --deal deal --layouts layouts --moves 2 --no-table --no-cuts",
-    "--job solve --deal deal --layouts layouts --moves 2 --shards 1 --room 1",
+    "--job solve --deal deal --layouts layouts --moves 2 --shards 1 --room 1 --workers 4",
+    "--job solve --deal deal --layouts layouts --moves 2 --shards 64 --room 4096",
 ];
 
 #[test]

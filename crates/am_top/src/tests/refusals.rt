@@ -23,7 +23,14 @@ struct Case {
     line: &'static str,
 }
 
-const WORDS_AND_FILES: [Case; 5] = [
+const WORDS_AND_FILES: [Case; 6] = [
+    Case {
+        words: "--job solve --deal deal --layouts layouts --moves 2 --shards 64 --room 4097",
+        deal: QUEEN,
+        layouts: QUEEN_LAYOUTS,
+        status: Status::BadWords,
+        line: "alphamu: usage: --job JOB [OPTIONS]\n",
+    },
     Case {
         words: "--job solve --deal deal --layouts layouts --moves 0",
         deal: QUEEN,
