@@ -1,5 +1,5 @@
 -- What a layout that was read keeps.
-use Rattle.std.proofs.Common.{◌≡◌, ℕ, Bool, true, false, List, [], ◌∷◌, All, subst, arith, Option, None, Some, length, refl, sym, ap, ◌∙◌}
+use Rattle.std.proofs.Common.{◌≡◌, ℕ, true, List, [], ◌∷◌, All, subst, arith, Option, None, Some, sym, ap, ◌∙◌}
 use Rattle.std.specs.Prelude.{bytes_eq, ◌&&◌}
 use Rattle.std.proofs.lemmas.Bool.{and_parts}
 use Rattle.std.proofs.lemmas.Slice.Eq.{bytes_eq-Decides}
@@ -8,7 +8,7 @@ use Rattle.pbn_deal.specs.declared.deal.DealValue.{DealValue}
 use Rattle.pbn_deal.specs.Boards.{BoardValue, compass_of}
 use Rattle.pbn_deal.specs.Deal.{hand_at, IsSoundDeal}
 use Rattle.pbn_deal.proofs.DealtBoards.{both_fit}
-use Rattle.layout_list.specs.declared.line.Layout.{Layout}
+use Rattle.layout_list.specs.declared.line.Weighed.{Weighed}
 use Rattle.layout_list.specs.Lines.{same_set, FitsBoard, FitsOver, AreOver, IsOneDeal}
 
 same_list : (xs ys : List ℕ) → bytes_eq xs ys ≡ true → xs ≡ ys
@@ -30,7 +30,7 @@ fits_board board deal own dummy left right sound own_is dummy_is left_is right_i
     }
 
 -- layouts over the same cards are one deal
-pub one_deal : (board : BoardValue) (unseen : Option (List ℕ)) (layouts : List Layout) → AreOver board unseen layouts → IsOneDeal board layouts
+pub one_deal : (board : BoardValue) (unseen : Option (List ℕ)) (layouts : List Weighed) → AreOver board unseen layouts → IsOneDeal board layouts
 one_deal board None layouts none = subst (IsOneDeal board) (sym none) tt
 one_deal board (Some unseen) [] over = tt
-one_deal board (Some unseen) (first ∷ rest) over = subst (λ (u : List ℕ). All (FitsOver board u) (first ∷ rest)) (sym (over 0 first (omega arith)).same) over
+one_deal board (Some unseen) (first ∷ rest) over = subst (λ (u : List ℕ). All (λ w. FitsOver board u w.layout) (first ∷ rest)) (sym (over 0 first (omega arith)).same) over

@@ -1,10 +1,8 @@
 -- The play of a board at a layout, card by card.
-use Rattle.std.proofs.Common.{◌≡◌, ℕ, ◌+◌, ◌<◌, ◌≤◌, Bool, true, false, not, cond, List, [], ◌∷◌, ◌++◌, Option, None, Some, length, refl, sym, ap, ap₂, ◌∙◌, subst, arith}
-use Rattle.std.specs.Prelude.{◌==◌}
-use Rattle.std.proofs.lemmas.Bool.{false≢true, cases_Bool}
+use Rattle.std.proofs.Common.{◌≡◌, ℕ, Bool, true, false, not, cond, List, ◌∷◌, None, Some, refl, sym, ap, ◌∙◌, subst}
 use Rattle.card_sets.specs.declared.seat.Seat.{Seat}
 use Rattle.card_sets.specs.declared.seat.Seat.TheVariants.{Declarer, Left, Dummy, Right}
-use Rattle.card_sets.specs.SetWords.{has_card, Apart}
+use Rattle.card_sets.specs.SetWords.{has_card}
 use Rattle.card_sets.proofs.SetCounts.{take_out-absent}
 use Rattle.card_sets.proofs.Sets.{Apart-sym}
 use Rattle.trick_rules.specs.declared.trump.Trump.{Trump}
@@ -14,10 +12,9 @@ use Rattle.trick_rules.proofs.States.{after_card-declarer, after_card-dummy, aft
 use Rattle.trick_rules.proofs.PlayLaws.{a_legal_card_leads_to_a_state, a_legal_card_can_be_played}
 use Rattle.pbn_deal.specs.declared.board.Played.{Played}
 use Rattle.pbn_deal.specs.declared.course.Course.{Course}
-use Rattle.pbn_deal.specs.Boards.{turn_in, declarer_without, dummy_without, next_course, IsFair, IsCourse}
-use Rattle.layout_list.specs.declared.kept.Cause.{Cause}
+use Rattle.pbn_deal.specs.Boards.{declarer_without, dummy_without, next_course, IsFair, IsCourse}
 use Rattle.layout_list.specs.declared.kept.Cause.TheVariants.{NotHeld, Revoke}
-use Rattle.layout_list.specs.Verdicts.{cause_of, or_later, contradiction, position_after, hand_after, course_of}
+use Rattle.layout_list.specs.Verdicts.{cause_of, course_of}
 
 -- ---- a position and the course of play after a card
 

@@ -1,4 +1,5 @@
 pub mod LineSteps
+pub mod ReadWeights
 pub mod Fits
 pub mod Follow
 pub mod Sort

@@ -1,18 +1,16 @@
 -- Layouts sorted one by one.
-use Rattle.std.proofs.Common.{◌≡◌, ℕ, ◌+◌, ◌<◌, ◌≤◌, Bool, true, false, cond, List, [], ◌∷◌, ◌++◌, Option, None, Some, map, length, drop, get_or, suc, refl, sym, ap, ◌∙◌, subst, arith}
-use Rattle.std.specs.Prelude.{is_none, filter, filter_map, option_map, All, MatchOption}
+use Rattle.std.proofs.Common.{◌≡◌, ℕ, ◌+◌, ◌<◌, cond, List, [], ◌∷◌, ◌++◌, Option, None, Some, map, length, drop, get_or, suc, sym, ap, ◌∙◌, subst, arith}
+use Rattle.std.specs.Prelude.{is_none, option_map, All, MatchOption}
 use Rattle.std.specs.List.{enumerate_from, cons_option}
 use Rattle.std.proofs.Math.Seq.{drop-cons}
 use Rattle.std.proofs.lemmas.List.{append_assoc, length-append}
 use Rattle.std.proofs.lemmas.List.Elements.{All-nil, All-cons, All-same, All-push}
-use Rattle.trick_rules.specs.Positions.{PositionValue, State, IsState, FitsLeft}
-use Rattle.trick_rules.specs.Nodes.{IsNode}
+use Rattle.trick_rules.specs.Positions.{PositionValue, IsState, FitsLeft}
 use Rattle.pbn_deal.specs.declared.board.Played.{Played}
-use Rattle.layout_list.specs.declared.kept.Dropped.{Dropped}
-use Rattle.layout_list.specs.declared.line.Layout.{Layout}
+use Rattle.layout_list.specs.declared.line.Weighed.{Weighed}
 use Rattle.layout_list.specs.declared.verdict.Contradiction.{Contradiction}
 use Rattle.layout_list.specs.Verdicts.{hand_after, position_after}
-use Rattle.layout_list.specs.Layouts.{verdict, allowed, dropped, numbers_kept, lefts_kept, IsAfter}
+use Rattle.layout_list.specs.Layouts.{verdict, allowed, dropped, numbers_kept, weights_kept, lefts_kept, IsAfter}
 
 -- what moves from the layouts left to those so far
 pub moved : {A : Type 0} (whole front longer left rest : List A) (x : A) → whole ≡ front ++ left → left ≡ x ∷ rest → longer ≡ front ++ x ∷ [] → whole ≡ longer ++ rest
@@ -22,49 +20,57 @@ pub unmoved : {A : Type 0} (whole front same left rest : List A) → whole ≡ f
 unmoved whole front same left rest is split kept = is ∙ ap (λ l. front ++ l) split ∙ sym (ap (λ l. l ++ rest) kept)
 
 -- the layouts left begin with the one at hand
-pub split_at : (layouts : List Layout) (i : ℕ) (layout : Layout) → i < length layouts → layout ≡ get_or layouts i layout
-    → enumerate_from (i + 1) (drop i layouts) ≡ (i + 1, layout) ∷ enumerate_from (i + 1 + 1) (drop (i + 1) layouts)
-split_at layouts i layout lt is =
+pub split_at : (layouts : List Weighed) (i : ℕ) (weighed : Weighed) → i < length layouts → weighed ≡ get_or layouts i weighed
+    → enumerate_from (i + 1) (drop i layouts) ≡ (i + 1, weighed) ∷ enumerate_from (i + 1 + 1) (drop (i + 1) layouts)
+split_at layouts i weighed lt is =
     let next : suc i ≡ i + 1 = omega arith in
-    let split = drop-cons layouts i layout lt ∙ ap (λ x. x ∷ drop (suc i) layouts) (sym is) ∙ ap (λ k. layout ∷ drop k layouts) next in
+    let split = drop-cons layouts i weighed lt ∙ ap (λ x. x ∷ drop (suc i) layouts) (sym is) ∙ ap (λ k. weighed ∷ drop k layouts) next in
     ap (enumerate_from (i + 1)) split
 
-allowed_yes : (plays : List Played) (t : PositionValue) (number : ℕ) (layout : Layout) (rest : List (ℕ × Layout)) → verdict plays t layout ≡ None
-    → allowed plays t ((number, layout) ∷ rest) ≡ (number, layout) ∷ allowed plays t rest
-allowed_yes plays t number layout rest none = ap (λ v. cond (is_none v) ((number, layout) ∷ allowed plays t rest) (allowed plays t rest)) none
+allowed_yes : (plays : List Played) (t : PositionValue) (number : ℕ) (weighed : Weighed) (rest : List (ℕ × Weighed)) → verdict plays t weighed.layout ≡ None
+    → allowed plays t ((number, weighed) ∷ rest) ≡ (number, weighed) ∷ allowed plays t rest
+allowed_yes plays t number weighed rest none = ap (λ v. cond (is_none v) ((number, weighed) ∷ allowed plays t rest) (allowed plays t rest)) none
 
-allowed_no : (plays : List Played) (t : PositionValue) (number : ℕ) (layout : Layout) (rest : List (ℕ × Layout)) (found : Contradiction) → verdict plays t layout ≡ Some found
-    → allowed plays t ((number, layout) ∷ rest) ≡ allowed plays t rest
-allowed_no plays t number layout rest found some = ap (λ v. cond (is_none v) ((number, layout) ∷ allowed plays t rest) (allowed plays t rest)) some
+allowed_no : (plays : List Played) (t : PositionValue) (number : ℕ) (weighed : Weighed) (rest : List (ℕ × Weighed)) (found : Contradiction) → verdict plays t weighed.layout ≡ Some found
+    → allowed plays t ((number, weighed) ∷ rest) ≡ allowed plays t rest
+allowed_no plays t number weighed rest found some = ap (λ v. cond (is_none v) ((number, weighed) ∷ allowed plays t rest) (allowed plays t rest)) some
 
-pub numbers_yes : (plays : List Played) (t : PositionValue) (number : ℕ) (layout : Layout) (rest : List (ℕ × Layout)) → verdict plays t layout ≡ None
-    → numbers_kept plays t ((number, layout) ∷ rest) ≡ number ∷ numbers_kept plays t rest
-numbers_yes plays t number layout rest none = ap (map (λ l. l.0)) (allowed_yes plays t number layout rest none)
+pub numbers_yes : (plays : List Played) (t : PositionValue) (number : ℕ) (weighed : Weighed) (rest : List (ℕ × Weighed)) → verdict plays t weighed.layout ≡ None
+    → numbers_kept plays t ((number, weighed) ∷ rest) ≡ number ∷ numbers_kept plays t rest
+numbers_yes plays t number weighed rest none = ap (map (λ l. l.0)) (allowed_yes plays t number weighed rest none)
 
-pub numbers_no : (plays : List Played) (t : PositionValue) (number : ℕ) (layout : Layout) (rest : List (ℕ × Layout)) (found : Contradiction) → verdict plays t layout ≡ Some found
-    → numbers_kept plays t ((number, layout) ∷ rest) ≡ numbers_kept plays t rest
-numbers_no plays t number layout rest found some = ap (map (λ l. l.0)) (allowed_no plays t number layout rest found some)
+pub numbers_no : (plays : List Played) (t : PositionValue) (number : ℕ) (weighed : Weighed) (rest : List (ℕ × Weighed)) (found : Contradiction) → verdict plays t weighed.layout ≡ Some found
+    → numbers_kept plays t ((number, weighed) ∷ rest) ≡ numbers_kept plays t rest
+numbers_no plays t number weighed rest found some = ap (map (λ l. l.0)) (allowed_no plays t number weighed rest found some)
 
-pub lefts_yes : (plays : List Played) (t : PositionValue) (number : ℕ) (layout : Layout) (rest : List (ℕ × Layout)) → verdict plays t layout ≡ None
-    → lefts_kept plays t ((number, layout) ∷ rest) ≡ hand_after layout.left plays ∷ lefts_kept plays t rest
-lefts_yes plays t number layout rest none = ap (map (λ l. hand_after l.1.left plays)) (allowed_yes plays t number layout rest none)
+pub weights_yes : (plays : List Played) (t : PositionValue) (number : ℕ) (weighed : Weighed) (rest : List (ℕ × Weighed)) → verdict plays t weighed.layout ≡ None
+    → weights_kept plays t ((number, weighed) ∷ rest) ≡ weighed.weight ∷ weights_kept plays t rest
+weights_yes plays t number weighed rest none = ap (map (λ l. l.1.weight)) (allowed_yes plays t number weighed rest none)
 
-pub lefts_no : (plays : List Played) (t : PositionValue) (number : ℕ) (layout : Layout) (rest : List (ℕ × Layout)) (found : Contradiction) → verdict plays t layout ≡ Some found
-    → lefts_kept plays t ((number, layout) ∷ rest) ≡ lefts_kept plays t rest
-lefts_no plays t number layout rest found some = ap (map (λ l. hand_after l.1.left plays)) (allowed_no plays t number layout rest found some)
+pub weights_no : (plays : List Played) (t : PositionValue) (number : ℕ) (weighed : Weighed) (rest : List (ℕ × Weighed)) (found : Contradiction) → verdict plays t weighed.layout ≡ Some found
+    → weights_kept plays t ((number, weighed) ∷ rest) ≡ weights_kept plays t rest
+weights_no plays t number weighed rest found some = ap (map (λ l. l.1.weight)) (allowed_no plays t number weighed rest found some)
 
-pub dropped_yes : (plays : List Played) (t : PositionValue) (number : ℕ) (layout : Layout) (rest : List (ℕ × Layout)) → verdict plays t layout ≡ None
-    → dropped plays t ((number, layout) ∷ rest) ≡ dropped plays t rest
-dropped_yes plays t number layout rest none = ap (λ v. cons_option (option_map (λ c. record { number = number; cause = c.cause; play = c.play }) v) (dropped plays t rest)) none
+pub lefts_yes : (plays : List Played) (t : PositionValue) (number : ℕ) (weighed : Weighed) (rest : List (ℕ × Weighed)) → verdict plays t weighed.layout ≡ None
+    → lefts_kept plays t ((number, weighed) ∷ rest) ≡ hand_after weighed.layout.left plays ∷ lefts_kept plays t rest
+lefts_yes plays t number weighed rest none = ap (map (λ l. hand_after l.1.layout.left plays)) (allowed_yes plays t number weighed rest none)
 
-pub dropped_no : (plays : List Played) (t : PositionValue) (number : ℕ) (layout : Layout) (rest : List (ℕ × Layout)) (found : Contradiction) → verdict plays t layout ≡ Some found
-    → dropped plays t ((number, layout) ∷ rest) ≡ record { number = number; cause = found.cause; play = found.play } ∷ dropped plays t rest
-dropped_no plays t number layout rest found some = ap (λ v. cons_option (option_map (λ c. record { number = number; cause = c.cause; play = c.play }) v) (dropped plays t rest)) some
+pub lefts_no : (plays : List Played) (t : PositionValue) (number : ℕ) (weighed : Weighed) (rest : List (ℕ × Weighed)) (found : Contradiction) → verdict plays t weighed.layout ≡ Some found
+    → lefts_kept plays t ((number, weighed) ∷ rest) ≡ lefts_kept plays t rest
+lefts_no plays t number weighed rest found some = ap (map (λ l. hand_after l.1.layout.left plays)) (allowed_no plays t number weighed rest found some)
+
+pub dropped_yes : (plays : List Played) (t : PositionValue) (number : ℕ) (weighed : Weighed) (rest : List (ℕ × Weighed)) → verdict plays t weighed.layout ≡ None
+    → dropped plays t ((number, weighed) ∷ rest) ≡ dropped plays t rest
+dropped_yes plays t number weighed rest none = ap (λ v. cons_option (option_map (λ c. record { number = number; cause = c.cause; play = c.play }) v) (dropped plays t rest)) none
+
+pub dropped_no : (plays : List Played) (t : PositionValue) (number : ℕ) (weighed : Weighed) (rest : List (ℕ × Weighed)) (found : Contradiction) → verdict plays t weighed.layout ≡ Some found
+    → dropped plays t ((number, weighed) ∷ rest) ≡ record { number = number; cause = found.cause; play = found.play } ∷ dropped plays t rest
+dropped_no plays t number weighed rest found some = ap (λ v. cons_option (option_map (λ c. record { number = number; cause = c.cause; play = c.play }) v) (dropped plays t rest)) some
 
 -- a left hand more for the position after the play
 pub node_more : (plays : List Played) (t : PositionValue) (lefts longer : List (List ℕ)) (before : Option PositionValue) (position : PositionValue) (left : List ℕ)
     → MatchOption before (lefts ≡ []) (IsAfter plays t lefts) → position ≡ position_after t plays → IsState (record { position = position; left = left })
-    → longer ≡ lefts ++ left ∷ [] → length lefts < 64 → IsAfter plays t longer position
+    → longer ≡ lefts ++ left ∷ [] → length lefts < 256 → IsAfter plays t longer position
 node_more plays t lefts longer None position left none same state added few =
     let one : longer ≡ left ∷ [] = added ∙ ap (λ l. l ++ left ∷ []) none in
     record {

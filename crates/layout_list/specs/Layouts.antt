@@ -1,5 +1,5 @@
 -- The kept layouts of a file, or its first fault.
-use Rattle.std.specs.Prelude.{◌≡◌, ℕ, Bool, Option, None, Some, is_none, Result, Ok, Err, List, [], ◌∷◌, map, filter, filter_map, option_map, ◌⊎◌}
+use Rattle.std.specs.Prelude.{◌≡◌, ℕ, Option, is_none, Result, Ok, Err, List, [], ◌∷◌, map, filter, filter_map, option_map, ◌⊎◌}
 use Rattle.std.specs.List.{enumerate_from}
 use Rattle.trick_rules.specs.Positions.{PositionValue}
 use Rattle.trick_rules.specs.Nodes.{IsNode}

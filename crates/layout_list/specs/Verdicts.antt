@@ -1,5 +1,5 @@
 -- What the play says of a layout.
-use Rattle.std.specs.Prelude.{ℕ, ◌+◌, Bool, not, Option, None, Some, List, [], ◌∷◌, if◌then◌else◌}
+use Rattle.std.specs.Prelude.{ℕ, ◌+◌, not, Option, None, Some, List, [], ◌∷◌, if◌then◌else◌}
 use Rattle.card_sets.specs.SetWords.{has_card}
 use Rattle.trick_rules.specs.Positions.{PositionValue, State}
 use Rattle.trick_rules.specs.Play.{is_declarers, legal_cards, hand_of, take_out, after_card, after}

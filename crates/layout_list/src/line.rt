@@ -1,7 +1,8 @@
 //! The lines of a layout file.
 ghost use Rattle.std.specs.Prelude.{◌≡◌, ◌&&◌, ◌<◌, ◌≤◌, ◌-◌, ◌^◌, Ok, length, MatchResult, IfOk};
-ghost use Rattle.std.specs.Prelude.{IfSome, map, take, drop, option_map};
+ghost use Rattle.std.specs.Prelude.{IfSome, true, take, option_map};
 ghost use Rattle.std.specs.List.{position_or_len};
+ghost use Rattle.std.specs.Str.{all_ascii_digits};
 ghost use Rattle.win_vectors.specs.Weights.{IsWeight};
 ghost use Rattle.pbn_deal.specs.BoardRead.{together};
 ghost use Rattle.pbn_deal.specs.Deal.{IsSoundDeal};
@@ -9,7 +10,8 @@ ghost use Rattle.pbn_deal.specs.Deal.{deal_read};
 ghost use Rattle.layout_list.specs.Lines.{is_skipped, same_set, is_told, layout_in, line_read};
 ghost use Rattle.layout_list.specs.Lines.{deal_of_line};
 ghost use Rattle.layout_list.specs.Lines.{numbered_lines, layout_lines, lines_read, most_listed};
-ghost use Rattle.layout_list.specs.Lines.{ends_digits, weight_said, weight_of_digits, weight_read};
+ghost use Rattle.layout_list.specs.Lines.{ends_digits, begins_blank, weight_said};
+ghost use Rattle.layout_list.specs.Lines.{weight_of_digits, weight_read};
 ghost use Rattle.layout_list.specs.Lines.{FitsBoard, IsTold, IsOneDeal, HaveWeights};
 ghost use Rattle.layout_list.specs.Layouts.{IsLayoutFaultOf};
 
@@ -34,42 +36,65 @@ pub struct Weighed {
     pub layout: Layout,
 }
 
+impl Weighed {
+    /// The cards that the defenders hold together.
+    pub(crate) fn unseen(&self) -> CardSet
+        ensures { result ≡ together self.now.layout.left self.now.layout.right }
+    {
+        self.layout.left.either(self.layout.right)
+    }
+}
+
 // The weight that digits write, with leading zeros or without.
 fn weight_said(digits: &[u8]) -> Option<u32>
+    requires { all_ascii_digits digits.now ≡ true }
     ensures weight { result ≡ weight_said digits.now }
     ensures range { IfSome result IsWeight }
 {
     let mut weight = 0u32;
     for digit in digits {
-        weight = (weight * 10 + u32::from(digit.wrapping_sub(b'0'))).min(MAX_WEIGHT + 1);
+        weight = 10 * weight + u32::from(*digit - b'0');
+        if weight > MAX_WEIGHT {
+            return None;
+        }
     }
-    if 1 <= weight && weight <= MAX_WEIGHT {
-        Some(weight)
-    } else {
-        None
-    }
+    if weight == 0 { None } else { Some(weight) }
 }
 
 // How many digits stand at the front.
 fn digits_len(text: &[u8]) -> usize
     ensures len { result ≡ position_or_len ends_digits text.now }
     ensures inside { result ≤ length text.now }
+    ensures digits { all_ascii_digits (take result text.now) ≡ true }
 {
     text.iter()
         .position(|byte| !byte.is_ascii_digit())
         .unwrap_or(text.len())
 }
 
+// Whether a text begins with a blank.
+fn begins_blank(text: &[u8]) -> bool
+    ensures { result ≡ begins_blank text.now }
+{
+    match text {
+        [byte, ..] => is_blank(*byte),
+        [] => false,
+    }
+}
+
 // The weight that so many digits at the front of a text write, and what stands behind them.
 fn weight_of_digits(count: usize, text: &[u8]) -> Option<(u32, &[u8])>
-    requires { count ≤ length text.now }
-    ensures { option_map (λ said. (said.0, said.1.now)) result ≡ weight_of_digits count text.now }
+    requires inside { count ≤ length text.now }
+    requires digits { all_ascii_digits (take count text.now) ≡ true }
+    ensures said { option_map (λ said. (said.0, said.1.now)) result
+        ≡ weight_of_digits count text.now }
+    ensures range { IfSome result (λ said. IsWeight said.0) }
 {
-    let rest = &text[count..];
-    if !rest.first().is_some_and(|byte| is_blank(*byte)) {
+    let (digits, rest) = text.split_at(count);
+    if !begins_blank(rest) {
         return None;
     }
-    let weight = weight_said(&text[..count])?;
+    let weight = weight_said(digits)?;
     Some((weight, rest))
 }
 
@@ -201,7 +226,7 @@ pub(crate) fn read_lines(
             return Err(LayoutFault::TooMany(number));
         }
         let weighed = read_line(board, unseen, number, line)?;
-        unseen = Some(weighed.layout.left.either(weighed.layout.right));
+        unseen = Some(weighed.unseen());
         layouts.push(weighed).map_err(|_| LayoutFault::Memory)?;
     }
     Ok(layouts)

@@ -170,7 +170,7 @@ fn keep(alloc: Global, board: &Board, layouts: &[Weighed]) -> Result<Kept, Layou
     let Some(first) = layouts.first() else {
         return Err(LayoutFault::NoneLeft);
     };
-    let start = first_position(board, first.layout.left.either(first.layout.right));
+    let start = first_position(board, first.unseen());
     let Sorting {
         numbers,
         weights,
@@ -195,10 +195,11 @@ fn keep(alloc: Global, board: &Board, layouts: &[Weighed]) -> Result<Kept, Layou
 ///
 /// A line is a layout in the Deal form, unless it is of blanks alone or begins with `%`. A weight
 /// from 1 to 1,000,000 may stand before it with a blank between them; a layout without one has
-/// weight 1. It shows all four hands, those of declarer's side as on the board and those of the defenders with the
-/// unseen cards, which are the first layout's where the board doesn't tell them. The file has at
-/// most 256 layouts. The first fault in the order of the lines is given, and `NoneLeft` where the
-/// play allows none.
+/// weight 1. The layout shows all four hands, those of declarer's side as on the board and those of
+/// the defenders with the unseen cards, which are the first layout's where the board doesn't tell
+/// them. The file has at most 256 layouts. The first fault in the order of the lines is given, and
+/// `NoneLeft` where the play allows none. At a layout's line the order is `TooMany`, `BadWeight`,
+/// `BadLine`, `OtherHands`.
 #[tactic(auto, unfolding(crate::specs::Layouts::layouts_read))]
 pub fn layouts(alloc: Global, bytes: &[u8], board: &Board) -> Result<Kept, LayoutFault>
     requires { length bytes.now < 2 ^ 32 - 1 }

@@ -1,4 +1,4 @@
-use Rattle.std.proofs.Common.{◌≡◌, sym, ap, ◌∙◌}
+use Rattle.std.proofs.Common.{sym, ap, ◌∙◌}
 use Rattle.pbn_deal.specs.Deal.{hand_at}
 use Rattle.layout_list.proofs.Fits.{fits_board}
 use Rattle.layout_list.proofs.line.layout_in.Goals as goal

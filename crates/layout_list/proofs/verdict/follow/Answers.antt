@@ -1,7 +1,7 @@
 use Rattle.std.proofs.Common.{◌≡◌, ℕ, ◌<◌, ◌+◌, List, ◌∷◌, None, length, drop, get_or, suc, sym, ap, ap₂, ◌∙◌, subst, arith}
 use Rattle.std.proofs.Math.Seq.{drop-cons}
 use Rattle.trick_rules.specs.Positions.{State, IsState}
-use Rattle.trick_rules.specs.Play.{take_out, after_card, after}
+use Rattle.trick_rules.specs.Play.{after}
 use Rattle.pbn_deal.specs.declared.board.Played.{Played}
 use Rattle.pbn_deal.specs.Boards.{IsCourse}
 use Rattle.layout_list.specs.Verdicts.{cause_of, or_later, contradiction, position_after, hand_after, course_of}
