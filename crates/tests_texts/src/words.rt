@@ -14,7 +14,7 @@ const PLAIN: Search = Search {
 const WIDE: Search = Search {
     nodes: u64::MAX,
     workers: 64,
-    shards: 16,
+    shards: 4,
     room: 65_536,
     table: false,
     cuts: false,
@@ -22,7 +22,7 @@ const WIDE: Search = Search {
 
 // What asks for a search as wide as can be, without what helps it.
 const WIDELY: &str =
-    "--nodes 18446744073709551615 --room=65536 --workers 064 --shards 16 --no-table --no-cuts";
+    "--nodes 18446744073709551615 --room=65536 --workers 064 --shards 4 --no-table --no-cuts";
 
 // The words for a job on the two files.
 const FILES: &str = "--deal k.pbn --layouts k.lay";
@@ -83,6 +83,13 @@ fn reads_each_job(rt: HostRuntime) {
             "--report=r --job check --deal k.pbn --layouts k.lay",
             on_files(LayoutsJob::Check { report: "r" }),
         ),
+        (
+            "--log=l --job audit --report r --deal k.pbn --layouts k.lay",
+            on_files(LayoutsJob::Audit {
+                report: "r",
+                log: "l",
+            }),
+        ),
         ("--job made --number 0", Ask::Made { number: 0, search }),
         (
             "--number=18446744073709551615 --job made",
@@ -95,6 +102,24 @@ fn reads_each_job(rt: HostRuntime) {
     for (text, ask) in rows {
         assert!(rt;
             are_read_as(alloc, text, Some(ask)).expect(&rt, "memory"),
+            "{text}"
+        );
+    }
+}
+
+#[test]
+fn reads_how_many_nodes_a_tree_of_a_log_may_have(rt: HostRuntime) {
+    let alloc = rt.alloc();
+    let rows = [
+        ("--moves 2", 2, 10_000_000),
+        ("--nodes 1 --moves 26", 26, 1),
+        ("--moves=1 --nodes=268435456", 1, 268_435_456),
+    ];
+    for (words, moves, nodes) in rows {
+        let text = format!(in alloc; "{FILES} --job prove {words}").expect(&rt, "memory");
+        let ask = on_files(LayoutsJob::Prove { moves, nodes });
+        assert!(rt;
+            are_read_as(alloc, &text, Some(ask)).expect(&rt, "memory"),
             "{text}"
         );
     }
@@ -138,6 +163,14 @@ fn reads_each_option_on_how_to_search(rt: HostRuntime) {
         ),
         ("--shards 3", Search { shards: 3, ..PLAIN }),
         ("--room 3", Search { room: 3, ..PLAIN }),
+        (
+            "--shards 64 --room 4096",
+            Search {
+                shards: 64,
+                room: 4096,
+                ..PLAIN
+            },
+        ),
         (
             "--no-table",
             Search {
@@ -199,12 +232,23 @@ fn refuses_values_and_forms(rt: HostRuntime) {
         "solve --moves 2 --workers 65",
         "solve --moves 2 --shards 65 --room 1",
         "solve --moves 2 --shards 1 --room 65537",
-        "solve --moves 2 --shards 17 --room 65536",
+        "solve --moves 2 --shards 5 --room 65536",
+        "solve --moves 2 --shards 64 --room 4097",
+        "solve --moves 2 --shards 64",
         "Solve --moves 2",
         "play --moves 2",
         "check --report -r",
         "check --report=",
         "check --report r --report r",
+        "prove --moves 0",
+        "prove --moves 27",
+        "prove --moves 2 --nodes 0",
+        "prove --moves 2 --nodes 268435457",
+        "prove --moves 2 --nodes 1 --nodes 1",
+        "audit --report -r --log l",
+        "audit --report r --log -l",
+        "audit --report r --log=",
+        "audit --report r --log l --log l",
     ];
     assert!(rt; are_refused(alloc, &front, &tails).expect(&rt, "memory"));
     let files = [
@@ -221,7 +265,7 @@ fn refuses_values_and_forms(rt: HostRuntime) {
         "-1",
         "+1",
         "1 --workers 0",
-        "1 --shards 17 --room 65536",
+        "1 --shards 5 --room 65536",
     ];
     assert!(rt; are_refused(alloc, "--job made --number", &numbers).expect(&rt, "memory"));
     assert!(rt; are_refused(alloc, "--job list", &["--deal -x", "--deal="]).expect(&rt, "memory"));
@@ -231,7 +275,7 @@ fn refuses_values_and_forms(rt: HostRuntime) {
 #[test]
 fn refuses_other_options_than_those_of_the_job(rt: HostRuntime) {
     let alloc = rt.alloc();
-    for job in ["solve", "card"] {
+    for job in ["solve", "card", "prove"] {
         let front = format!(in alloc; "--job {job}").expect(&rt, "memory");
         let tails = [
             "--layouts k.lay --moves 2",
@@ -239,6 +283,7 @@ fn refuses_other_options_than_those_of_the_job(rt: HostRuntime) {
             "--deal k.pbn --layouts k.lay",
             "--deal k.pbn --layouts k.lay --moves 2 --report r",
             "--deal k.pbn --layouts k.lay --moves 2 --number 1",
+            "--deal k.pbn --layouts k.lay --moves 2 --log l",
         ];
         assert!(rt;
             are_refused(alloc, &front, &tails).expect(&rt, "memory"),
@@ -266,8 +311,18 @@ fn refuses_other_options_than_those_of_the_job(rt: HostRuntime) {
         "--deal k.pbn --layouts k.lay",
         "--deal k.pbn --layouts k.lay --report r --moves 2",
         "--deal k.pbn --layouts k.lay --report r --number 1",
+        "--deal k.pbn --layouts k.lay --report r --log l",
     ];
     assert!(rt; are_refused(alloc, "--job check", &check).expect(&rt, "memory"));
+    let audit = [
+        "--layouts k.lay --report r --log l",
+        "--deal k.pbn --report r --log l",
+        "--deal k.pbn --layouts k.lay --log l",
+        "--deal k.pbn --layouts k.lay --report r",
+        "--deal k.pbn --layouts k.lay --report r --log l --moves 2",
+        "--deal k.pbn --layouts k.lay --report r --log l --number 1",
+    ];
+    assert!(rt; are_refused(alloc, "--job audit", &audit).expect(&rt, "memory"));
     let made = [
         "--number 1 --deal k.pbn",
         "--number 1 --layouts k.lay",
@@ -290,7 +345,6 @@ fn refuses_other_options_than_those_of_the_job(rt: HostRuntime) {
 fn refuses_how_to_search_where_nothing_is_searched(rt: HostRuntime) {
     let alloc = rt.alloc();
     let search = [
-        "--nodes 1",
         "--workers 1",
         "--shards 1",
         "--room 1",
@@ -301,11 +355,18 @@ fn refuses_how_to_search_where_nothing_is_searched(rt: HostRuntime) {
         "--job fusion --deal k.pbn --layouts k.lay",
         "--job list --deal k.pbn",
         "--job check --deal k.pbn --layouts k.lay --report r",
+        "--job audit --deal k.pbn --layouts k.lay --report r --log l",
     ];
     for front in fronts {
         assert!(rt;
             are_refused(alloc, front, &search).expect(&rt, "memory"),
             "{front}"
         );
+        assert!(rt;
+            are_refused(alloc, front, &["--nodes 1"]).expect(&rt, "memory"),
+            "{front}"
+        );
     }
+    let prove = "--job prove --deal k.pbn --layouts k.lay --moves 2";
+    assert!(rt; are_refused(alloc, prove, &search).expect(&rt, "memory"));
 }
