@@ -15,6 +15,7 @@ use Rattle.pbn_deal.specs.Boards.{BoardValue}
 use Rattle.pbn_deal.specs.BoardRead.{together}
 use Rattle.layout_list.specs.declared.fault.LayoutFault.TheVariants.{NoneLeft}
 use Rattle.layout_list.specs.declared.kept.Dropped.{Dropped}
+use Rattle.layout_list.specs.declared.line.Layout.{Layout}
 use Rattle.layout_list.specs.declared.line.Weighed.{Weighed}
 use Rattle.layout_list.specs.Kept.{KeptValue}
 use Rattle.layout_list.specs.Lines.{FitsOver, IsOneDeal}
@@ -30,22 +31,22 @@ no_card_played leader seat = ap (λ b. cond b 1 0) (le-ltb (places_on leader sea
 in_either : (l r : Bool) → l ≡ true → (l || r) ≡ true
 in_either l r holds = ap (λ b. b || r) holds
 
-start_state : (b : BoardValue) (unseen : List ℕ) (weighed : Weighed) → IsSound (first_position b unseen) → FitsOver b unseen weighed.layout → IsState (record { position = first_position b unseen; left = weighed.layout.left })
-start_state b unseen weighed sound over = record {
+pub start_state : (b : BoardValue) (unseen : List ℕ) (layout : Layout) → IsSound (first_position b unseen) → FitsOver b unseen layout → IsState (record { position = first_position b unseen; left = layout.left })
+start_state b unseen layout sound over = record {
   sound = sound;
   fits = record {
     set = over.fits.left_set;
     part = λ c holds.
         ap (λ cards. has_card cards c) (sym over.same)
-        ∙ has_card-cards_where (λ c. has_card weighed.layout.left c || has_card weighed.layout.right c) c (has_card-below weighed.layout.left c over.fits.left_set holds)
-        ∙ in_either (has_card weighed.layout.left c) (has_card weighed.layout.right c) holds;
+        ∙ has_card-cards_where (λ c. has_card layout.left c || has_card layout.right c) c (has_card-below layout.left c over.fits.left_set holds)
+        ∙ in_either (has_card layout.left c) (has_card layout.right c) holds;
     count = omega (arith, over.fits.left_size, no_card_played b.leader Left, no_card_played b.leader Declarer);
   };
 }
 
 pub start_states : (b : BoardValue) (unseen : List ℕ) (layouts : List Weighed) → IsSound (first_position b unseen) → All (λ weighed. FitsOver b unseen weighed.layout) layouts
     → All (λ d. IsState (record { position = first_position b unseen; left = d.layout.left })) layouts
-start_states b unseen layouts sound over = λ k d lt. start_state b unseen (get_or layouts k d) sound (over k d lt)
+start_states b unseen layouts sound over = λ k d lt. start_state b unseen (get_or layouts k d).layout sound (over k d lt)
 
 -- ---- none and some
 

@@ -9,7 +9,8 @@ ghost use Rattle.win_vectors.specs.Vectors.{most_layouts};
 ghost use Rattle.win_vectors.specs.Weights.{IsWeight};
 ghost use Rattle.layout_list.specs.Lines.{IsOneDeal, HaveWeights, most_listed};
 ghost use Rattle.layout_list.specs.Verdicts.{hand_after, course_of};
-ghost use Rattle.layout_list.specs.Layouts.{numbers_kept, weights_kept, lefts_kept, dropped, IsAfter, kept_of};
+ghost use Rattle.layout_list.specs.Layouts.{numbers_kept, weights_kept, lefts_kept, dropped};
+ghost use Rattle.layout_list.specs.Layouts.{IsAfter, kept_of};
 ghost use Rattle.layout_list.specs.Layouts.{layouts_read, IsLayoutFaultOf};
 
 use crate::fault::LayoutFault;
