@@ -2,7 +2,7 @@
 use Rattle.std.proofs.Common.{◌≡◌, ◌≢◌, ℕ, zero, suc, ◌+◌, ◌<◌, Bool, true, false, not, cond, List, [], ◌∷◌, ◌++◌, Some, None, map, length, get_or, refl, sym, ap, ap₂, ◌∙◌, subst, inl, inr, arith}
 use Rattle.std.specs.Prelude.{◌==◌, ◌&&◌, ◌||◌, filter, is_none, All, AllPairs, Contains, IfSome}
 use Rattle.std.proofs.lemmas.Bool.{false≢true, eq-eqb, ne_eqb, both_ways, cases_Bool, or_cases, or_parts, or_right, eqb-true, cases_eq, cases_lt, false_from_ne_true}
-use Rattle.std.proofs.lemmas.List.Elements.{All-nil, All-cons, All-head, All-tail, All-append, All-map, All-filter, filter_passes, Contains-append_left, Contains-append_right}
+use Rattle.std.proofs.lemmas.List.Elements.{All-head, All-tail, All-append, All-map, All-filter, filter_passes, Contains-append_left, Contains-append_right}
 use Rattle.std.proofs.lemmas.List.Kept.{AllPairs-cons, AllPairs-filter}
 use Rattle.card_sets.specs.declared.seat.Seat.{Seat}
 use Rattle.card_sets.specs.declared.seat.Seat.TheVariants.{Declarer, Left, Dummy, Right}
@@ -21,7 +21,7 @@ use Rattle.layout_list.specs.declared.line.Layout.{Layout}
 use Rattle.layout_list.specs.Lines.{FitsOver}
 use Rattle.layout_list.specs.Verdicts.{first_position, cause_of, contradiction, position_after, hand_after, course_of}
 use Rattle.layout_list.proofs.Follow.{Onward, onward}
-use Rattle.layout_list.proofs.Keep.{start_states}
+use Rattle.layout_list.proofs.Keep.{start_state}
 use Rattle.layout_maker.specs.Divisions.{hands_of_size, layout_with, divisions, is_allowed, layouts_over, IsDivision, ComesBefore}
 use Rattle.layout_maker.proofs.Hands.{filter-members, IsPart, IsPart-IsSubset, IsPart-IsCardSet, head_absent, head_differs, part_absent, hands_are_parts, hands_have_size}
 use Rattle.layout_maker.proofs.Told.{follows_if_none, none_parts}
@@ -276,7 +276,7 @@ first_state : (b : BoardValue) (unseen : List ℕ) (layout : Layout) → IsBoard
 first_state b unseen layout sound shown div =
     let fits = shown_fits b unseen sound shown in
     let over : FitsOver b unseen layout = record { fits = record { left_set = div.left_set; left_size = div.left_size; unseen = subst (FitsUnseen b) (sym div.whole) fits }; same = div.whole } in
-    start_states b unseen (layout ∷ []) (first_sound b unseen sound.dealt fits) (All-cons (FitsOver b unseen) layout [] over (All-nil (FitsOver b unseen))) 0 layout (omega arith)
+    start_state b unseen layout (first_sound b unseen sound.dealt fits) over
 
 state_at_the_end : (n : ℕ) (s : State) (plays : List Played) → IsState s → IsCourse s.position.trump (course_of s.position) plays → is_none (contradiction n s plays) ≡ true
     → IsState (record { position = position_after s.position plays; left = hand_after s.left plays })

@@ -1,5 +1,5 @@
 -- What the play says of a layout, as sets of cards.
-use Rattle.std.proofs.Common.{◌≡◌, ℕ, ◌+◌, Bool, true, false, not, cond, List, [], ◌∷◌, Option, None, Some, map, length, get_or, refl, sym, ap, ap₂, ◌∙◌, subst, inl, inr}
+use Rattle.std.proofs.Common.{◌≡◌, ℕ, ◌+◌, Bool, true, false, not, cond, List, [], ◌∷◌, Option, None, Some, map, get_or, refl, sym, ap, ap₂, ◌∙◌, subst, inl, inr}
 use Rattle.std.specs.Prelude.{◌==◌, ◌&&◌, ◌||◌, ◌↔◌, filter, is_none, MatchOption}
 use Rattle.std.proofs.lemmas.Bool.{false≢true, eq-eqb, ne_eqb, both_ways, and_parts, and_from, and_right, not-true, not-false, cases_Bool, false_from_ne_true}
 use Rattle.card_sets.specs.declared.card.Suit.{Suit}
