@@ -21,12 +21,16 @@ use Rattle.layout_list.specs.declared.kept.Cause.TheVariants.{NotHeld, Revoke}
 use Rattle.layout_list.specs.declared.kept.Dropped.{Dropped}
 use Rattle.layout_list.specs.Kept.{KeptValue}
 use Rattle.byte_text.specs.Lines.{line_of, text_after, is_line_end}
+use Rattle.am_report.specs.declared.version.Version.{Version}
+use Rattle.am_report.specs.declared.version.Version.TheVariants.{Counts, Weights}
+use Rattle.am_report.specs.Versions.{version_of, version_number, weights_line}
 use Rattle.am_report.specs.Lines.{spaced}
 use Rattle.am_report.specs.Head.{seat_text, trump_text, hand_line, cards_text, trick_line, cause_text, dropped_line, position_text, kept_line, head_text}
 use Rattle.am_report.specs.ReportLines.{moves_said}
 use Rattle.am_report.specs.Reading.{only, is_front, front_place, moves_of_head}
 use Rattle.byte_text.proofs.ReadNumbers.{number_within-decimal}
 use Rattle.byte_text.proofs.PlainLines.{is_plain, plain_byte, plain_all, plain_both, decimal_plain}
+use Rattle.am_report.proofs.Versions.{number_plain}
 use Rattle.am_report.proofs.PlainTexts.{suit_letter_plain, compass_letter_plain, card_text_plain, hand_text_plain, spaced_plain}
 use Rattle.trick_rules.specs.Nodes.{most_moves}
 
@@ -229,9 +233,18 @@ position_lines board table =
     ∷ (codes "turn " ++ seat_text board (to_play table))
     ∷ []
 
+-- the first line
+abbrev first_line : Version → List ℕ
+first_line version = codes "alphamu report " ++ version_number version
+
+-- the line of the weights, where there is one
+abbrev weights_lines : Version → List ℕ → List (List ℕ)
+weights_lines Counts weights = []
+weights_lines Weights weights = (codes "weights " ++ spaced decimal weights) ∷ []
+
 -- the lines below that of the moves
-abbrev kept_lines : KeptValue → List (List ℕ)
-kept_lines kept = (codes "kept " ++ spaced decimal kept.numbers) ∷ map dropped_words kept.dropped
+abbrev kept_lines : Version → KeptValue → List (List ℕ)
+kept_lines version kept = (codes "kept " ++ spaced decimal kept.numbers) ∷ (weights_lines version kept.weights ++ map dropped_words kept.dropped)
 
 hand_quiet : (board : BoardValue) (seat : Seat) (hand : List ℕ) → IsQuiet (hand_words board seat hand)
 hand_quiet board seat hand = record {
@@ -280,45 +293,69 @@ dropped_quiet : (dropped : List Dropped) → AreQuiet (map dropped_words dropped
 dropped_quiet [] = tt
 dropped_quiet (layout ∷ dropped) = (record { plain = dropped_plain layout; other = refl }, dropped_quiet dropped)
 
-kept_quiet : (kept : KeptValue) → AreQuiet (kept_lines kept)
-kept_quiet kept = (record { plain = plain_both (codes "kept ") (spaced decimal kept.numbers) refl (spaced_plain decimal decimal_plain kept.numbers); other = refl }, dropped_quiet kept.dropped)
+numbers_quiet : (numbers : List ℕ) → IsQuiet (codes "kept " ++ spaced decimal numbers)
+numbers_quiet numbers = record { plain = plain_both (codes "kept ") (spaced decimal numbers) refl (spaced_plain decimal decimal_plain numbers); other = refl }
+
+weights_quiet : (weights : List ℕ) → IsQuiet (codes "weights " ++ spaced decimal weights)
+weights_quiet weights = record { plain = plain_both (codes "weights ") (spaced decimal weights) refl (spaced_plain decimal decimal_plain weights); other = refl }
+
+kept_quiet : (version : Version) (kept : KeptValue) → AreQuiet (kept_lines version kept)
+kept_quiet Counts kept = (numbers_quiet kept.numbers, dropped_quiet kept.dropped)
+kept_quiet Weights kept = (numbers_quiet kept.numbers, (weights_quiet kept.weights, dropped_quiet kept.dropped))
 
 dropped_lines : (dropped : List Dropped) → flat_map dropped_line dropped ≡ text_of (map dropped_words dropped)
 unfolding dropped_line
 dropped_lines [] = refl
 dropped_lines (layout ∷ dropped) = ap (λ more. line_of (dropped_words layout) ++ more) (dropped_lines dropped)
 
+-- the line of the weights, before others
+weights_text : (version : Version) (weights : List ℕ) (lines : List (List ℕ)) → weights_line version weights ++ text_of lines ≡ text_of (weights_lines version weights ++ lines)
+weights_text Counts weights lines = refl
+weights_text Weights weights lines = refl
+
 all_pieces : (v a b c d e f g m k more : List ℕ) → v ++ (a ++ b ++ c ++ d ++ e ++ f ++ g) ++ m ++ k ++ more ≡ (v ++ (a ++ (b ++ (c ++ (d ++ (e ++ (f ++ (g ++ [])))))))) ++ (m ++ (k ++ more))
 all_pieces v a b c d e f g m k more = simp append_assoc
 
+behind_kept : (before weights dropped : List ℕ) → before ++ weights ++ dropped ≡ before ++ (weights ++ dropped)
+behind_kept before weights dropped = append_assoc before weights dropped
+
 -- the head is these lines
 pub head_text-lines : (board : BoardValue) (kept : KeptValue) (moves : ℕ)
-    → head_text board kept moves ≡ text_of (codes "alphamu report 1" ∷ position_lines board kept.node.position) ++ (line_of (codes "moves " ++ decimal moves) ++ text_of (kept_lines kept))
+    → head_text board kept moves
+    ≡ text_of (first_line (version_of kept.weights) ∷ position_lines board kept.node.position) ++ (line_of (codes "moves " ++ decimal moves) ++ text_of (kept_lines (version_of kept.weights) kept))
 unfolding head_text position_text hand_line trick_line kept_line
 head_text-lines board kept moves =
     let table = kept.node.position in
-    ap (λ more. line_of (codes "alphamu report 1") ++ position_text board table ++ line_of (codes "moves " ++ decimal moves) ++ line_of (codes "kept " ++ spaced decimal kept.numbers) ++ more) (dropped_lines kept.dropped)
-    ∙ all_pieces (line_of (codes "alphamu report 1")) (line_of (codes "declarer " ++ seat_text board Declarer)) (line_of (codes "trump " ++ trump_text table.trump)) (line_of (codes "need " ++ decimal table.need))
+    let version = version_of kept.weights in
+    let before = line_of (first_line version) ++ position_text board table ++ line_of (codes "moves " ++ decimal moves) ++ line_of (codes "kept " ++ spaced decimal kept.numbers) in
+    behind_kept before (weights_line version kept.weights) (flat_map dropped_line kept.dropped)
+    ∙ ap (λ more. before ++ more) (ap (λ more. weights_line version kept.weights ++ more) (dropped_lines kept.dropped) ∙ weights_text version kept.weights (map dropped_words kept.dropped))
+    ∙ all_pieces (line_of (first_line version)) (line_of (codes "declarer " ++ seat_text board Declarer)) (line_of (codes "trump " ++ trump_text table.trump)) (line_of (codes "need " ++ decimal table.need))
     (line_of (hand_words board Declarer table.declarer)) (line_of (hand_words board Dummy table.dummy)) (line_of (trick_words board table.trick)) (line_of (codes "turn " ++ seat_text board (to_play table)))
-    (line_of (codes "moves " ++ decimal moves)) (line_of (codes "kept " ++ spaced decimal kept.numbers)) (text_of (map dropped_words kept.dropped))
+    (line_of (codes "moves " ++ decimal moves)) (line_of (codes "kept " ++ spaced decimal kept.numbers)) (text_of (weights_lines version kept.weights ++ map dropped_words kept.dropped))
 
-above_quiet : (board : BoardValue) (kept : KeptValue) → AreQuiet (codes "alphamu report 1" ∷ position_lines board kept.node.position)
-above_quiet board kept = (record { plain = refl; other = refl }, position_quiet board kept.node.position)
+first_plain : (version : Version) → is_plain (first_line version) ≡ true
+first_plain version = plain_both (codes "alphamu report ") (version_number version) refl (number_plain version)
+
+above_quiet : (board : BoardValue) (kept : KeptValue) → AreQuiet (first_line (version_of kept.weights) ∷ position_lines board kept.node.position)
+above_quiet board kept = (record { plain = first_plain (version_of kept.weights); other = refl }, position_quiet board kept.node.position)
 
 -- the head gives its moves
 pub moves_of_head-head_text : (board : BoardValue) (kept : KeptValue) (moves : ℕ) → 1 ≤ moves → moves ≤ most_moves → moves_of_head (head_text board kept moves) ≡ Some moves
 moves_of_head-head_text board kept moves low high =
+    let version = version_of kept.weights in
     ap moves_of_head (head_text-lines board kept moves)
-    ∙ moves_of_head-lines (codes "alphamu report 1" ∷ position_lines board kept.node.position) (kept_lines kept) moves (above_quiet board kept) (kept_quiet kept) low high
+    ∙ moves_of_head-lines (first_line version ∷ position_lines board kept.node.position) (kept_lines version kept) moves (above_quiet board kept) (kept_quiet version kept) low high
 
 -- and ends where the front begins
 pub front_place-head_text : (board : BoardValue) (kept : KeptValue) (moves : ℕ) (text : List ℕ) → front_place (head_text board kept moves ++ (codes "front " ++ text)) ≡ Some (length (head_text board kept moves))
 front_place-head_text board kept moves text =
+    let version = version_of kept.weights in
     let table = position_lines board kept.node.position in
     let line = codes "moves " ++ decimal moves in
-    let others = table ++ line ∷ kept_lines kept in
-    let whole : head_text board kept moves ≡ text_of (codes "alphamu report 1" ∷ others) =
-    head_text-lines board kept moves ∙ sym (flat_map-append line_of (codes "alphamu report 1" ∷ table) (line ∷ kept_lines kept)) in
+    let others = table ++ line ∷ kept_lines version kept in
+    let whole : head_text board kept moves ≡ text_of (first_line version ∷ others) =
+    head_text-lines board kept moves ∙ sym (flat_map-append line_of (first_line version ∷ table) (line ∷ kept_lines version kept)) in
     subst (λ head. front_place (head ++ (codes "front " ++ text)) ≡ Some (length head)) (sym whole)
-    (front_place-lines (codes "alphamu report 1") others text refl
-    (head_lines-append table (line ∷ kept_lines kept) (head_lines table (position_quiet board kept.node.position)) (moves_head_line moves, head_lines (kept_lines kept) (kept_quiet kept))))
+    (front_place-lines (first_line version) others text (first_plain version)
+    (head_lines-append table (line ∷ kept_lines version kept) (head_lines table (position_quiet board kept.node.position)) (moves_head_line moves, head_lines (kept_lines version kept) (kept_quiet version kept))))

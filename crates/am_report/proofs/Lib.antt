@@ -5,3 +5,4 @@ pub mod Bits
 pub mod PlainTexts
 pub mod ReportReadBack
 pub mod ReportSteps
+pub mod Versions

@@ -1,10 +1,7 @@
 -- No line ends inside a letter, a card, a hand or a list of them.
-use Rattle.std.proofs.Common.{◌≡◌, ℕ, zero, suc, ◌+◌, ◌-◌, ◌/◌, ◌%◌, ◌≤◌, Bool, true, false, not, ◌&&◌, ◌==◌, if◌then◌else◌, nat_lt, List, [], ◌∷◌, ◌++◌, map, filter, flat_map, get_or, All, refl, ap, ◌∙◌, arith, codes}
-use Rattle.std.specs.List.{list_all, join_with_byte}
-use Rattle.std.specs.Fmt.{decimal, digit_glyph, digits_onto, digits}
+use Rattle.std.proofs.Common.{◌≡◌, ℕ, zero, suc, ◌-◌, true, not, List, [], ◌∷◌, ◌++◌, map, filter, flat_map, get_or, refl, codes}
+use Rattle.std.specs.List.{join_with_byte}
 use Rattle.std.proofs.lemmas.Bool.{and_parts}
-use Rattle.std.proofs.lemmas.List.Folds.{list_all-append}
-use Rattle.std.proofs.lemmas.List.Elements.{All-nil, All-cons}
 use Rattle.card_sets.specs.declared.card.Suit.{Suit}
 use Rattle.card_sets.specs.declared.card.Suit.TheVariants.{Spades, Hearts, Diamonds, Clubs}
 use Rattle.card_sets.specs.declared.seat.Compass.{Compass}

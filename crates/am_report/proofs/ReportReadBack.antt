@@ -1,18 +1,22 @@
 -- What is written of an answer is read back.
-use Rattle.std.proofs.Common.{◌≡◌, ℕ, ◌^◌, ◌<◌, ◌≤◌, true, Some, Ok, List, [], ◌∷◌, ◌++◌, length, take, drop, flat_map, codes, refl, sym, ap, ◌∙◌, append_assoc}
+use Rattle.std.proofs.Common.{◌≡◌, ℕ, ◌^◌, ◌<◌, ◌≤◌, Some, Ok, List, [], ◌∷◌, ◌++◌, length, take, drop, map, flat_map, codes, refl, sym, ap, ◌∙◌, arith, append_assoc}
 use Rattle.std.specs.Fmt.{decimal}
 use Rattle.std.proofs.lemmas.List.{drop_at, take_at}
 use Rattle.pbn_deal.specs.Boards.{BoardValue}
 use Rattle.layout_list.specs.Kept.{KeptValue}
 use Rattle.byte_text.specs.Lines.{line_of, said_at}
 use Rattle.am_report.specs.declared.fault.ReportKind.TheVariants as kinds
-use Rattle.am_report.specs.Answers.{SolveAnswerValue}
-use Rattle.am_report.specs.Card.{count_text}
-use Rattle.am_report.specs.Head.{head_text}
+use Rattle.am_report.specs.Answers.{ReadEntryValue, SolveAnswerValue}
+use Rattle.am_report.specs.declared.version.Version.{Version}
+use Rattle.am_report.specs.declared.version.Version.TheVariants.{Counts, Weights}
+use Rattle.am_report.specs.Versions.{version_of, version_number, most_written, weights_line}
+use Rattle.am_report.specs.Card.{named_text}
+use Rattle.am_report.specs.Head.{position_text, kept_line, dropped_line, head_text}
 use Rattle.am_report.specs.Solve.{entry_text, solve_text}
 use Rattle.am_report.specs.ReportLines.{front_said, card_said}
-use Rattle.am_report.specs.Reading.{expected, has_version, front_place, moves_of_head, head_said, head_read, end_read, below_read, report_read}
-use Rattle.am_report.specs.ReadBack.{IsPrintable, printed_report}
+use Rattle.am_report.specs.Reading.{expected, version_said, front_place, moves_of_head, head_said, head_read, end_read, below_read, report_read}
+use Rattle.am_report.specs.ReadBack.{IsPrintable, printed_entry, printed_report}
+use Rattle.am_report.proofs.Versions.{sum_written}
 use Rattle.am_report.proofs.HeadLines.{moves_of_head-head_text, front_place-head_text}
 use Rattle.byte_text.proofs.PlainLines.{said_at-here}
 use Rattle.am_report.proofs.EntryLines.{front_is_said, front_plain, entries_read-here, card_is_said, card_plain}
@@ -38,19 +42,37 @@ end_read-here bytes before are =
     rw last refl
 
 -- the text begins with the version
-version_first : (board : BoardValue) (kept : KeptValue) (moves : ℕ) (rest : List ℕ) → has_version (head_text board kept moves ++ rest) ≡ true
-unfolding head_text
-version_first board kept moves rest = refl
+version_is_said : (version : Version) (rest : List ℕ) → version_said (line_of (codes "alphamu report " ++ version_number version) ++ rest) ≡ Some version
+unfolding version_said
+version_is_said Counts rest = refl
+version_is_said Weights rest = refl
 
-read_below : (bytes : List ℕ) → has_version bytes ≡ true → report_read bytes ≡ below_read bytes
+after_version : (a b c d e f rest : List ℕ) → (a ++ b ++ c ++ d ++ e ++ f) ++ rest ≡ a ++ ((b ++ c ++ d ++ e ++ f) ++ rest)
+after_version a b c d e f rest = simp append_assoc
+
+version_first : (board : BoardValue) (kept : KeptValue) (moves : ℕ) (rest : List ℕ) → version_said (head_text board kept moves ++ rest) ≡ Some (version_of kept.weights)
+unfolding head_text
+version_first board kept moves rest =
+    let version = version_of kept.weights in
+    let position = position_text board kept.node.position in
+    let line = line_of (codes "moves " ++ decimal moves) in
+    let weights = weights_line version kept.weights in
+    let dropped = flat_map dropped_line kept.dropped in
+    ap version_said (after_version (line_of (codes "alphamu report " ++ version_number version)) position line (kept_line kept.numbers) weights dropped rest)
+    ∙ version_is_said version ((position ++ line ++ kept_line kept.numbers ++ weights ++ dropped) ++ rest)
+
+read_below : (bytes : List ℕ) (version : Version) → version_said bytes ≡ Some version → report_read bytes ≡ below_read version bytes
 unfolding report_read
-read_below bytes version = rw version refl
+read_below bytes version said = rw said refl
 
 five_pieces : (a b c d e : List ℕ) → a ++ b ++ c ++ d ++ e ≡ a ++ (b ++ (c ++ (d ++ e)))
 five_pieces a b c d e = simp append_assoc
 
-module _ (board : BoardValue) (kept : KeptValue) (moves : ℕ) (answer : SolveAnswerValue) (printable : IsPrintable moves answer) where
+module _ (board : BoardValue) (kept : KeptValue) (moves : ℕ) (answer : SolveAnswerValue) (printable : IsPrintable kept.weights moves answer) where
   -- the parts of the report
+  abbrev version : Version
+  version = version_of kept.weights
+
   abbrev head : List ℕ
   head = head_text board kept moves
 
@@ -58,16 +80,19 @@ module _ (board : BoardValue) (kept : KeptValue) (moves : ℕ) (answer : SolveAn
   front = line_of (codes "front " ++ decimal (length answer.entries))
 
   abbrev plans : List ℕ
-  plans = flat_map entry_text answer.entries
+  plans = flat_map (entry_text kept.weights) answer.entries
 
   abbrev card : List ℕ
-  card = line_of (count_text answer.card answer.count)
+  card = line_of (named_text version answer.card answer.weight)
 
   abbrev last : List ℕ
   last = line_of (codes "end")
 
   abbrev whole : List ℕ
   whole = head ++ (front ++ (plans ++ (card ++ last)))
+
+  abbrev entries : List ReadEntryValue
+  entries = map (printed_entry kept.weights) answer.entries
 
   behind_front : whole ≡ (head ++ front) ++ (plans ++ (card ++ last))
   behind_front = sym (append_assoc head front (plans ++ (card ++ last)))
@@ -83,15 +108,18 @@ module _ (board : BoardValue) (kept : KeptValue) (moves : ℕ) (answer : SolveAn
       ap (λ more. front_place (head ++ more)) (ap (λ more. more ++ (plans ++ (card ++ last))) (append_assoc (codes "front ") (decimal (length answer.entries)) (10 ∷ [])) ∙ append_assoc (codes "front ") (decimal (length answer.entries) ++ 10 ∷ []) (plans ++ (card ++ last)))
       ∙ front_place-head_text board kept moves ((decimal (length answer.entries) ++ 10 ∷ []) ++ (plans ++ (card ++ last)))
 
-  below : below_read whole ≡ Ok (record { head = take (length head) whole; moves = moves; entries = answer.entries; card = answer.card; count = answer.count })
-  below =
-      let named : expected kinds.Card whole (length ((head ++ front) ++ plans)) (said_at card_said whole (length ((head ++ front) ++ plans))) ≡ Ok ((answer.card, answer.count), length (((head ++ front) ++ plans) ++ card)) =
-      ap (λ text. expected kinds.Card text (length ((head ++ front) ++ plans)) (said_at card_said text (length ((head ++ front) ++ plans)))) behind_plans
+  card_is_named : expected kinds.Card whole (length ((head ++ front) ++ plans)) (said_at (card_said version) whole (length ((head ++ front) ++ plans))) ≡ Ok ((answer.card, answer.weight), length (((head ++ front) ++ plans) ++ card))
+  card_is_named =
+      let high : answer.weight ≤ most_written version = omega (arith, printable.weight, sum_written kept.weights printable.layouts) in
+      ap (λ text. expected kinds.Card text (length ((head ++ front) ++ plans)) (said_at (card_said version) text (length ((head ++ front) ++ plans)))) behind_plans
       ∙ ap (expected kinds.Card (((head ++ front) ++ plans) ++ (card ++ last)) (length ((head ++ front) ++ plans)))
-      (said_at-here card_said ((head ++ front) ++ plans) (count_text answer.card answer.count) last (answer.card, answer.count) (card_plain answer.card answer.count) (card_is_said answer.card answer.count printable.card printable.count)) in
-      below_read-whole whole _ (head_read-here whole head (plans ++ (card ++ last)) moves (length answer.entries) refl front_begins (moves_of_head-head_text board kept moves printable.some_moves printable.few_moves) printable.some_vectors printable.few_vectors)
-      answer.entries (length ((head ++ front) ++ plans)) (entries_read-here answer.entries whole (head ++ front) (card ++ last) printable.entries behind_front)
-      (answer.card, answer.count) (length (((head ++ front) ++ plans) ++ card)) named tt (end_read-here whole (((head ++ front) ++ plans) ++ card) behind_card)
+      (said_at-here (card_said version) ((head ++ front) ++ plans) (named_text version answer.card answer.weight) last (answer.card, answer.weight) (card_plain version answer.card answer.weight) (card_is_said version answer.card answer.weight printable.card high))
+
+  below : below_read version whole ≡ Ok (record { version = version; head = take (length head) whole; moves = moves; entries = entries; card = answer.card; weight = answer.weight })
+  below =
+      below_read-whole version whole _ (head_read-here whole head (plans ++ (card ++ last)) moves (length answer.entries) refl front_begins (moves_of_head-head_text board kept moves printable.some_moves printable.few_moves) printable.some_vectors printable.few_vectors)
+      entries (length ((head ++ front) ++ plans)) (entries_read-here kept.weights printable.layouts answer.entries whole (head ++ front) (card ++ last) printable.entries behind_front)
+      (answer.card, answer.weight) (length (((head ++ front) ++ plans) ++ card)) card_is_named tt (end_read-here whole (((head ++ front) ++ plans) ++ card) behind_card)
 
   solve_text-parts : solve_text board kept moves answer ≡ whole
   unfolding solve_text
@@ -100,5 +128,5 @@ module _ (board : BoardValue) (kept : KeptValue) (moves : ℕ) (answer : SolveAn
   pub solve_text-read : report_read (solve_text board kept moves answer) ≡ Ok (printed_report board kept moves answer)
   solve_text-read =
       ap report_read solve_text-parts
-      ∙ read_below whole (version_first board kept moves (front ++ (plans ++ (card ++ last)))) ∙ below
-      ∙ ap (λ text. Ok (record { head = text; moves = moves; entries = answer.entries; card = answer.card; count = answer.count })) (take_at head (front ++ (plans ++ (card ++ last))) (length head) refl)
+      ∙ read_below whole version (version_first board kept moves (front ++ (plans ++ (card ++ last)))) ∙ below
+      ∙ ap (λ text. Ok (record { version = version; head = text; moves = moves; entries = entries; card = answer.card; weight = answer.weight })) (take_at head (front ++ (plans ++ (card ++ last))) (length head) refl)

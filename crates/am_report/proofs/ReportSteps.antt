@@ -14,7 +14,8 @@ use Rattle.am_report.specs.declared.fault.ReportKind.TheVariants as kinds
 use Rattle.am_report.specs.declared.fault.ReportFault.{ReportFault}
 use Rattle.am_report.specs.declared.fault.ReportFault.TheVariants as faults
 use Rattle.am_report.specs.declared.reading.Head.{Head}
-use Rattle.am_report.specs.Answers.{EntryValue}
+use Rattle.am_report.specs.declared.version.Version.{Version}
+use Rattle.am_report.specs.Answers.{ReadEntryValue}
 use Rattle.am_report.specs.ReportLines.{moves_said, vector_said, card_said}
 use Rattle.am_report.specs.Reading.{expected, only, moves_of_head, head_read, report_fault, entry_read, entries_read, end_read, below_read, IsReportFaultOf}
 use Rattle.byte_text.specs.Steps.{◌>>=◌}
@@ -95,66 +96,66 @@ moves_of_head-end head found (Some text) none so_far = absurd cc
 
 -- ---- a vector with its plan
 
-module _ (bytes : List ℕ) (at : ℕ) where
-  pub entry_read-no_vector : (found : ℕ × ReportKind) → expected kinds.Vector bytes at (said_at vector_said bytes at) ≡ Err found → entry_read bytes at ≡ Err found
+module _ (version : Version) (bytes : List ℕ) (at : ℕ) where
+  pub entry_read-no_vector : (found : ℕ × ReportKind) → expected kinds.Vector bytes at (said_at (vector_said version) bytes at) ≡ Err found → entry_read version bytes at ≡ Err found
   unfolding entry_read
   entry_read-no_vector found said = rw said refl
 
-  pub entry_read-plan : (vector : List Bool) (next : ℕ) (plan : Plan ℕ) (end : ℕ) → expected kinds.Vector bytes at (said_at vector_said bytes at) ≡ Ok (vector, next)
-      → plan_read bytes next ≡ Ok (plan, end) → entry_read bytes at ≡ Ok (record { vector = vector; plan = plan }, end)
+  pub entry_read-plan : (vector : List Bool) (weight next : ℕ) (plan : Plan ℕ) (end : ℕ) → expected kinds.Vector bytes at (said_at (vector_said version) bytes at) ≡ Ok ((vector, weight), next)
+      → plan_read bytes next ≡ Ok (plan, end) → entry_read version bytes at ≡ Ok (record { entry = record { vector = vector; plan = plan }; weight = weight }, end)
   unfolding entry_read
-  entry_read-plan vector next plan end said read = rw (said, read) refl
+  entry_read-plan vector weight next plan end said read = rw (said, read) refl
 
-  pub entry_read-report_fault : (vector : List Bool) (next : ℕ) (fault : PlanFault) → expected kinds.Vector bytes at (said_at vector_said bytes at) ≡ Ok (vector, next)
-      → (fault ≡ plan_faults.Memory) ⊎ (plan_read bytes next ≡ Err fault) → IsReportFaultOf (report_fault bytes fault) (entry_read bytes at)
+  pub entry_read-report_fault : (vector : List Bool) (weight next : ℕ) (fault : PlanFault) → expected kinds.Vector bytes at (said_at (vector_said version) bytes at) ≡ Ok ((vector, weight), next)
+      → (fault ≡ plan_faults.Memory) ⊎ (plan_read bytes next ≡ Err fault) → IsReportFaultOf (report_fault bytes fault) (entry_read version bytes at)
   unfolding entry_read
-  entry_read-report_fault vector next plan_faults.Memory said cause = tt
-  entry_read-report_fault vector next (plan_faults.Line place) said cause = elim cause [ inl memory ↦ absurd cc | inr refused ↦ rw (said, refused) refl ]
-  entry_read-report_fault vector next (plan_faults.Deep place) said cause = elim cause [ inl memory ↦ absurd cc | inr refused ↦ rw (said, refused) refl ]
+  entry_read-report_fault vector weight next plan_faults.Memory said cause = tt
+  entry_read-report_fault vector weight next (plan_faults.Line place) said cause = elim cause [ inl memory ↦ absurd cc | inr refused ↦ rw (said, refused) refl ]
+  entry_read-report_fault vector weight next (plan_faults.Deep place) said cause = elim cause [ inl memory ↦ absurd cc | inr refused ↦ rw (said, refused) refl ]
 
 -- ---- one after another
 
 -- what is read after these
-abbrev pub entries_after : List EntryValue → Result (List EntryValue × ℕ) (ℕ × ReportKind) → Result (List EntryValue × ℕ) (ℕ × ReportKind)
+abbrev pub entries_after : List ReadEntryValue → Result (List ReadEntryValue × ℕ) (ℕ × ReportKind) → Result (List ReadEntryValue × ℕ) (ℕ × ReportKind)
 entries_after earlier (Ok read) = Ok (earlier ++ read.0, read.1)
 entries_after earlier (Err fault) = Err fault
 
-pub entries_after-none : (r : Result (List EntryValue × ℕ) (ℕ × ReportKind)) → r ≡ entries_after [] r
+pub entries_after-none : (r : Result (List ReadEntryValue × ℕ) (ℕ × ReportKind)) → r ≡ entries_after [] r
 entries_after-none (Ok read) = refl
 entries_after-none (Err fault) = refl
 
-entries_after-append : (earlier more : List EntryValue) (r : Result (List EntryValue × ℕ) (ℕ × ReportKind)) → entries_after (earlier ++ more) r ≡ entries_after earlier (entries_after more r)
+entries_after-append : (earlier more : List ReadEntryValue) (r : Result (List ReadEntryValue × ℕ) (ℕ × ReportKind)) → entries_after (earlier ++ more) r ≡ entries_after earlier (entries_after more r)
 entries_after-append earlier more (Ok read) = ap (λ entries. Ok (entries, read.1)) (append_assoc earlier more read.0)
 entries_after-append earlier more (Err fault) = refl
 
-after_one : (entry : EntryValue) (r : Result (List EntryValue × ℕ) (ℕ × ReportKind)) → (r >>= (λ later. Ok (entry ∷ later.0, later.1))) ≡ entries_after (entry ∷ []) r
+after_one : (entry : ReadEntryValue) (r : Result (List ReadEntryValue × ℕ) (ℕ × ReportKind)) → (r >>= (λ later. Ok (entry ∷ later.0, later.1))) ≡ entries_after (entry ∷ []) r
 after_one entry (Ok read) = refl
 after_one entry (Err fault) = refl
 
-module _ (bytes : List ℕ) where
-  entries_read-fault : (left at : ℕ) (fault : ℕ × ReportKind) → 0 < left → entry_read bytes at ≡ Err fault → entries_read left bytes at ≡ Err fault
+module _ (version : Version) (bytes : List ℕ) where
+  entries_read-fault : (left at : ℕ) (fault : ℕ × ReportKind) → 0 < left → entry_read version bytes at ≡ Err fault → entries_read version left bytes at ≡ Err fault
   entries_read-fault zero at fault more is = absurd (omega arith)
   entries_read-fault (suc left) at fault more is = rw is refl
 
-  entries_read-more : (left at : ℕ) (entry : EntryValue) (end : ℕ) → 0 < left → entry_read bytes at ≡ Ok (entry, end)
-      → entries_read left bytes at ≡ entries_after (entry ∷ []) (entries_read (left - 1) bytes end)
+  entries_read-more : (left at : ℕ) (entry : ReadEntryValue) (end : ℕ) → 0 < left → entry_read version bytes at ≡ Ok (entry, end)
+      → entries_read version left bytes at ≡ entries_after (entry ∷ []) (entries_read version (left - 1) bytes end)
   entries_read-more zero at entry end more is = absurd (omega arith)
-  entries_read-more (suc left) at entry end more is = let one : suc left - 1 ≡ left = omega arith in rw (is, one) (after_one entry (entries_read left bytes end))
+  entries_read-more (suc left) at entry end more is = let one : suc left - 1 ≡ left = omega arith in rw (is, one) (after_one entry (entries_read version left bytes end))
 
   -- the reader comes to a fault,
-  pub entries_read-broken : (whole : Result (List EntryValue × ℕ) (ℕ × ReportKind)) (earlier : List EntryValue) (left at : ℕ) (fault : ℕ × ReportKind) → 0 < left
-      → whole ≡ entries_after earlier (entries_read left bytes at) → entry_read bytes at ≡ Err fault → whole ≡ Err fault
+  pub entries_read-broken : (whole : Result (List ReadEntryValue × ℕ) (ℕ × ReportKind)) (earlier : List ReadEntryValue) (left at : ℕ) (fault : ℕ × ReportKind) → 0 < left
+      → whole ≡ entries_after earlier (entries_read version left bytes at) → entry_read version bytes at ≡ Err fault → whole ≡ Err fault
   entries_read-broken whole earlier left at fault more so_far is = so_far ∙ ap (entries_after earlier) (entries_read-fault left at fault more is)
 
   -- to one more,
-  pub entries_read-turn : (whole : Result (List EntryValue × ℕ) (ℕ × ReportKind)) (earlier : List EntryValue) (left at : ℕ) (entry : EntryValue) (end : ℕ) → 0 < left
-      → whole ≡ entries_after earlier (entries_read left bytes at) → entry_read bytes at ≡ Ok (entry, end) → whole ≡ entries_after (earlier ++ entry ∷ []) (entries_read (left - 1) bytes end)
+  pub entries_read-turn : (whole : Result (List ReadEntryValue × ℕ) (ℕ × ReportKind)) (earlier : List ReadEntryValue) (left at : ℕ) (entry : ReadEntryValue) (end : ℕ) → 0 < left
+      → whole ≡ entries_after earlier (entries_read version left bytes at) → entry_read version bytes at ≡ Ok (entry, end) → whole ≡ entries_after (earlier ++ entry ∷ []) (entries_read version (left - 1) bytes end)
   entries_read-turn whole earlier left at entry end more so_far is =
-      so_far ∙ ap (entries_after earlier) (entries_read-more left at entry end more is) ∙ sym (entries_after-append earlier (entry ∷ []) (entries_read (left - 1) bytes end))
+      so_far ∙ ap (entries_after earlier) (entries_read-more left at entry end more is) ∙ sym (entries_after-append earlier (entry ∷ []) (entries_read version (left - 1) bytes end))
 
   -- and to the end
-  pub entries_read-end : (whole : Result (List EntryValue × ℕ) (ℕ × ReportKind)) (entries : List EntryValue) (left at : ℕ) → left ≡ 0
-      → whole ≡ entries_after entries (entries_read left bytes at) → whole ≡ Ok (entries, at)
+  pub entries_read-end : (whole : Result (List ReadEntryValue × ℕ) (ℕ × ReportKind)) (entries : List ReadEntryValue) (left at : ℕ) → left ≡ 0
+      → whole ≡ entries_after entries (entries_read version left bytes at) → whole ≡ Ok (entries, at)
   entries_read-end whole entries zero at none so_far = so_far ∙ ap (λ es. Ok (es, at)) (append-nil entries)
   entries_read-end whole entries (suc left) at none so_far = absurd (omega arith)
 
@@ -177,27 +178,27 @@ module _ (bytes : List ℕ) (at : ℕ) where
 
 -- ---- the whole below the version
 
-module _ (bytes : List ℕ) where
-  pub below_read-head_fault : (found : ℕ × ReportKind) → head_read bytes ≡ Err found → below_read bytes ≡ Err found
+module _ (version : Version) (bytes : List ℕ) where
+  pub below_read-head_fault : (found : ℕ × ReportKind) → head_read bytes ≡ Err found → below_read version bytes ≡ Err found
   unfolding below_read
   below_read-head_fault found is = rw is refl
 
   module _ (head : Head) (is : head_read bytes ≡ Ok head) where
-    pub below_read-front_fault : (found : ℕ × ReportKind) → entries_read head.vectors bytes head.next ≡ Err found → below_read bytes ≡ Err found
+    pub below_read-front_fault : (found : ℕ × ReportKind) → entries_read version head.vectors bytes head.next ≡ Err found → below_read version bytes ≡ Err found
     unfolding below_read
     below_read-front_fault found front = rw (is, front) refl
 
-    module _ (entries : List EntryValue) (at : ℕ) (front : entries_read head.vectors bytes head.next ≡ Ok (entries, at)) where
-      pub below_read-no_card : (found : ℕ × ReportKind) → expected kinds.Card bytes at (said_at card_said bytes at) ≡ Err found → below_read bytes ≡ Err found
+    module _ (entries : List ReadEntryValue) (at : ℕ) (front : entries_read version head.vectors bytes head.next ≡ Ok (entries, at)) where
+      pub below_read-no_card : (found : ℕ × ReportKind) → expected kinds.Card bytes at (said_at (card_said version) bytes at) ≡ Err found → below_read version bytes ≡ Err found
       unfolding below_read
       below_read-no_card found said = rw (is, front, said) refl
 
-      module _ (named : ℕ × ℕ) (next : ℕ) (said : expected kinds.Card bytes at (said_at card_said bytes at) ≡ Ok (named, next)) where
-        pub below_read-end_fault : (found : ℕ × ReportKind) → end_read bytes next ≡ Err found → below_read bytes ≡ Err found
+      module _ (named : ℕ × ℕ) (next : ℕ) (said : expected kinds.Card bytes at (said_at (card_said version) bytes at) ≡ Ok (named, next)) where
+        pub below_read-end_fault : (found : ℕ × ReportKind) → end_read bytes next ≡ Err found → below_read version bytes ≡ Err found
         unfolding below_read
         below_read-end_fault found end = rw (is, front, said, end) refl
 
         pub below_read-whole : (done : Unit {0}) → end_read bytes next ≡ Ok done
-            → below_read bytes ≡ Ok (record { head = take head.place bytes; moves = head.moves; entries = entries; card = named.0; count = named.1 })
+            → below_read version bytes ≡ Ok (record { version = version; head = take head.place bytes; moves = head.moves; entries = entries; card = named.0; weight = named.1 })
         unfolding below_read
         below_read-whole done end = rw (is, front, said, end) refl

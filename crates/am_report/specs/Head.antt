@@ -63,8 +63,8 @@ position_text board table =
 unfoldable pub kept_line : List ℕ → List ℕ
 kept_line numbers = line_of (codes "kept " ++ spaced decimal numbers)
 
--- the whole head: the version, the table, the moves of declarer's side, the kept layouts with their weights, and a line for
--- each dropped one
+-- the whole head: the version, the table, the moves of declarer's side, the kept layouts with their weights, and a
+-- line for each dropped one
 unfoldable pub head_text : BoardValue → KeptValue → ℕ → List ℕ
 head_text board kept moves =
     line_of (codes "alphamu report " ++ version_number (version_of kept.weights))

@@ -30,8 +30,8 @@ pub record IsPrintableEntry (layouts : ℕ) (entry : EntryValue) : Type 0 where
   pub width : length entry.vector ≡ layouts
   pub plan : IsPrintablePlan entry.plan
 
--- such layouts; 1 to 26 moves; a front of at least one vector and fewer than 2^32; a card of the pack, and no more than all
--- layouts weigh
+-- such layouts; 1 to 26 moves; a front of at least one vector and fewer than 2^32; a card of the pack, and no more
+-- than all layouts weigh
 pub record IsPrintable (weights : List ℕ) (moves : ℕ) (answer : SolveAnswerValue) : Type 0 where
   pub layouts : ArePrintableWeights weights
   pub some_moves : 1 ≤ moves

@@ -20,8 +20,8 @@ use Rattle.am_report.specs.Versions.{version_number}
 use Rattle.am_report.specs.Answers.{ReadEntryValue}
 use Rattle.am_report.specs.ReportLines.{front_said, moves_said, vector_said, card_said}
 
--- what a report says: its version, the text of its head, the moves, the front with its plans, the card to play, and how many
--- layouts make the contract, or their weight
+-- what a report says: its version, the text of its head, the moves, the front with its plans, the card to play, and
+-- how many layouts make the contract, or their weight
 pub record ReadReportValue : Type 0 where
   pub version : Version
   pub head : List ℕ

@@ -1,5 +1,5 @@
 -- What the lines of a report say.
-use Rattle.std.specs.Prelude.{ℕ, Bool, ◌&&◌, ◌||◌, ◌==◌, not, nat_le, Option, None, Some, option_and_then, List, [], ◌∷◌, length, map, drop, take, if◌then◌else◌, codes}
+use Rattle.std.specs.Prelude.{ℕ, Bool, ◌&&◌, ◌||◌, ◌==◌, not, nat_le, Option, None, Some, option_and_then, List, ◌∷◌, map, drop, take, if◌then◌else◌, codes}
 use Rattle.std.specs.Option.{option_map}
 use Rattle.std.specs.List.{position_or_len}
 use Rattle.card_letters.specs.Letters.{card_read}

@@ -1,4 +1,5 @@
--- The two versions of a report: by how many layouts a vector wins, where each layout weighs 1, and else by their weight.
+-- The two versions of a report: by how many layouts a vector wins, where each layout weighs 1, and else by their
+-- weight.
 use Rattle.std.specs.Prelude.{ℕ, Bool, true, List, [], ◌++◌, ◌*◌, ◌==◌, codes, if◌then◌else◌}
 use Rattle.std.specs.List.{list_all}
 use Rattle.std.specs.Fmt.{decimal}

@@ -23,7 +23,8 @@ impl Model for Entry {
     ghost view = { λ entry. record { vector = entry.vector; plan = plan_of entry.plan } };
 }
 
-/// An entry as a report gives it, with the number behind the vector: how many layouts it wins, or their weight.
+/// An entry as a report gives it, with the number behind the vector: how many layouts it wins, or
+/// their weight.
 #[derive(Debug, Drop)]
 pub struct ReadEntry {
     pub entry: Entry,

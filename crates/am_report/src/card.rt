@@ -1,5 +1,5 @@
 //! The text of an answer that is one card.
-ghost use Rattle.std.specs.Prelude.{◌≡◌, ◌++◌, IfOk, OnOk};
+ghost use Rattle.std.specs.Prelude.{◌≡◌, ◌++◌, IfOk, OnOk, sum};
 ghost use Rattle.am_report.specs.Card.{card_text, named_text};
 
 use crate::lines::push_line;
@@ -26,6 +26,13 @@ pub(crate) fn push_named(
     push_weight(text, alloc, version, weight)
 }
 
+// What all layouts weigh together.
+fn weight_of_all(weights: &Weights) -> u32
+    ensures { result ≡ sum weights.now }
+{
+    weights.total(WinVector::all(weights.width()))
+}
+
 /// The card to play, and how many of how many kept layouts make the contract: where each of them
 /// weighs 1, and else the weight of the former and of all.
 #[tactic(auto, unfolding(crate::specs::Card::card_text))]
@@ -42,8 +49,7 @@ pub fn card_text(
     push_line(&mut text, b"alphamu card ", version.number())?;
     push_named(&mut text, alloc, version, card, weight)?;
     text.push(b" of ")?;
-    let all = WinVector::all(weights.width());
-    text.push_number(alloc, u64::from(weights.total(all)))?;
+    text.push_number(alloc, u64::from(weight_of_all(weights)))?;
     text.push(b"\n")?;
     Ok(text)
 }

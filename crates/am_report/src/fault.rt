@@ -15,8 +15,8 @@ pub enum ReportKind {
     /// the front's length.
     #[error("the head has no front, or not one number of moves")]
     Head,
-    /// A vector's line isn't 1 to 256 bits with the count of its ones, or in version 2 with a weight
-    /// from 0 to 256,000,000.
+    /// A vector's line isn't 1 to 256 bits with the count of its ones, or in version 2 with a
+    /// weight from 0 to 256,000,000.
     #[error("a vector does not stand with its count or weight")]
     Vector,
     /// A plan's line isn't one that may stand there.
@@ -25,8 +25,8 @@ pub enum ReportKind {
     /// A plan's node would stand at level 65, whatever its line says.
     #[error("a plan has more than 64 levels")]
     TooDeep,
-    /// The line after the last plan isn't the card with a count from 0 to 256, or in version 2 with a
-    /// weight from 0 to 256,000,000.
+    /// The line after the last plan isn't the card with a count from 0 to 256, or in version 2 with
+    /// a weight from 0 to 256,000,000.
     #[error("the card does not stand with its count or weight")]
     Card,
     /// The last line isn't `end`, or something follows it.

@@ -8,7 +8,7 @@ ghost use Rattle.am_report.specs.Head.{cause_text, dropped_line, kept_line, posi
 ghost use Rattle.am_report.specs.Head.{head_text};
 ghost use Rattle.am_report.specs.Versions.{weights_line};
 
-use crate::lines::{push_line, push_number_line};
+use crate::lines::{push_line, push_number_line, push_space};
 use crate::version::Version;
 use byte_text::Text;
 use card_letters::{compass_letter, letters_of, suit_letter};
@@ -119,9 +119,8 @@ fn push_kept_line(text: &mut Text, alloc: Global, numbers: &[u16]) -> Result<(),
 fn push_each_weight(text: &mut Text, alloc: Global, weights: &Weights) -> Result<(), AllocError>
     ensures { OnOk result (text.new ≡ text.old ++ spaced decimal weights.now) }
 {
-    text.push_number(alloc, u64::from(weights.get(0)))?;
-    for place in 1..weights.width() {
-        text.push(b" ")?;
+    for place in 0..weights.width() {
+        push_space(text, usize::from(place))?;
         text.push_number(alloc, u64::from(weights.get(place)))?;
     }
     Ok(())

@@ -2,6 +2,7 @@
 ghost use Rattle.std.specs.Prelude.{◌≡◌, ◌++◌, OnOk};
 ghost use Rattle.std.specs.Fmt.{decimal};
 ghost use Rattle.byte_text.specs.Lines.{line_of};
+ghost use Rattle.am_report.specs.Lines.{space_before};
 
 use byte_text::Text;
 use std::alloc::{AllocError, Global};
@@ -27,4 +28,11 @@ pub(crate) fn push_number_line(
     text.push(word)?;
     text.push_number(alloc, number)?;
     text.push(b"\n")
+}
+
+// Appends a space, but in front of the first of a list.
+pub(crate) fn push_space(text: &mut Text, place: usize) -> Result<(), AllocError>
+    ensures { OnOk result (text.new ≡ text.old ++ space_before place) }
+{
+    if place == 0 { Ok(()) } else { text.push(b" ") }
 }

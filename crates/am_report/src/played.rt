@@ -2,23 +2,16 @@
 ghost use Rattle.std.specs.Prelude.{◌≡◌, ◌++◌, ◌∷◌, [], IfOk, OnOk, codes};
 ghost use Rattle.byte_text.specs.Lines.{line_of};
 ghost use Rattle.card_letters.specs.Letters.{letters_of};
-ghost use Rattle.am_report.specs.Lines.{spaced, space_before};
+ghost use Rattle.am_report.specs.Lines.{spaced};
 ghost use Rattle.am_report.specs.Match.{match_text};
 ghost use Rattle.am_report.specs.Solve.{bit_letter};
 
-use crate::lines::{push_line, push_number_line};
+use crate::lines::{push_line, push_number_line, push_space};
 use crate::solve::bit_letter;
 use byte_text::Text;
 use card_letters::letters_of;
 use std::alloc::{AllocError, Global};
 use trick_rules::CardLine;
-
-// Appends a space, but in front of the first of a list.
-fn push_space(text: &mut Text, place: usize) -> Result<(), AllocError>
-    ensures { OnOk result (text.new ≡ text.old ++ space_before place) }
-{
-    if place == 0 { Ok(()) } else { text.push(b" ") }
-}
 
 // Appends cards with single spaces between them.
 fn push_card_line(text: &mut Text, cards: &CardLine) -> Result<(), AllocError>

@@ -296,11 +296,7 @@ fn read_entries(
 }
 
 // The line of the card to play and its weight, and the place after it.
-fn read_card(
-    version: Version,
-    bytes: &[u8],
-    at: usize,
-) -> Result<((Card, u32), usize), ReportFault>
+fn read_card(version: Version, bytes: &[u8], at: usize) -> Result<((Card, u32), usize), ReportFault>
     requires place { at ≤ length bytes.now }
     requires short { length bytes.now < 2 ^ 32 - 1 }
     ensures read { GivesReport result

@@ -146,11 +146,7 @@ pub(crate) fn vector_at(
 }
 
 // The same of the card to play, and its weight.
-pub(crate) fn card_at(
-    version: Version,
-    bytes: &[u8],
-    at: usize,
-) -> Option<((Card, u32), usize)>
+pub(crate) fn card_at(version: Version, bytes: &[u8], at: usize) -> Option<((Card, u32), usize)>
     requires { at ≤ length bytes.now }
     ensures value { result ≡ said_at (card_said version) bytes.now at }
     ensures within { IfSome result (λ said. said.1 ≤ length bytes.now) }

@@ -80,9 +80,9 @@ fn push_named_line(
 }
 
 /// The report: its head, then the number of vectors of the front, each vector with its weight and
-/// its plan, and the card to play with the weight of the kept layouts in which the contract is made.
-/// Where each layout weighs 1, a weight is a count of layouts. The vectors have a bit for each
-/// layout.
+/// its plan, and the card to play with the weight of the kept layouts in which the contract is
+/// made. Where each layout weighs 1, a weight is a count of layouts. The vectors have a bit for
+/// each layout.
 #[tactic(auto, unfolding(crate::specs::Solve::solve_text))]
 pub fn solve_text(
     alloc: Global,
