@@ -72,13 +72,16 @@ def words_of(case):
     return bytes_of(case, "args").split(b"\n")[:-1]
 
 
-def run(program, case, seconds, env=None, more=(), words=None):
+def run(program, case, seconds, env=None, more=(), words=None, files=None):
     """What the program wrote to standard output and standard error, and its exit status, with more words at the end
-    or with other words."""
+    or with other words, and with more files by their names."""
     words = (words_of(case) if words is None else list(words)) + list(more)
     to = bytes_of(case, "stdout_to").decode().strip()
     with tempfile.TemporaryDirectory() as room:
         lay_out(case, room)
+        for name, content in (files or {}).items():
+            with open(os.path.join(os.fsencode(room), name), "wb") as file:
+                file.write(content)
         with open(os.open(to, os.O_WRONLY), "wb") if to else tempfile.TemporaryFile() as out:
             ran = subprocess.run([os.fsencode(program), *words], cwd=room, stdin=subprocess.DEVNULL, stdout=out,
                                  stderr=subprocess.PIPE, timeout=seconds, env=env)

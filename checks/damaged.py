@@ -1,12 +1,13 @@
 #!/usr/bin/env python3
 """damaged.py [--count N] [--first N] [--seed N] [--jobs N] [--seconds N] [--keep FOLDER] [PROGRAM]
 
-Runs a program on damaged deal files, layout files, reports and words, and compares exit status, line and output with a
+Runs a program on damaged deal files, layout files, reports, logs and words, and compares exit status, line and output with a
 second reading of the same rules (checks/reading.py). Where no program is named it is the proved one, which ./build makes.
 
 A run is made from its number and the seed alone: the files of a case, of which one, or the words, are damaged in one to
 four places. So that a deal and layouts that are still read are compared too, many runs judge a report whose head is
-written by the second reading. Of jobs that search the status alone is compared where files and words are sound.
+written by the second reading. Of jobs that search, or write a log, the status alone is compared where files and words are
+sound.
 
 Prints each run that differs, whose files are then kept in a folder, and how often each status came. The exit status is 0
 only where no run differs.
@@ -23,15 +24,19 @@ import tempfile
 
 sys.dont_write_bytecode = True
 import cases
+import logs
 import reading
 
 PROVED = os.path.join(cases.TOP, "crates", "alphamu", "out", "alphamu")
-NAMES = {"deal": b"deal.pbn", "layouts": b"layouts.lay", "report": b"report.txt"}
+NAMES = {"deal": b"deal.pbn", "layouts": b"layouts.lay", "report": b"report.txt", "log": b"log.txt"}
 # The files that a case has at least, for a kind of damage to start from it.
-NEEDED = {"deal": ("deal",), "layouts": ("deal", "layouts"), "report": ("deal", "layouts", "report"), "words": ()}
+NEEDED = {"deal": ("deal",), "layouts": ("deal", "layouts"), "report": ("deal", "layouts", "report"),
+          "log": ("deal", "layouts", "report", "log"), "words": ()}
 # How often each kind of damage comes.
-KINDS = ("deal",) * 8 + ("layouts",) * 6 + ("report",) * 5 + ("words",)
-# More cards than that are too many for the second reading's double dummy.
+KINDS = ("deal",) * 8 + ("layouts",) * 6 + ("report",) * 5 + ("log",) * 4 + ("words",)
+# What each file of a case has at most, for damage to start there.
+MOST_BYTES = 20000
+# With more cards double dummy takes too long, in the second reading above all.
 MOST_TRICKS = 4
 # What a search may end with.
 SEARCHED = (0, 7)
@@ -42,12 +47,18 @@ SNIPPETS = {
     "deal": [b'[Deal "N:32... - KJ... -"]', b'[Declarer "E"]', b'[Contract "3NTX"]', b'[Contract "Pass"]', b'[EndNeed "2"]',
              b'[EndLead "W"]', b'[Play "N"]', b'[Event "a \\"b\\" ; { c"]', b"\n*\n", b"\n- - - -\n", b"S2", b"SA", b"HT", b"D9!?",
              b"c7", b"[ Note \"1:x\" ]", b"{ one\n\n% two }", b'[Play "S"]\nS2 S7\n*', b'"S2"', b"=x=", b"$", b"[Deal"],
-    "layouts": [b"N:32... A7... KJ... Q5...", b"E:A7... KJ... Q5... 32...", b"-", b"...", b"% more\n", b"10", b"N:", b" :", b"W:"],
+    "layouts": [b"N:32... A7... KJ... Q5...", b"E:A7... KJ... Q5... 32...", b"-", b"...", b"% more\n", b"10", b"N:", b" :", b"W:", b"3 ", b"0 ", b"007 ",
+                b"1000000 ", b"1000001 ", b"2\t", b"5", b"1 1 ", b"5 N:32... A7... KJ... Q5...\n"],
     "report": [b"alphamu report 1\n", b"moves 2\n", b"moves 26\n", b"moves 0\n", b"front 1\n", b"front 4294967296\n", b"vector 10 count 1\n",
-               b"play S2\n", b"hear 3\n", b"hear 53\n", b"on SA\n", b"stop\n", b"card S2 count 1\n", b"end\n", b"kept 1 2\n", b"on sq\n"],
+               b"play S2\n", b"hear 3\n", b"hear 53\n", b"on SA\n", b"stop\n", b"card S2 count 1\n", b"end\n", b"kept 1 2\n", b"on sq\n",
+               b"alphamu report 2\n", b"weights 1 3\n", b"vector 01 weight 3\n", b"card S2 weight 3\n", b" weight ", b"256000001"],
+    "log": [b"alphamu log 1\n", b"end\n", b"leaf S2 0 - 11\n", b"leaf - 1 - 11\n", b"union - 1 1,2 11\n", b"union", b"join", b"leaf", b"-",
+            b"S2.S7", b".SA", b",1", b"1,2", b"11", b"00", b",01", b"1", b"26", b"27", b"4294967295", b"4294967296", b" ", b"s3"],
     "words": [b"--job", b"--job=check", b"--deal", b"--layouts=layouts.lay", b"--moves", b"--moves=2", b"--nodes", b"--number", b"7", b"65",
               b"--workers=4", b"--shards", b"--room=65536", b"--no-table", b"--no-cuts", b"--no-cuts=1", b"--", b"-", b"-m", b"--help",
-              b"=", b"--=", b"--deal=", b"solve", b"made", b"0", b"002", b"18446744073709551616", b"+2", b"\xff", b"deal.pbn"],
+              b"=", b"--=", b"--deal=", b"solve", b"made", b"0", b"002", b"18446744073709551616", b"+2", b"\xff", b"deal.pbn",
+              b"prove", b"audit", b"match", b"--log", b"--log=log.txt", b"--report=report.txt", b"--layout=1", b"--switch", b"52", b"268435457",
+              b"--shards=64", b"--room=4096"],
 }
 
 
@@ -105,6 +116,20 @@ def damaged_word(chance, text):
     return text[:word.start()] + new + text[word.end():]
 
 
+def damaged_log(chance, text):
+    """A bit is turned, a number is one more or less, or a card is another one: the log mostly still stands."""
+    at = chance.choice(list(re.finditer(rb"[SHDC][2-9TJQKA]|[0-9]+", text)))
+    found = at[0]
+    if not found.isdigit():
+        new = chance.choice(re.findall(rb"[SHDC][2-9TJQKA]", text))
+    elif chance.randrange(2) and not found.strip(b"01"):
+        bit = chance.randrange(len(found))
+        new = found[:bit] + bytes([found[bit] ^ 1]) + found[bit + 1:]
+    else:
+        new = b"%d" % abs(int(found) + chance.choice((-1, 1)))
+    return text[:at.start()] + new + text[at.end():]
+
+
 def damaged_words(chance, words):
     words = list(words)
     at = chance.randrange(len(words) + 1)
@@ -130,7 +155,7 @@ def bases():
     for case in cases.names_of_cases():
         files = {name: cases.bytes_of(case, name.decode()) for name in NAMES.values()
                  if os.path.isfile(os.path.join(cases.CASES, case, name.decode()))}
-        if cases.bytes_of(case, "fill") or max(map(len, files.values()), default=0) > 20000:
+        if cases.bytes_of(case, "fill") or max(map(len, files.values()), default=0) > MOST_BYTES:
             continue
         for kind, needed in NEEDED.items():
             if all(NAMES[it] in files for it in needed):
@@ -144,7 +169,15 @@ def weight(kind, files):
         return 1
     if not board_in(files):
         return int(kind == "deal")
-    return 4 if kind == "deal" else 1
+    return 4 if kind == "deal" or kind == "log" and stands(files[NAMES["log"]]) else 1
+
+
+def stands(log):
+    """Whether the log is read at all."""
+    try:
+        return bool(logs.lines_of(log))
+    except logs.Fault:
+        return False
 
 
 def board_in(files):
@@ -167,13 +200,13 @@ def own_report(files, chance):
     if turn is None or turn % 2:
         return None
     bit = chance.choice((b"0", b"1"))
-    bits = bit * len(kept.numbers)
+    bits, word = bit * len(kept.numbers), reading.WORDS[kept.version()]
     return reading.head_text(board, kept, chance.randrange(1, 27)) + (
-        b"front 1\nvector %s count %d\nstop\ncard S2 count 0\nend\n" % (bits, bits.count(b"1")))
+        b"front 1\nvector %s %s %d\nstop\ncard S2 %s 0\nend\n" % (bits, word, kept.weight(bits), word))
 
 
 def is_small(files):
-    """Whether so few cards are left that the second reading can play them all."""
+    """Whether so few cards are left that all of them are soon played."""
     board = board_in(files)
     return board is None or reading.moment_after(board).tricks <= MOST_TRICKS
 
@@ -182,7 +215,13 @@ WORDS = {
     "check": [b"--job", b"check", b"--deal", b"deal.pbn", b"--layouts", b"layouts.lay", b"--report", b"report.txt"],
     "fusion": [b"--job", b"fusion", b"--deal", b"deal.pbn", b"--layouts", b"layouts.lay"],
     "list": [b"--job", b"list", b"--deal", b"deal.pbn"],
+    "audit": [b"--job", b"audit", b"--deal", b"deal.pbn", b"--layouts", b"layouts.lay", b"--report", b"report.txt", b"--log", b"log.txt"],
+    # What is searched ends soon.
+    "match": [b"--job", b"match", b"--deal", b"deal.pbn", b"--layouts", b"layouts.lay", b"--moves", b"1", b"--nodes", b"9", b"--layout", b"2"],
+    "prove": [b"--job", b"prove", b"--deal", b"deal.pbn", b"--layouts", b"layouts.lay", b"--moves", b"1", b"--nodes", b"9"],
 }
+# The jobs that a damaged deal or damaged layouts are tried with, where there are layouts.
+ON_LAYOUTS = ("check",) * 4 + ("fusion",) * 2 + ("match", "prove")
 
 
 def trial(number, seed, found):
@@ -199,13 +238,17 @@ def trial(number, seed, found):
         return kind, words, {name: b"" for name in files}
     others = [other[NAMES[kind]] for _, other in found[kind]]
     for _ in range(times):
-        files[NAMES[kind]] = damaged_text(chance, files[NAMES[kind]], kind, others)
-    if kind == "report":
-        return kind, WORDS["check"], files
-    job = chance.choice(("check", "check", "fusion" if NAMES["layouts"] in files else "list", "list" if kind == "deal" else "check"))
-    if job == "fusion" and not is_small(files):
+        text = files[NAMES[kind]]
+        is_fine = kind == "log" and re.search(rb"[0-9]", text) and chance.randrange(2)
+        files[NAMES[kind]] = damaged_log(chance, text) if is_fine else damaged_text(chance, text, kind, others)
+    if kind in ("report", "log"):
+        is_audit = kind == "log" or NAMES["log"] in files and chance.randrange(2) == 0
+        return kind, WORDS["audit" if is_audit else "check"], files
+    has_layouts = NAMES["layouts"] in files
+    job = chance.choice((*ON_LAYOUTS, *("list",) * 2 * (kind == "deal"))) if has_layouts else "list"
+    if job in ("fusion", "match", "prove") and not is_small(files):
         job = "check"
-    if job == "check" and NAMES["layouts"] in files:
+    if job == "check":
         report = own_report(files, chance)
         if report or NAMES["report"] not in files:
             files[NAMES["report"]] = report or b""

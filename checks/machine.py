@@ -33,6 +33,9 @@ JOBS = {
     "fusion": "fusion",
     "list": "list-of-an-ending",
     "check": "check-a-good-report",
+    "match": "match-won",
+    "prove": "prove-two-moves",
+    "audit": "audit-two-moves",
     "made": "made-of-0",
     "workers": "made-of-2-with-workers",
     "slam": "club-evening-after-seven-tricks",
@@ -44,12 +47,11 @@ REFUSED = "deal-empty"
 # A run that takes long enough to be met by a signal.
 LONG = "made-of-the-greatest-number"
 # The names of the input files in these cases.
-NAMES = {"deal": "deal.pbn", "layouts": "layouts.lay", "report": "report.txt"}
+NAMES = {"deal": "deal.pbn", "layouts": "layouts.lay", "report": "report.txt", "log": "log.txt"}
 IS_ROOT = os.geteuid() == 0
 # Users without processes or files, one for each trial that needs one.
 FIRST_USER = 60000
-# Signals that end a process that doesn't care for them, and those that do nothing to it. The program cares for PIPE
-# alone, from its start on.
+# Signals that end a process, and those that do nothing to it. The program cares for PIPE alone, from its start on.
 DEADLY = ("HUP", "INT", "QUIT", "USR1", "USR2", "ALRM", "TERM", "KILL", "XCPU", "PIPE")
 HARMLESS = ("CHLD", "CONT", "URG", "WINCH")
 # What is done in the new process before it becomes the program.
@@ -242,7 +244,7 @@ def spoiled(file, spoil, *allowed, as_other=False):
     """The named file is made something else before the run."""
     def trial(given):
         before = become(given.user) if as_other else ""
-        found = given.run(JOBS["check"], before, spoil=lambda folder: spoil(os.path.join(folder, NAMES[file])))
+        found = given.run(JOBS["audit"], before, spoil=lambda folder: spoil(os.path.join(folder, NAMES[file])))
         return judged(found, *(allowed or [unread(file)]))
     return trial
 
@@ -274,8 +276,8 @@ def put_in_closed_folder(path):
 def named(name):
     """A name that no file has."""
     def trial(given):
-        words = [name if word == os.fsencode(NAMES["deal"]) else word for word in cases.words_of(JOBS["check"])]
-        return judged(given.run(JOBS["check"], words=words), unread("deal"))
+        words = [name if word == os.fsencode(NAMES["deal"]) else word for word in cases.words_of(JOBS["audit"])]
+        return judged(given.run(JOBS["audit"], words=words), unread("deal"))
     return trial
 
 
@@ -385,14 +387,12 @@ def main():
         made = [Trial(it[2], room, given.seconds, FIRST_USER + at) for at, it in enumerate(chosen)]
         with ThreadPoolExecutor(given.jobs) as pool:
             told = list(pool.map(lambda it, trial: it[3](trial), chosen, made))
-    for (_, name, _, _), fault in zip(chosen, told):
-        if fault:
-            print(f"{name}: {fault}")
+    for line in [f"{it[1]}: {fault}" for it, fault in zip(chosen, told) if fault]:
+        print(line)
     for kind, count in collections.Counter(it[0] for it in chosen).items():
         print(f"machine: {kind}: {count} trials")
-    wrong = sum(bool(it) for it in told)
-    print(f"machine: {len(chosen)} trials, {wrong} wrong")
-    return 0 if chosen and not wrong else 1
+    print(f"machine: {len(chosen)} trials, {sum(map(bool, told))} wrong")
+    return 0 if chosen and not any(told) else 1
 
 
 if __name__ == "__main__":

@@ -36,6 +36,10 @@ RUNS = {
     "check": ("check-a-good-report", ()),
     "list": ("list-of-an-ending", ()),
     "fusion": ("fusion", ()),
+    "solve with weights": ("weights-turn-the-order", ()),
+    "check with weights": ("weights-check", ()),
+    "prove": ("prove-two-moves", ()),
+    "audit": ("audit-two-moves", ()),
     "made": ("made-of-0", ()),
     "made with workers": ("made-of-2-with-workers", ()),
 }

@@ -1,22 +1,25 @@
 """What alphamu has to answer to words and files, read a second time.
 
 It says anew what docs/USING.md and docs/definitions/ say, over whole texts and lists of cards, and takes nothing from
-the program. It knows every refusal, and all output but that of the jobs that search (`solve`, `card`, `made`). It is slow
-where many cards are left to be played, since double dummy here is plain minimax with a memo.
+the program. It knows every refusal but those of a search, and all output but that of the jobs that search (`solve`, `card`,
+`match`, `made`) or write what a search would (`prove`). It is slow where many cards are left to be played.
 """
-import functools
 import itertools
 import math
 import re
 
+import logs
+from playing import RANKS, after, card_named, child, choices, is_decided, legal, makes, name_of, seat_to_play, winner_of
+
 BLANKS = b" \t\r"
 SEATS = b"NESW"
-SUITS = b"SHDC"
-RANKS = b"23456789TJQKA"
-MOST_LINES = 64
+MOST_LAYOUTS = 256
+MOST_WEIGHT = 1000000
 MOST_LEVELS = 64
-MOST_BYTES = {"deal": 1 << 20, "layouts": 1 << 20, "report": 1 << 24}
+MOST_BYTES = {"deal": 1 << 20, "layouts": 1 << 20, "report": 1 << 24, "log": 1 << 24}
 NO_TRUMP = 4
+# The word before what is won, by the version of a text.
+WORDS = {1: b"count", 2: b"weight"}
 USAGE = b"usage: --job JOB [OPTIONS]"
 
 
@@ -29,20 +32,6 @@ class Refusal(Exception):
 
 class DealFault(Exception):
     """A fault of the Deal form, by its name."""
-
-
-# Cards are 0 to 51 in card order, and a seat is its number clockwise from declarer, who is 0.
-
-def card_named(text):
-    """The card that two letters name, or none."""
-    if len(text) != 2 or text[0:1].upper() not in [bytes([it]) for it in SUITS] or text[1:2].upper() not in [
-            bytes([it]) for it in RANKS]:
-        return None
-    return SUITS.index(text[0:1].upper()) * 13 + RANKS.index(text[1:2].upper())
-
-
-def name_of(card):
-    return bytes([SUITS[card // 13], RANKS[card % 13]])
 
 
 def hand_text(cards):
@@ -276,14 +265,6 @@ def is_revoke(hand, card, trick):
     return card // 13 != led and any(it // 13 == led for it in hand)
 
 
-def winner_of(trick, trump):
-    """The seat that wins; of a card that stands twice the first counts as the higher."""
-    led = trick[0][1] // 13
-    suit = trump if any(card // 13 == trump for _, card in trick) else led
-    best = max(card for _, card in trick if card // 13 == suit)
-    return next(seat for seat, card in trick if card == best)
-
-
 # The moment after the plays.
 
 class Moment:
@@ -334,7 +315,27 @@ def contradiction(board, layout):
 
 class Kept:
     def __init__(self):
-        self.numbers, self.layouts, self.dropped = [], [], []
+        self.numbers, self.layouts, self.weights, self.dropped = [], [], [], []
+
+    def version(self):
+        return 1 if set(self.weights) == {1} else 2
+
+    def weight(self, bits):
+        """What the layouts with a 1 weigh together."""
+        return sum(weight for weight, bit in zip(self.weights, bits) if bit == ord("1"))
+
+
+WEIGHT = re.compile(rb"[ \t\r]*0*([0-9]*)")
+
+
+def weight_of(line):
+    """The weight of a layout and the rest of its line, or none where the weight is refused."""
+    if line.lstrip(BLANKS)[:1] not in [b"%d" % digit for digit in range(10)]:
+        return 1, line
+    found = WEIGHT.match(line)
+    digits, rest = found[1], line[found.end():]
+    is_weight = 1 <= len(digits) <= 7 and int(digits) <= MOST_WEIGHT and rest[:1] and rest[:1] in BLANKS
+    return (int(digits), rest) if is_weight else None
 
 
 def layouts_of(text, board):
@@ -345,10 +346,13 @@ def layouts_of(text, board):
     for number, line in enumerate(text.split(b"\n"), 1):
         if not line.strip(BLANKS) or line.startswith(b"%"):
             continue
-        if len(listed) == MOST_LINES:
+        if len(listed) == MOST_LAYOUTS:
             raise bad(number, b"TooMany")
+        weighed = weight_of(line)
+        if not weighed:
+            raise bad(number, b"BadWeight")
         try:
-            hands = deal_of(line)
+            hands = deal_of(weighed[1])
         except DealFault as fault:
             raise bad(number, b"BadLine " + fault.args[0]) from fault
         hands = hands[board.declarer:] + hands[:board.declarer]
@@ -357,15 +361,16 @@ def layouts_of(text, board):
         unseen = hands[1] | hands[3] if unseen is None else unseen
         if hands[1] | hands[3] != unseen:
             raise bad(number, b"OtherHands")
-        listed.append((hands[1], hands[3]))
+        listed.append((weighed[0], (hands[1], hands[3])))
     kept = Kept()
-    for number, layout in enumerate(listed, 1):
+    for number, (weight, layout) in enumerate(listed, 1):
         against = contradiction(board, layout)
         if against:
             kept.dropped.append((number, *against))
         else:
             kept.numbers.append(number)
             kept.layouts.append(layout)
+            kept.weights.append(weight)
     if not kept.numbers:
         raise Refusal(5, b"layouts: NoneLeft")
     return kept
@@ -380,11 +385,13 @@ def place(board, seat):
 def head_text(board, kept, moves):
     now = moment_after(board)
     trick = b" ".join(name_of(card) for _, card in now.trick) or b"-"
-    lines = [b"alphamu report 1", b"declarer " + place(board, 0), b"trump " + [b"S", b"H", b"D", b"C", b"NT"][board.trump],
+    lines = [b"alphamu report %d" % kept.version(), b"declarer " + place(board, 0), b"trump " + [b"S", b"H", b"D", b"C", b"NT"][board.trump],
              b"need %d" % now.need, b"hand %s %s" % (place(board, 0), hand_text(now.hands[0])),
              b"hand %s %s" % (place(board, 2), hand_text(now.hands[2])),
              b"trick %s %s" % (place(board, now.leader), trick), b"turn " + place(board, now.turn()),
              b"moves %d" % moves, b"kept " + b" ".join(b"%d" % number for number in kept.numbers)]
+    if kept.version() == 2:
+        lines.append(b"weights " + b" ".join(b"%d" % weight for weight in kept.weights))
     lines += [b"dropped %d %s %d" % (number, cause, card) for number, card, cause in kept.dropped]
     return b"".join(line + b"\n" for line in lines)
 
@@ -396,32 +403,6 @@ def deal_text(board, layout):
 
 # Double dummy, and plain sampling.
 
-def legal(hand, trick):
-    led = [card for card in hand if trick and card // 13 == trick[0][1] // 13]
-    return sorted(led or hand)
-
-
-@functools.lru_cache(maxsize=200000)
-def makes(hands, trick, leader, need, trump):
-    if need == 0 or not (trick or any(hands)):
-        return need == 0
-    if need > (max(len(hand) for hand in hands)):
-        return False
-    seat = (leader + len(trick)) % 4
-    return (any if seat % 2 == 0 else all)(
-        makes(*after(hands, trick, leader, need, trump, seat, card), trump) for card in legal(hands[seat], trick))
-
-
-def after(hands, trick, leader, need, trump, seat, card):
-    hands = tuple(hand - {card} if at == seat else hand for at, hand in enumerate(hands))
-    trick = (*trick, (seat, card))
-    if len(trick) == 4:
-        leader = winner_of(trick, trump)
-        need = max(0, need - (leader % 2 == 0))
-        trick = ()
-    return hands, trick, leader, need
-
-
 def state_of(board, layout):
     now = moment_after(board, layout)
     return tuple(map(frozenset, now.hands)), tuple(now.trick), now.leader, now.need
@@ -432,12 +413,12 @@ def fusion_text(board, kept):
     seat = moment_after(board).turn()
     rows = []
     for card in legal(states[0][0][seat], states[0][1]):
-        bits = [makes(*after(*state, board.trump, seat, card), board.trump) for state in states]
+        bits = bits_text(makes(*after(*state, board.trump, seat, card), board.trump) for state in states)
         rows.append((card, bits))
-    best = max(sum(bits) for _, bits in rows)
-    named = next(card for card, bits in rows if sum(bits) == best)
-    lines = [b"card %s vector %s count %d" % (name_of(card), bits_text(bits), sum(bits)) for card, bits in rows]
-    return b"".join(line + b"\n" for line in [b"alphamu fusion 1", *lines, b"named " + name_of(named)])
+    best = max(kept.weight(bits) for _, bits in rows)
+    named = next(card for card, bits in rows if kept.weight(bits) == best)
+    lines = [b"card %s vector %s %s %d" % (name_of(card), bits, WORDS[kept.version()], kept.weight(bits)) for card, bits in rows]
+    return b"".join(line + b"\n" for line in [b"alphamu fusion %d" % kept.version(), *lines, b"named " + name_of(named)])
 
 
 def bits_text(bits):
@@ -470,7 +451,7 @@ def list_text(board):
     free = sorted(board.unseen - must[1] - must[3]) if must else []
     wanted = board.tricks - len(must[1]) if must else -1
     count = math.comb(len(free), wanted) if wanted >= 0 else 0
-    if not 1 <= count <= MOST_LINES:
+    if not 1 <= count <= MOST_LAYOUTS:
         raise Refusal(12, b"%d layouts fit" % count)
     played = {card for _, card in board.plays}
     lefts = [must[1] | set(more) for more in itertools.combinations(free, wanted)]
@@ -484,13 +465,14 @@ def list_text(board):
 # Longer numbers are out of every range.
 COUNT = rb"(0|[1-9][0-9]{0,19})"
 A_CARD = rb"[SHDCshdc][2-9TJQKAtjqka]"
-VERSION = re.compile(rb"alphamu report 1")
+VERSION = re.compile(rb"alphamu report ([12])")
 MOVES = re.compile(rb"moves " + COUNT)
 FRONT = re.compile(rb"front " + COUNT)
-VECTOR = re.compile(rb"vector ([01]{1,64}) count " + COUNT)
+VECTORS = {version: re.compile(b"vector ([01]{1,256}) %b %b" % (word, COUNT)) for version, word in WORDS.items()}
 NODE = re.compile(rb"stop|play " + A_CARD + rb"|hear " + COUNT)
 REPLY = re.compile(rb"on " + A_CARD)
-LAST = re.compile(rb"card " + A_CARD + rb" count " + COUNT)
+LAST = {version: re.compile(b"card %b %b %b" % (A_CARD, word, COUNT)) for version, word in WORDS.items()}
+MOST_WON = {1: MOST_LAYOUTS, 2: MOST_LAYOUTS * MOST_WEIGHT}
 END = re.compile(rb"end")
 
 
@@ -532,12 +514,12 @@ def plan_of(lines, level=1):
 
 
 def report_of(text):
-    """The head, the moves, and the bits of each vector with its plan."""
+    """The head, the moves, and the bits of each vector with its weight and its plan."""
     every = text.split(b"\n")
     every = every if every[-1] else every[:-1]
     whole = text.count(b"\n")
     lines = Lines(text)
-    lines.take(VERSION, b"Version")
+    version = int(lines.take(VERSION, b"Version")[1])
     front = next((at for at, line in enumerate(every) if line.startswith(b"front ")), None)
     if front is None:
         raise lines.bad(b"Head", len(every) + 1)
@@ -549,12 +531,12 @@ def report_of(text):
     lines.at = front + 1
     entries = []
     for _ in range(int(number[1])):
-        bits, count = lines.take(VECTOR, b"Vector").groups()
-        if int(count) != bits.count(b"1"):
+        bits, won = lines.take(VECTORS[version], b"Vector").groups()
+        if int(won) > MOST_WON[version] or version == 1 and int(won) != bits.count(b"1"):
             lines.at -= 1
             raise lines.bad(b"Vector")
-        entries.append((bits, plan_of(lines)))
-    if int(lines.take(LAST, b"Card")[1]) > 64:
+        entries.append((bits, int(won), plan_of(lines)))
+    if int(lines.take(LAST[version], b"Card")[1]) > MOST_WON[version]:
         lines.at -= 1
         raise lines.bad(b"Card")
     lines.take(END, b"End")
@@ -574,45 +556,46 @@ class Judge:
         self.trump, self.node = trump, 0
 
     def bits(self, plan, states, moves):
-        """For each state whether the plan wins it; states share all but the defenders' hands."""
+        """For each state whether the plan wins it."""
         self.node += 1
-        hands, trick, leader, need = states[0]
-        tricks = max(len(hand) for hand in hands)
-        if moves == 0 or need == 0 or need > tricks:
+        if moves == 0 or is_decided(states):
             self.demand(plan is None)
             return [makes(*state, self.trump) for state in states]
-        seat = (leader + len(trick)) % 4
-        choices = sorted({card for state in states for card in legal(state[0][seat], trick)})
-        if seat % 2 == 0:
-            self.demand(isinstance(plan, tuple) and plan[0] in choices)
-            return self.bits(plan[1], [self.after(state, seat, plan[0]) for state in states], moves - 1)
-        self.demand(isinstance(plan, list) and [card for card, _ in plan] == choices)
+        cards = choices(states)
+        if seat_to_play(states) % 2 == 0:
+            self.demand(isinstance(plan, tuple) and plan[0] in cards)
+            return self.bits(plan[1], child(states, plan[0], self.trump)[1], moves - 1)
+        self.demand(isinstance(plan, list) and [card for card, _ in plan] == cards)
         won = [True] * len(states)
         for card, below in plan:
-            able = [at for at, state in enumerate(states) if card in legal(state[0][seat], trick)]
-            for at, bit in zip(able, self.bits(below, [self.after(states[at], seat, card) for at in able], moves)):
+            able, states_after = child(states, card, self.trump)
+            for at, bit in zip(able, self.bits(below, states_after, moves)):
                 won[at] = won[at] and bit
         return won
-
-    def after(self, state, seat, card):
-        return after(*state, self.trump, seat, card)
 
     def demand(self, holds):
         if not holds:
             raise Misfit
 
 
-def check_text(board, kept, report):
-    def refuted(plan, line):
-        return Refusal(1, b"plan %d: %s" % (plan, line))
+def refuted(plan, line):
+    return Refusal(1, b"plan %d: %s" % (plan, line))
 
-    head, moves, entries = report
+
+def judge_head(board, kept, head, moves):
     if head != head_text(board, kept, moves):
         raise refuted(0, b"head differs")
+
+
+def check_text(board, kept, report):
+    head, moves, entries = report
+    judge_head(board, kept, head, moves)
     states = [state_of(board, layout) for layout in kept.layouts]
-    for number, (bits, plan) in enumerate(entries, 1):
+    for number, (bits, won, plan) in enumerate(entries, 1):
         if len(bits) != len(states):
             raise refuted(number, b"width differs")
+        if won != kept.weight(bits):
+            raise refuted(number, b"weight differs")
         judge = Judge(board.trump)
         try:
             won = judge.bits(plan, states, moves)
@@ -624,15 +607,41 @@ def check_text(board, kept, report):
     return b"alphamu check 1\nplans %d\ngood\n" % len(entries)
 
 
+# The log.
+
+def audit_text(board, kept, report, log):
+    head, moves, entries = report
+    try:
+        lines = logs.lines_of(log)
+    except logs.Fault as fault:
+        raise Refusal(15, b"log file line %d" % fault.args) from fault
+    judge_head(board, kept, head, moves)
+    states = [state_of(board, layout) for layout in kept.layouts]
+    vectors = [bits for bits, _, _ in entries]
+    for number, bits in enumerate(vectors, 1):
+        if len(bits) != len(states):
+            raise refuted(number, b"width differs")
+    number = logs.unproved(lines, states, moves, board.trump, vectors)
+    if number:
+        raise Refusal(16, b"log line %d not proved" % number)
+    return b"alphamu audit 1\nlines %d\ncomplete\n" % len(lines)
+
+
 # The words.
 
-FILES = ("deal", "layouts", "report")
+FILES = ("deal", "layouts", "report", "log")
 SEARCHING = {"nodes": (1, (1 << 64) - 1), "workers": (1, 64), "shards": (1, 64), "room": (1, 65536)}
-NUMBERS = {"moves": (1, 26), "number": (0, (1 << 64) - 1), **SEARCHING}
+NUMBERS = {"moves": (1, 26), "number": (0, (1 << 64) - 1), "layout": (1, 256), "switch": (1, 52), **SEARCHING}
 FLAGS = ("no-table", "no-cuts")
-MUST = {"solve": ("deal", "layouts", "moves"), "card": ("deal", "layouts", "moves"), "fusion": ("deal", "layouts"),
-        "list": ("deal",), "check": ("deal", "layouts", "report"), "made": ("number",)}
-SEARCHES = ("solve", "card", "made")
+# What each job takes: the options that it must have, and those that it may have.
+SEARCH = (*SEARCHING, *FLAGS)
+TAKES = {"solve": (("deal", "layouts", "moves"), SEARCH), "card": (("deal", "layouts", "moves"), SEARCH),
+         "match": (("deal", "layouts", "moves", "layout"), ("switch", *SEARCH)), "fusion": (("deal", "layouts"), ()),
+         "list": (("deal",), ()), "check": (("deal", "layouts", "report"), ()), "made": (("number",), SEARCH),
+         "prove": (("deal", "layouts", "moves"), ("nodes",)), "audit": (("deal", "layouts", "report", "log"), ())}
+# The greatest number of nodes that a log may be asked of, and of entries that a table may have.
+MOST_LOGGED = 1 << 28
+MOST_ENTRIES = 1 << 18
 DEFAULT = {"shards": 16, "room": 16384}
 
 
@@ -665,17 +674,19 @@ def options_of(words):
 def ask_of(words):
     """The job and its options, or none where the words are refused."""
     found = options_of(words)
-    if found is None or found.get("job") not in MUST:
+    if found is None or found.get("job") not in TAKES:
         return None
     job = found.pop("job")
-    allowed = {*MUST[job], *((*SEARCHING, *FLAGS) if job in SEARCHES else ())}
-    if not set(MUST[job]) <= set(found) <= allowed:
+    must, may = TAKES[job]
+    if not set(must) <= set(found) <= {*must, *may}:
         return None
     for name, (least, most) in NUMBERS.items():
         if name in found:
             if not re.fullmatch(r"0*[0-9]{1,20}", found[name]) or not least <= int(found[name]) <= most:
                 return None
-    if int(found.get("shards", DEFAULT["shards"])) * int(found.get("room", DEFAULT["room"])) > 1 << 20:
+    if job == "prove" and int(found.get("nodes", 1)) > MOST_LOGGED:
+        return None
+    if int(found.get("shards", DEFAULT["shards"])) * int(found.get("room", DEFAULT["room"])) > MOST_ENTRIES:
         return None
     return job, found
 
@@ -724,4 +735,8 @@ def text_for(job, options, files):
         return fusion_text(board, kept)
     if job == "check":
         return check_text(board, kept, report_of(given["report"]))
+    if job == "audit":
+        return audit_text(board, kept, report_of(given["report"]), given["log"])
+    if job == "match" and int(options["layout"]) not in kept.numbers:
+        raise Refusal(14, b"no layout %d" % int(options["layout"]))
     return None
