@@ -9,7 +9,7 @@ use Rattle.trick_rules.specs.Play.{cards_left}
 use Rattle.trick_rules.specs.Nodes.{NodeValue, IsNode, choices, child, child_mask}
 use Rattle.trick_rules.proofs.PlayLaws as play
 use Rattle.strategy_games.specs.Games.{mask}
-use Rattle.strategy_games.specs.Plans.{cards_of, stops, tree_size}
+use Rattle.strategy_games.specs.Plans.{Plan, Replies, NoReply, Reply, cards_of, stops, tree_size}
 use Rattle.strategy_games.specs.Choosing.{IsPick, IsChosenPlan, AreChosenReplies}
 use Rattle.strategy_games.proofs.Lists.{Contains-here, Contains-append_second}
 use Rattle.strategy_tree.specs.Bridge.{bridge}
@@ -24,18 +24,27 @@ use Rattle.plan_finder.specs.Targets.{IsOfFront}
 use Rattle.plan_finder.proofs.Picks.{length-of_front, picked, picked_of, chosen_for}
 
 -- the replies so far are those that are printed for the vector's parts
-pub record RepliedSoFar (n : NodeValue) (moves : ℕ) (vector : Vector) (cards : List ℕ) (replies : List Answered) : Type 0 where
-  pub split : choices n ≡ cards_of (replies_of replies) ++ cards
-  pub chosen : AreChosenReplies bridge (replies_of replies) n moves vector
+pub record RepliedSoFar (n : NodeValue) (moves : ℕ) (vector : Vector) (cards : List ℕ) (replies : Replies ℕ) : Type 0 where
+  pub split : choices n ≡ cards_of replies ++ cards
+  pub chosen : AreChosenReplies bridge replies n moves vector
 
-cards-push : (replies : List Answered) (reply : Answered) → cards_of (replies_of (replies ++ reply ∷ [])) ≡ cards_of (replies_of replies) ++ reply.card ∷ []
-cards-push [] reply = refl
-cards-push (r ∷ replies) reply = ap (λ cards. r.card ∷ cards) (cards-push replies reply)
+-- one more reply, after the others
+abbrev pub then_reply : Replies ℕ → ℕ → Plan ℕ → Replies ℕ
+then_reply NoReply card plan = Reply card plan NoReply
+then_reply (Reply c q later) card plan = Reply c q (then_reply later card plan)
 
-chosen-push : (n : NodeValue) (moves : ℕ) (vector : Vector) (replies : List Answered) (reply : Answered) → AreChosenReplies bridge (replies_of replies) n moves vector
-    → IsChosenPlan bridge (plan_of reply.plan) (child n reply.card) moves (restrict_of vector (mask bridge n reply.card)) → AreChosenReplies bridge (replies_of (replies ++ reply ∷ [])) n moves vector
-chosen-push n moves vector [] reply so last = (last, so)
-chosen-push n moves vector (r ∷ replies) reply so last = (so.0, chosen-push n moves vector replies reply so.1 last)
+cards-then : (replies : Replies ℕ) (card : ℕ) (plan : Plan ℕ) → cards_of (then_reply replies card plan) ≡ cards_of replies ++ card ∷ []
+cards-then NoReply card plan = refl
+cards-then (Reply c q later) card plan = ap (λ cards. c ∷ cards) (cards-then later card plan)
+
+chosen-then : (n : NodeValue) (moves : ℕ) (vector : Vector) (replies : Replies ℕ) (card : ℕ) (plan : Plan ℕ) → AreChosenReplies bridge replies n moves vector
+    → IsChosenPlan bridge plan (child n card) moves (restrict_of vector (mask bridge n card)) → AreChosenReplies bridge (then_reply replies card plan) n moves vector
+chosen-then n moves vector NoReply card plan so last = (last, so)
+chosen-then n moves vector (Reply c q later) card plan so last = (so.0, chosen-then n moves vector later card plan so.1 last)
+
+replies_of-push : (replies : List Answered) (reply : Answered) → replies_of (replies ++ reply ∷ []) ≡ then_reply (replies_of replies) reply.card (plan_of reply.plan)
+replies_of-push [] reply = refl
+replies_of-push (r ∷ replies) reply = ap (λ later. Reply r.card (plan_of r.plan) later) (replies_of-push replies reply)
 
 -- the front of a child covers the vector's part
 pub part_covered : (n : NodeValue) (moves : ℕ) (vector : Vector) (card : ℕ) (m : NodeValue) (bits : Vector) (found : FrontValue) → IsNode n → stops bridge n moves ≡ false → bridge.is_ours n ≡ false → IsOfFront n moves vector
@@ -56,19 +65,24 @@ larger_below n (suc k) card m nodes sound goes_on theirs among is_child larger =
     omega arith
 
 module _ (n : NodeValue) (moves : ℕ) (vector : Vector) where
-  pub replied_none : (cards : List ℕ) (replies : List Answered) → cards ≡ choices n → replies ≡ [] → RepliedSoFar n moves vector cards replies
-  replied_none cards replies e none = subst (λ replies. RepliedSoFar n moves vector cards replies) (sym none) (record { split = sym e; chosen = tt })
+  pub replied_none : (cards : List ℕ) → cards ≡ choices n → RepliedSoFar n moves vector cards NoReply
+  replied_none cards e = record { split = sym e; chosen = tt }
 
-  module _ {cards : List ℕ} {replies : List Answered} (so : RepliedSoFar n moves vector cards replies) where
-    pub replied_all : cards ≡ [] → cards_of (replies_of replies) ≡ choices n
-    replied_all ended = sym (so.split ∙ ap (λ cards. cards_of (replies_of replies) ++ cards) ended ∙ append-nil (cards_of (replies_of replies)))
+  -- in memory
+  pub replied_push : {cards : List ℕ} (more replies : List Answered) (reply : Answered) → more ≡ replies ++ reply ∷ [] → RepliedSoFar n moves vector cards (then_reply (replies_of replies) reply.card (plan_of reply.plan)) → RepliedSoFar n moves vector cards (replies_of more)
+  replied_push {cards = cards} more replies reply pushed so =
+      subst (λ (replies : Replies ℕ). RepliedSoFar n moves vector cards replies) (sym (ap (λ replies. replies_of replies) pushed ∙ replies_of-push replies reply)) so
+
+  module _ {cards : List ℕ} {replies : Replies ℕ} (so : RepliedSoFar n moves vector cards replies) where
+    pub replied_all : cards ≡ [] → cards_of replies ≡ choices n
+    replied_all ended = sym (so.split ∙ ap (λ cards. cards_of replies ++ cards) ended ∙ append-nil (cards_of replies))
 
     module _ {card : ℕ} {rest : List ℕ} (taken : cards ≡ card ∷ rest) where
-      parts : choices n ≡ cards_of (replies_of replies) ++ card ∷ rest
-      parts = so.split ∙ ap (λ cards. cards_of (replies_of replies) ++ cards) taken
+      parts : choices n ≡ cards_of replies ++ card ∷ rest
+      parts = so.split ∙ ap (λ cards. cards_of replies ++ cards) taken
 
       pub next_reply : Contains (choices n) card
-      next_reply = subst (λ cards. Contains cards card) (sym parts) (Contains-append_second (cards_of (replies_of replies)) (card ∷ rest) card (Contains-here card rest))
+      next_reply = subst (λ cards. Contains cards card) (sym parts) (Contains-append_second (cards_of replies) (card ∷ rest) card (Contains-here card rest))
 
       module _ {m : NodeValue} (is_child : m ≡ child n card) where
         pub node_below : IsNode n → IsNode m
@@ -102,15 +116,13 @@ module _ (n : NodeValue) (moves : ℕ) (vector : Vector) where
               pub above_of : IsOfFront m moves above
               above_of = picked_of m moves (restrict_of vector bits) above picked_here
 
-              pub replied_more : (more : List Answered) (reply : Answered) → reply.card ≡ card → IsChosenPlan bridge (plan_of reply.plan) m moves above → more ≡ replies ++ reply ∷ [] → RepliedSoFar n moves vector rest more
-              replied_more more reply of_card chosen pushed =
+              pub replied_more : (plan : Plan ℕ) → IsChosenPlan bridge plan m moves above → RepliedSoFar n moves vector rest (then_reply replies card plan)
+              replied_more plan chosen =
                   let same : restrict_of vector bits ≡ restrict_of vector (mask bridge n card) = ap (restrict_of vector) (is_mask ∙ sym (mask-bridge n card)) in
-                  let plan : IsChosenPlan bridge (plan_of reply.plan) m moves (restrict_of vector bits) = chosen_for (plan_of reply.plan) m moves (restrict_of vector bits) above picked_here chosen in
-                  let there : IsChosenPlan bridge (plan_of reply.plan) (child n card) moves (restrict_of vector (mask bridge n card)) =
-                  subst (λ (t : Vector). IsChosenPlan bridge (plan_of reply.plan) (child n card) moves t) same (subst (λ (m : NodeValue). IsChosenPlan bridge (plan_of reply.plan) m moves (restrict_of vector bits)) is_child plan) in
-                  let last : IsChosenPlan bridge (plan_of reply.plan) (child n reply.card) moves (restrict_of vector (mask bridge n reply.card)) =
-                  subst (λ c. IsChosenPlan bridge (plan_of reply.plan) (child n c) moves (restrict_of vector (mask bridge n c))) (sym of_card) there in
-                  subst (λ more. RepliedSoFar n moves vector rest more) (sym pushed) (record {
-                    split = parts ∙ sym (append_assoc (cards_of (replies_of replies)) (card ∷ []) rest) ∙ ap (λ cards. cards ++ rest) (ap (λ c. cards_of (replies_of replies) ++ c ∷ []) (sym of_card) ∙ sym (cards-push replies reply));
-                    chosen = chosen-push n moves vector replies reply so.chosen last;
-                  })
+                  let for_part : IsChosenPlan bridge plan m moves (restrict_of vector bits) = chosen_for plan m moves (restrict_of vector bits) above picked_here chosen in
+                  let last : IsChosenPlan bridge plan (child n card) moves (restrict_of vector (mask bridge n card)) =
+                  subst (λ (t : Vector). IsChosenPlan bridge plan (child n card) moves t) same (subst (λ (m : NodeValue). IsChosenPlan bridge plan m moves (restrict_of vector bits)) is_child for_part) in
+                  record {
+                    split = parts ∙ sym (append_assoc (cards_of replies) (card ∷ []) rest) ∙ ap (λ cards. cards ++ rest) (sym (cards-then replies card plan));
+                    chosen = chosen-then n moves vector replies card plan so.chosen last;
+                  }

@@ -4,8 +4,8 @@ ghost use Rattle.strategy_games.specs.Choosing.{IsChosenPlan};
 ghost use Rattle.strategy_tree.specs.Bridge.{bridge};
 ghost use Rattle.strategy_tree.specs.PlanMeaning.{plan_of};
 
+use crate::digest::digest;
 use std::alloc::{AllocError, Global};
-use std::hash::{FoldHasher, Hash, Hasher};
 use std::marker::Model;
 use strategy_tree::Plan;
 use trick_rules::Node;
@@ -94,28 +94,6 @@ impl Model for PlanMemo {
     ghost Value = { List (Option SoughtPlan) };
 
     ghost view = { λ memo. memo.slots.items };
-}
-
-// A number that differs between most nodes with their moves and vectors.
-fn digest(node: &Node, moves: u8, vector: &WinVector) -> u64 {
-    let position = node.position();
-    let mut hasher = FoldHasher::default();
-    position.declarer.hash(&mut hasher);
-    position.dummy.hash(&mut hasher);
-    position.unseen.hash(&mut hasher);
-    node.lefts().hash(&mut hasher);
-    hasher.write_u8(moves);
-    hasher.write_u64(mixed(vector));
-    hasher.finish()
-}
-
-// A number that differs between most vectors of one width.
-fn mixed(vector: &WinVector) -> u64 {
-    let mut bits = 0u64;
-    for place in 0..vector.width() {
-        bits = bits.rotate_left(1) ^ u64::from(vector.get(place));
-    }
-    bits
 }
 
 // A slot with nothing in it, as often as there are slots.

@@ -1,9 +1,9 @@
-use Rattle.std.proofs.Common.{◌≡◌, ◌∙◌, Option, IfSome, length, refl, sym, ap, subst, Err, arith}
+use Rattle.std.proofs.Common.{◌≡◌, ◌∙◌, Option, IfSome, length, sym, ap, subst, Err, arith}
 use Rattle.win_vectors.specs.Fronts.{Vector, Covers, IsFirstAbove}
 use Rattle.strategy_games.specs.Plans.{Play}
 use Rattle.strategy_games.specs.Choosing.{IsChosenPlan}
 use Rattle.strategy_tree.specs.Bridge.{bridge}
-use Rattle.strategy_tree.specs.PlanMeaning.{plan_of}
+use Rattle.strategy_tree.specs.PlanMeaning.{plan_of, replies_of}
 use Rattle.strategy_tree.proofs.CardLists.{has_card-from_Contains}
 use Rattle.strategy_tree.proofs.BridgeNodes.{stopped}
 use Rattle.strategy_tree.proofs.Meanings.{plan_of-Stop, plan_of-Play, plan_of-Hear}
@@ -11,7 +11,7 @@ use Rattle.alphamu_core.specs.declared.answers.RootFault.TheVariants.{Spent as R
 use Rattle.alphamu_core.specs.declared.answers.SearchFault.TheVariants.{Spent}
 use Rattle.plan_finder.specs.SpentPlans.{IsPlanSpentAt}
 use Rattle.plan_finder.proofs.Picks.{open_at, a_move_left, length-of_front, own_pick, play_chosen, too_large_first, too_large_below, larger_than, node_after, fewer_after, vector_after, passed_on}
-use Rattle.plan_finder.proofs.Replied.{replied_none, replied_all, next_reply, node_below, fewer_below, spent_below, mask_width, mask_some, part_width, part_above, above_of, replied_more}
+use Rattle.plan_finder.proofs.Replied.{RepliedSoFar, replied_push, replied_none, replied_all, next_reply, node_below, fewer_below, spent_below, mask_width, mask_some, part_width, part_above, above_of, replied_more}
 use Rattle.plan_finder.proofs.finder.+plan.Goals as goal
 
 -- ---- any node
@@ -107,7 +107,7 @@ plan_over-returns-in_err-new-in-Ok-clause-grown g t c = g.met.S.FrontStore.grown
 
 pub replies-cards-init : goal.replies-cards-init
 replies-cards-init g t c = record {
-  so = replied_none c.args.node.now c.args.moves c.args.vector.now c.choices-cards.result _ c.choices-cards.ensures c.new-replies.ensures.items;
+  so = subst (λ replies. RepliedSoFar c.args.node.now c.args.moves c.args.vector.now c.choices-cards.result (replies_of replies)) (sym c.new-replies.ensures.items) (replied_none c.args.node.now c.args.moves c.args.vector.now c.choices-cards.result c.choices-cards.ensures);
   grown = g.met.S.FrontStore.grown_none c.args.store.now;
 }
 
@@ -168,8 +168,9 @@ replies-cards-preserved g t c =
     let first = subst (λ (o : Option Vector). IfSome o (IsFirstAbove c.in_ok-front.front.vectors c.restrict-part.result)) c.unwrap-above.ensures c.pick.ensures.first in
     let grown = g.met.S.FrontStore.grown_more in
     record {
-      so = replied_more c.args.node.now c.args.moves c.args.vector.now c.cards.invariant.so c.in-Some.ensures.value c.in_ok-child.ensures.node _ c.in_ok-child.ensures.mask c.in_ok-front.front c.in_ok-front.ensures.front
-          c.restrict-part.ensures first _ _ refl c.in_ok-plan.ensures.plan c.in_ok-push.ensures.items;
+      so = replied_push c.args.node.now c.args.moves c.args.vector.now _ _ _ c.in_ok-push.ensures.items
+          (replied_more c.args.node.now c.args.moves c.args.vector.now c.cards.invariant.so c.in-Some.ensures.value c.in_ok-child.ensures.node _ c.in_ok-child.ensures.mask c.in_ok-front.front c.in_ok-front.ensures.front
+          c.restrict-part.ensures first _ c.in_ok-plan.ensures.plan);
       grown = grown c.args.store.now c.whole_front.new.store c.plan_below.new.store (grown c.args.store.now c.cards.store c.whole_front.new.store c.cards.invariant.grown c.in_ok-front.ensures.grown) c.in_ok-plan.ensures.grown;
     }
 

@@ -1,5 +1,6 @@
 use Rattle.std.proofs.Common.{◌+◌, ◌*◌, length}
 use Rattle.trick_rules.specs.Play.{cards_left}
+use Rattle.strategy_tree.specs.PlanMeaning.{replies_of}
 use Rattle.plan_finder.proofs.Replied.{RepliedSoFar}
 use Rattle.plan_finder.proofs.finder.+plan.Given as goal
 
@@ -18,7 +19,7 @@ decreases-replies g l = 3 * cards_left l.node.now.position + 1
 
 abbrev pub invariant-replies-cards : goal.invariant-replies-cards
 invariant-replies-cards g l = record {
-  so : RepliedSoFar l.node l.moves l.vector l.cards l.replies.items;
+  so : RepliedSoFar l.node l.moves l.vector l.cards (replies_of l.replies.items);
   grown : g.S.FrontStore.grown l.fn.store l.store;
 }
 

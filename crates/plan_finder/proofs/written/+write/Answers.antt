@@ -1,0 +1,159 @@
+use Rattle.std.proofs.Common.{◌≡◌, ◌∙◌, ℕ, List, Option, IfSome, length, sym, ap, subst, Err, arith}
+use Rattle.std.proofs.lemmas.Result.{on_ok_weaker}
+use Rattle.win_vectors.specs.Fronts.{Vector, Covers, IsFirstAbove}
+use Rattle.strategy_tree.proofs.CardLists.{has_card-from_Contains}
+use Rattle.alphamu_core.specs.declared.answers.RootFault.TheVariants.{Spent as RootSpent}
+use Rattle.alphamu_core.specs.declared.answers.SearchFault.TheVariants.{Spent}
+use Rattle.plan_finder.specs.SpentPlans.{IsPlanSpentAt}
+use Rattle.plan_finder.proofs.Picks.{open_at, a_move_left, length-of_front, too_large_first, too_large_below, larger_than, node_after, fewer_after, vector_after, passed_on}
+use Rattle.plan_finder.proofs.Replied.{replied_none, next_reply, node_below, fewer_below, spent_below, mask_width, mask_some, part_width, part_above, above_of, replied_more}
+use Rattle.plan_finder.proofs.WrittenPlans.{stop_written, play_written, hear_written, none_written, so_far, all_written, one_more_written}
+use Rattle.plan_finder.proofs.written.+write.Goals as goal
+
+-- ---- any node
+
+pub write_below-write_remembered-requires : goal.write_below-write_remembered-requires
+write_below-write_remembered-requires g t c κs within =
+    let goes_on = open_at c.args.node.now c.args.moves c.stops.result c.stops.ensures c.if-stops.false in
+    (omega arith, (within, (sym c.is_ours.ensures ∙ c.if-is_ours.true, (a_move_left c.args.node.now c.args.moves goes_on, (c.requires.few_moves, (c.requires.a_node, c.requires.vector))))))
+
+pub write_below-write_replies-requires : goal.write_below-write_replies-requires
+write_below-write_replies-requires g t c κs within =
+    let goes_on = open_at c.args.node.now c.args.moves c.stops.result c.stops.ensures c.if-stops.false in
+    (omega arith, (within, (c.requires.few_moves, (c.requires.a_node, (goes_on, (sym c.is_ours.ensures ∙ c.if-is_ours.false, c.requires.vector))))))
+
+pub write_remembered-returns-in-Err-clause-spent : goal.write_remembered-returns-in-Err-clause-spent
+write_remembered-returns-in-Err-clause-spent g t c = λ e.
+    let spent : c.without_card.result ≡ Spent = cc in
+    let fault = c.without_card.ensures.only spent in
+    larger_than c.args.node.now c.args.moves c.args.vector.now c.args.nodes fault.0 c.requires.a_node c.requires.ours (c.in-Err.ensures.spent fault.0 (ap Err fault.1))
+
+pub write_below-returns-then-stops-clause-plan : goal.write_below-returns-then-stops-clause-plan
+write_below-returns-then-stops-clause-plan g t c = stop_written c.args.node.now c.args.moves c.args.vector.now _ _ (sym c.stops.ensures ∙ c.if-stops.true) c.in_ok-push_stop.ensures
+
+pub write_below-returns-clause-plan : goal.write_below-returns-clause-plan
+write_below-returns-clause-plan g t c =
+    let goes_on = open_at c.args.node.now c.args.moves c.stops.result c.stops.ensures c.if-stops.false in
+    let counted = c.count.ensures.value ∙ ap (λ (cards : List ℕ). length cards) c.choices.ensures in
+    on_ok_weaker c.write_replies.result
+    (λ replies. hear_written c.args.node.now c.args.moves c.args.vector.now _ _ c.push_hear.new.out c.write_replies.new.out goes_on (sym c.is_ours.ensures ∙ c.if-is_ours.false) c.requires.vector counted c.in_ok-push_hear.ensures replies)
+    c.write_replies.ensures.replies
+
+-- ---- declarer's side
+
+pub write_plan-returns-then-stops-clause-plan : goal.write_plan-returns-then-stops-clause-plan
+write_plan-returns-then-stops-clause-plan g t c = stop_written c.args.node.now c.args.moves c.args.target.now _ _ (sym c.stops.ensures ∙ c.if-stops.true) c.in_ok-push_stop.ensures
+
+pub write_plan-prove-unreachable-requires : goal.write_plan-prove-unreachable-requires
+write_plan-prove-unreachable-requires g t c =
+    let same = length-of_front c.args.node.now c.args.moves c.args.target.now c.requires.target in
+    c.if-prove.true (c.width.ensures.value ∙ same ∙ sym c.width-2.ensures.value)
+
+pub write_plan-first_choice-requires-clause-goes_on : goal.write_plan-first_choice-requires-clause-goes_on
+write_plan-first_choice-requires-clause-goes_on g t c = open_at c.args.node.now c.args.moves c.stops.result c.stops.ensures c.if-stops.false
+
+pub write_plan-returns-in_err-first-clause-spent : goal.write_plan-returns-in_err-first-clause-spent
+write_plan-returns-in_err-first-clause-spent g t c = λ card e.
+    let goes_on = open_at c.args.node.now c.args.moves c.stops.result c.stops.ensures c.if-stops.false in
+    let fault = passed_on c.from_residual-in_err-first.result c.in_err-first.field-0.0 (RootSpent card) c.from_residual-in_err-first.ensures.1 e in
+    too_large_first c.args.node.now c.args.moves c.args.target.now c.args.nodes card goes_on c.requires.target (c.in_err-first.ensures.spent card (ap Err fault))
+
+pub write_plan-write_below-requires : goal.write_plan-write_below-requires
+write_plan-write_below-requires g t c κs within =
+    let sound = c.width-2.ensures.a_node in
+    let first = c.in_ok-first.ensures.first in
+    let less = fewer_after c.args.node.now c.args.moves c.args.target.now c.in_ok-first.first first sound in
+    (omega arith, (within, (omega arith, (node_after c.args.node.now c.args.moves c.args.target.now c.in_ok-first.first first sound, vector_after c.args.node.now c.args.moves c.args.target.now c.in_ok-first.first first))))
+
+pub write_plan-returns-in-Ok-clause-plan : goal.write_plan-returns-in-Ok-clause-plan
+write_plan-returns-in-Ok-clause-plan g t c =
+    let goes_on = open_at c.args.node.now c.args.moves c.stops.result c.stops.ensures c.if-stops.false in
+    play_written c.args.node.now c.args.moves c.args.target.now c.in_ok-first.first _ _ _ goes_on c.requires.ours c.requires.target c.in_ok-first.ensures.first c.in_ok-push_play.ensures c.in-Ok.ensures.plan
+
+pub write_plan-returns-clause-spent : goal.write_plan-returns-clause-spent
+write_plan-returns-clause-spent g t c = λ card e.
+    let goes_on = open_at c.args.node.now c.args.moves c.stops.result c.stops.ensures c.if-stops.false in
+    let named : c.at_card.result ≡ RootSpent card = cc in
+    let fault = c.at_card.ensures.only card named in
+    subst (λ card. IsPlanSpentAt c.args.node.now c.args.moves c.args.target.now c.args.nodes card) (sym fault.0)
+    (too_large_below c.args.node.now c.args.moves c.args.target.now c.args.nodes c.in_ok-first.first goes_on c.requires.target c.in_ok-first.ensures.first (c.in-Err.ensures.spent (ap Err fault.1)))
+
+pub write_plan-returns-clause-grown : goal.write_plan-returns-clause-grown
+write_plan-returns-clause-grown g t c = g.met.S.FrontStore.grown_more c.args.store.now c.first_choice.new.store c.write_below.new.store c.in_ok-first.ensures.grown c.in-Err.ensures.grown
+
+pub write_plan-returns-in-Ok-clause-grown : goal.write_plan-returns-in-Ok-clause-grown
+write_plan-returns-in-Ok-clause-grown g t c = g.met.S.FrontStore.grown_more c.args.store.now c.first_choice.new.store c.write_below.new.store c.in_ok-first.ensures.grown c.in-Ok.ensures.grown
+
+-- ---- a defender
+
+pub write_replies-cards-init : goal.write_replies-cards-init
+write_replies-cards-init g t c = record {
+  written = none_written c.args.node.now c.args.moves c.args.vector.now c.choices-cards.result c.args.out.now (replied_none c.args.node.now c.args.moves c.args.vector.now c.choices-cards.result c.choices-cards.ensures);
+  grown = g.met.S.FrontStore.grown_none c.args.store.now;
+}
+
+pub write_replies-child-requires : goal.write_replies-child-requires
+write_replies-child-requires g t c = has_card-from_Contains _ _ (next_reply c.args.node.now c.args.moves c.args.vector.now (so_far c.args.node.now c.args.moves c.args.vector.now c.cards.invariant.written) c.in-Some.ensures.value)
+
+pub write_replies-returns-in_err-front-clause-spent : goal.write_replies-returns-in_err-front-clause-spent
+write_replies-returns-in_err-front-clause-spent g t c = λ e.
+    let fault = passed_on c.from_residual-in_err-front.result c.in_err-front.field-0.0 Spent c.from_residual-in_err-front.ensures.1 e in
+    spent_below c.args.node.now c.args.moves c.args.vector.now (so_far c.args.node.now c.args.moves c.args.vector.now c.cards.invariant.written) c.in-Some.ensures.value c.in_ok-child.ensures.node c.args.nodes c.requires.a_node c.requires.goes_on c.requires.theirs (c.in_err-front.ensures.spent (ap Err fault))
+
+pub write_replies-restrict-part-requires-clause-same_width : goal.write_replies-restrict-part-requires-clause-same_width
+write_replies-restrict-part-requires-clause-same_width g t c =
+    mask_width c.args.node.now c.args.moves c.args.vector.now (so_far c.args.node.now c.args.moves c.args.vector.now c.cards.invariant.written) c.in-Some.ensures.value c.in_ok-child.ensures.node _ c.in_ok-child.ensures.mask c.requires.vector
+
+pub write_replies-restrict-part-requires-clause-not_empty : goal.write_replies-restrict-part-requires-clause-not_empty
+write_replies-restrict-part-requires-clause-not_empty g t c =
+    mask_some c.args.node.now c.args.moves c.args.vector.now (so_far c.args.node.now c.args.moves c.args.vector.now c.cards.invariant.written) c.in-Some.ensures.value c.in_ok-child.ensures.node _ c.in_ok-child.ensures.mask c.requires.a_node
+
+pub write_replies-pick-requires : goal.write_replies-pick-requires
+write_replies-pick-requires g t c =
+    ap (λ (v : Vector). length v) c.restrict-part.ensures
+    ∙ part_width c.args.node.now c.args.moves c.args.vector.now (so_far c.args.node.now c.args.moves c.args.vector.now c.cards.invariant.written) c.in-Some.ensures.value c.in_ok-child.ensures.node _ c.in_ok-child.ensures.mask c.in_ok-front.front c.in_ok-front.ensures.front c.requires.vector
+
+pub write_replies-unwrap-above-requires : goal.write_replies-unwrap-above-requires
+write_replies-unwrap-above-requires g t c =
+    let covered = part_above c.args.node.now c.args.moves c.args.vector.now (so_far c.args.node.now c.args.moves c.args.vector.now c.cards.invariant.written) c.in-Some.ensures.value c.in_ok-child.ensures.node _ c.in_ok-child.ensures.mask c.in_ok-front.front c.in_ok-front.ensures.front
+    c.requires.a_node c.requires.goes_on c.requires.theirs c.requires.vector in
+    c.pick.ensures.found.1 (subst (λ (t : Vector). Covers c.in_ok-front.front.vectors t) (sym c.restrict-part.ensures) covered)
+
+pub write_replies-write_below-requires : goal.write_replies-write_below-requires
+write_replies-write_below-requires g t c κs within =
+    let so = so_far c.args.node.now c.args.moves c.args.vector.now c.cards.invariant.written in
+    let less = fewer_below c.args.node.now c.args.moves c.args.vector.now so c.in-Some.ensures.value c.in_ok-child.ensures.node c.requires.a_node in
+    let first = subst (λ (o : Option Vector). IfSome o (IsFirstAbove c.in_ok-front.front.vectors c.restrict-part.result)) c.unwrap-above.ensures c.pick.ensures.first in
+    let of = above_of c.args.node.now c.args.moves c.args.vector.now so c.in-Some.ensures.value c.in_ok-child.ensures.node _ c.in_ok-child.ensures.mask c.in_ok-front.front c.in_ok-front.ensures.front c.restrict-part.ensures first in
+    (omega arith, (within, (c.requires.few_moves, (node_below c.args.node.now c.args.moves c.args.vector.now so c.in-Some.ensures.value c.in_ok-child.ensures.node c.requires.a_node, of))))
+
+pub write_replies-returns-in_err-write_below-clause-spent : goal.write_replies-returns-in_err-write_below-clause-spent
+write_replies-returns-in_err-write_below-clause-spent g t c = λ e.
+    let fault = passed_on c.from_residual-in_err-write_below.result c.in_err-write_below.field-0.0 Spent c.from_residual-in_err-write_below.ensures.1 e in
+    spent_below c.args.node.now c.args.moves c.args.vector.now (so_far c.args.node.now c.args.moves c.args.vector.now c.cards.invariant.written) c.in-Some.ensures.value c.in_ok-child.ensures.node c.args.nodes c.requires.a_node c.requires.goes_on c.requires.theirs (c.in_err-write_below.ensures.spent (ap Err fault))
+
+pub write_replies-returns-in_err-front-clause-grown : goal.write_replies-returns-in_err-front-clause-grown
+write_replies-returns-in_err-front-clause-grown g t c = g.met.S.FrontStore.grown_more c.args.store.now c.cards.store c.whole_front.new.store c.cards.invariant.grown c.in_err-front.ensures.grown
+
+pub write_replies-returns-in_err-push_on-clause-grown : goal.write_replies-returns-in_err-push_on-clause-grown
+write_replies-returns-in_err-push_on-clause-grown g t c = g.met.S.FrontStore.grown_more c.args.store.now c.cards.store c.whole_front.new.store c.cards.invariant.grown c.in_ok-front.ensures.grown
+
+pub write_replies-returns-in_err-write_below-clause-grown : goal.write_replies-returns-in_err-write_below-clause-grown
+write_replies-returns-in_err-write_below-clause-grown g t c =
+    let grown = g.met.S.FrontStore.grown_more in
+    grown c.args.store.now c.whole_front.new.store c.write_below.new.store (grown c.args.store.now c.cards.store c.whole_front.new.store c.cards.invariant.grown c.in_ok-front.ensures.grown) c.in_err-write_below.ensures.grown
+
+pub write_replies-cards-preserved : goal.write_replies-cards-preserved
+write_replies-cards-preserved g t c =
+    let first = subst (λ (o : Option Vector). IfSome o (IsFirstAbove c.in_ok-front.front.vectors c.restrict-part.result)) c.unwrap-above.ensures c.pick.ensures.first in
+    let grown = g.met.S.FrontStore.grown_more in
+    let so = so_far c.args.node.now c.args.moves c.args.vector.now c.cards.invariant.written in
+    let plan = c.in_ok-write_below.ensures.plan in
+    record {
+      written = one_more_written c.args.node.now c.args.moves c.args.vector.now c.cards.invariant.written _ c.push_on.new.out c.write_below.new.out _ _ _ c.in_ok-push_on.ensures plan
+          (replied_more c.args.node.now c.args.moves c.args.vector.now so c.in-Some.ensures.value c.in_ok-child.ensures.node _ c.in_ok-child.ensures.mask c.in_ok-front.front c.in_ok-front.ensures.front c.restrict-part.ensures first plan.plan plan.chosen);
+      grown = grown c.args.store.now c.whole_front.new.store c.write_below.new.store (grown c.args.store.now c.cards.store c.whole_front.new.store c.cards.invariant.grown c.in_ok-front.ensures.grown) c.in_ok-write_below.ensures.grown;
+    }
+
+pub write_replies-returns-clause-replies : goal.write_replies-returns-clause-replies
+write_replies-returns-clause-replies g t c = all_written c.args.node.now c.args.moves c.args.vector.now c.cards.invariant.written c.in_default.ensures.value.0

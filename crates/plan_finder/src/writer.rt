@@ -1,0 +1,187 @@
+//! Plans as text.
+ghost use Rattle.std.specs.Prelude.{
+  ◌≡◌,
+  ◌++◌,
+  [],
+  None,
+  false,
+  length,
+  All,
+  IsTrue,
+  IfOk,
+  IfSome,
+  OnOk,
+};
+ghost use Rattle.plan_finder.specs.Written.{IsPlanWritten, StandsWritten, EndsWritten};
+
+use crate::digest::digest;
+use std::alloc::{AllocError, Global};
+use std::marker::Model;
+use trick_rules::Node;
+use win_vectors::WinVector;
+
+/// How many plans are remembered.
+const SLOTS: usize = 65_536;
+
+/// A node, a number of moves, a vector, and where the lines of the plan that is chosen for it begin
+/// and end.
+#[derive(Drop)]
+struct WrittenPlan {
+    node: Node,
+    moves: u8,
+    vector: WinVector,
+    start: usize,
+    end: usize,
+}
+
+impl WrittenPlan {
+    // Whether it is of this node, these moves and this vector.
+    fn is_of(&self, node: &Node, moves: u8, vector: &WinVector) -> bool
+        ensures node { IsTrue result → self.now.node ≡ node.now }
+        ensures moves { IsTrue result → self.now.moves ≡ moves }
+        ensures vector { IsTrue result → self.now.vector ≡ vector.now }
+    {
+        self.moves == moves && self.vector.equals(*vector) && self.node.equals(node)
+    }
+}
+
+/// Texts of plans, written one behind another. Parts that plans have in common are found once, and
+/// their lines copied.
+#[derive(Drop)]
+pub struct PlanWriter {
+    alloc: Global,
+    text: Vec<u8>,
+    slots: Vec<Option<WrittenPlan>>,
+}
+
+// It is seen as the bytes that are written.
+impl Model for PlanWriter {
+    ghost use Rattle.std.specs.Prelude.{List, ℕ};
+    ghost use Rattle.plan_finder.specs.Written.{AllStand};
+
+    ghost Value = { List ℕ };
+
+    ghost view = { λ writer. writer.text.items };
+
+    ghost invariant = { λ writer. AllStand writer.text.items writer.slots.items };
+}
+
+// A slot with nothing in it, as often as there are slots.
+fn empty_slots(alloc: Global) -> Result<Vec<Option<WrittenPlan>>, AllocError>
+    ensures { IfOk result (λ slots. All (λ slot. slot ≡ None) slots.items) }
+{
+    let mut slots = Vec::with_capacity(alloc, SLOTS)?;
+    for _ in 0..SLOTS {
+        slots.push(None)?;
+    }
+    Ok(slots)
+}
+
+impl PlanWriter {
+    /// Nothing written yet. It takes no memory.
+    pub fn new(alloc: Global) -> PlanWriter
+        ensures { result ≡ [] }
+    {
+        PlanWriter {
+            alloc,
+            text: Vec::new(alloc),
+            slots: Vec::new(alloc),
+        }
+    }
+
+    /// Adds a piece at the end.
+    pub fn push(&mut self, piece: &[u8]) -> Result<(), AllocError>
+        ensures { OnOk result (self.new ≡ self.old ++ piece.now) }
+    {
+        self.text.extend_from_slice(piece)?;
+        Ok(())
+    }
+
+    /// All that is written, in order.
+    pub fn bytes(&self) -> &[u8]
+        ensures { result.now ≡ self.now }
+    {
+        &self.text
+    }
+
+    /// Where the next piece begins.
+    pub(crate) fn len(&self) -> usize
+        ensures { result ≡ length self.now }
+    {
+        self.text.len()
+    }
+
+    pub(crate) fn alloc(&self) -> Global {
+        self.alloc
+    }
+
+    // Where the plan for a vector of a node with so many moves stands, if it is remembered.
+    fn place_of(&self, node: &Node, moves: u8, vector: &WinVector) -> Option<(usize, usize)>
+        ensures { IfSome result (λ range.
+            StandsWritten node.now moves vector.now self.now range.0 range.1) }
+    {
+        if self.slots.is_empty() {
+            return None;
+        }
+        let place = (digest(node, moves, vector) % self.slots.len() as u64) as usize;
+        match &self.slots[place] {
+            Some(found) if found.is_of(node, moves, vector) => Some((found.start, found.end)),
+            _ => None,
+        }
+    }
+
+    /// Writes the plan for a vector of a node with so many moves once more, if it is remembered.
+    pub(crate) fn push_again(
+        &mut self,
+        node: &Node,
+        moves: u8,
+        vector: &WinVector,
+    ) -> Result<bool, AllocError>
+        ensures written { IfOk result (λ known. IsTrue known
+            → IsPlanWritten node.now moves vector.now self.old self.new) }
+        ensures unchanged { IfOk result (λ known. known ≡ false → self.new ≡ self.old) }
+    {
+        let Some((start, end)) = self.place_of(node, moves, vector) else {
+            return Ok(false);
+        };
+        self.text.extend_from_within(start..end)?;
+        Ok(true)
+    }
+
+    // Takes the memory of the slots, if it isn't taken.
+    fn make_slots(&mut self) -> Result<(), AllocError>
+        ensures { self.new ≡ self.old }
+    {
+        if self.slots.is_empty() {
+            self.slots = empty_slots(self.alloc)?;
+        }
+        Ok(())
+    }
+
+    /// Remembers the plan whose lines begin at a place, up to the end, instead of what was in its
+    /// slot.
+    pub(crate) fn remember(
+        &mut self,
+        node: &Node,
+        moves: u8,
+        vector: &WinVector,
+        start: usize,
+    ) -> Result<(), AllocError>
+        requires { EndsWritten node.now moves vector.now self.old start }
+        ensures { self.new ≡ self.old }
+    {
+        self.make_slots()?;
+        let written = WrittenPlan {
+            node: node.copy(self.alloc)?,
+            moves,
+            vector: *vector,
+            start,
+            end: self.text.len(),
+        };
+        if !self.slots.is_empty() {
+            let place = digest(node, moves, vector) % self.slots.len() as u64;
+            self.slots[place as usize] = Some(written);
+        }
+        Ok(())
+    }
+}
