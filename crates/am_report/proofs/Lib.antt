@@ -6,3 +6,4 @@ pub mod PlainTexts
 pub mod ReportReadBack
 pub mod ReportSteps
 pub mod Versions
+pub mod SolveParts

@@ -32,3 +32,11 @@ solve_text board kept moves answer =
     ++ flat_map (entry_text kept.weights) answer.entries
     ++ line_of (named_text (version_of kept.weights) answer.card answer.weight)
     ++ line_of (codes "end")
+
+-- the report up to its first vector
+unfoldable pub solve_start : BoardValue → KeptValue → ℕ → ℕ → List ℕ
+solve_start board kept moves vectors = head_text board kept moves ++ line_of (codes "front " ++ decimal vectors)
+
+-- the report behind its last plan
+unfoldable pub solve_end : List ℕ → ℕ → ℕ → List ℕ
+solve_end weights card weight = line_of (named_text (version_of weights) card weight) ++ line_of (codes "end")

@@ -66,7 +66,7 @@ fn push_entries(
 }
 
 // Appends the line of the card to play.
-fn push_named_line(
+pub(crate) fn push_named_line(
     text: &mut Text,
     alloc: Global,
     version: Version,
