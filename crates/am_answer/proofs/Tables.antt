@@ -3,7 +3,7 @@ use Rattle.std.proofs.Common.{◌≡◌, ℕ, List, Result, Ok, Err}
 use Rattle.std.specs.Prelude.{IfOk}
 use Rattle.am_match.specs.Defences.{Sitter}
 use Rattle.am_answer.specs.declared.status.Status.{Status}
-use Rattle.am_answer.specs.Answers.{TaskValue, Report, NamedCard, PlayedOut, Sample, Good, AllLayouts, Problem}
+use Rattle.am_answer.specs.Answers.{TaskValue, Report, NamedCard, PlayedOut, Sample, Proof, Audit, Good, AllLayouts, Problem}
 use Rattle.am_answer.specs.Reports.{IsText, IsTextAt}
 use Rattle.am_answer.specs.Stages.{IsTextFor, IsTextForAt}
 
@@ -12,6 +12,8 @@ text-at (Report root moves search) table later text is = is
 text-at (NamedCard root moves search) table later text is = is
 text-at (PlayedOut root moves search playing) table later text is = absurd is
 text-at (Sample root) table later text is = is
+text-at (Proof root moves nodes) table later text is = is
+text-at (Audit root audit) table later text is = is
 text-at (Good plans) table later text is = is
 text-at (AllLayouts board layouts) table later text is = is
 text-at (Problem number root search) table later text is = is
