@@ -12,6 +12,10 @@ pub returns-in-TooMany-clause-written : goal.returns-in-TooMany-clause-written
 returns-in-TooMany-clause-written g c =
     rw (c.in-TooMany.is, ← c.format-in-TooMany.ensures.text, ← c.as_bytes-in-TooMany.ensures.value) c.write_pieces-in-TooMany.ensures.written
 
+pub returns-in-BadWeight-clause-written : goal.returns-in-BadWeight-clause-written
+returns-in-BadWeight-clause-written g c =
+    rw (c.in-BadWeight.is, ← c.format-in-BadWeight.ensures.text, ← c.as_bytes-in-BadWeight.ensures.value) c.write_pieces-in-BadWeight.ensures.written
+
 pub returns-in-NoneLeft-clause-written : goal.returns-in-NoneLeft-clause-written
 returns-in-NoneLeft-clause-written g c = rw (c.in-NoneLeft.is) c.write_pieces-in-NoneLeft.ensures.written
 

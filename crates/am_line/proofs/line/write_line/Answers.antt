@@ -41,3 +41,13 @@ pub returns-in-NoLayout-clause-written : goal.returns-in-NoLayout-clause-written
 unfolding status_line
 returns-in-NoLayout-clause-written g c =
     rw (c.in-NoLayout.is, ← c.format-in-NoLayout.ensures.text, ← c.as_bytes-in-NoLayout.ensures.value) c.write_pieces-in-NoLayout.ensures.written
+
+pub returns-in-BadLog-clause-written : goal.returns-in-BadLog-clause-written
+unfolding status_line
+returns-in-BadLog-clause-written g c =
+    rw (c.in-BadLog.is, ← c.format-in-BadLog.ensures.text, ← c.as_bytes-in-BadLog.ensures.value) c.write_pieces-in-BadLog.ensures.written
+
+pub returns-in-Unproved-clause-written : goal.returns-in-Unproved-clause-written
+unfolding status_line
+returns-in-Unproved-clause-written g c =
+    rw (c.in-Unproved.is, ← c.format-in-Unproved.ensures.text, ← c.as_bytes-in-Unproved.ensures.value) c.write_pieces-in-Unproved.ensures.written

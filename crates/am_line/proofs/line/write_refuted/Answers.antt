@@ -8,6 +8,10 @@ pub returns-in-Width-clause-written : goal.returns-in-Width-clause-written
 returns-in-Width-clause-written g c =
     rw (c.in-Width.is, ← c.format.ensures.text, ← c.as_bytes-number.ensures.value) c.write_pieces-in-Width.ensures.written
 
+pub returns-in-Weight-clause-written : goal.returns-in-Weight-clause-written
+returns-in-Weight-clause-written g c =
+    rw (c.in-Weight.is, ← c.format.ensures.text, ← c.as_bytes-number.ensures.value) c.write_pieces-in-Weight.ensures.written
+
 pub returns-in-Node-clause-written : goal.returns-in-Node-clause-written
 returns-in-Node-clause-written g c =
     rw (c.in-Node.is, ← c.format.ensures.text, ← c.as_bytes-number.ensures.value, ← c.format-in-Node.ensures.text, ← c.as_bytes.ensures.value) c.write_pieces-in-Node.ensures.written
