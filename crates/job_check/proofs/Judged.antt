@@ -6,6 +6,7 @@ use Rattle.std.proofs.lemmas.List.{drop_more}
 use Rattle.std.proofs.Math.ListN.{drop_of_length-le}
 use Rattle.std.proofs.lemmas.Bool.Decides.{nat_tests}
 use Rattle.win_vectors.specs.Fronts.{Vector}
+use Rattle.win_vectors.specs.Weights.{weight_of}
 use Rattle.trick_rules.specs.Nodes.{NodeValue}
 use Rattle.strategy_games.specs.Plans.{Plan, Fits, wins_vector}
 use Rattle.strategy_games.specs.Misfits.{first_misfit}
@@ -16,7 +17,7 @@ use Rattle.strategy_check.specs.declared.verdict.Verdict.TheVariants.{Good, NotA
 use Rattle.strategy_check.specs.Verdicts.{IsVerdict}
 use Rattle.am_answer.specs.declared.status.Place.{Place}
 use Rattle.am_answer.specs.declared.status.Place.TheVariants.{Node, Layout}
-use Rattle.am_report.specs.Answers.{EntryValue}
+use Rattle.am_report.specs.Answers.{ReadEntryValue}
 use Rattle.am_answer.specs.Judging.{first_difference, plan_fault, entry_fault, or_later_plan, first_plan_fault}
 
 -- the same vector differs nowhere
@@ -71,30 +72,36 @@ module _ (node : NodeValue) (moves : ℕ) (plan : Plan ℕ) (vector : Vector) wh
       let place : 1 + (layout - 1) ≡ layout = omega (arith, differs.counted) in
       fits-fault fits ∙ difference_after 1 (layout - 1) (wins_vector bridge plan node) vector bit differs.same_before differs.own_bit differs.given_bit ∙ ap (λ n. Some (Layout n bit)) place
 
--- the place of a verdict is where the entry is at fault
-pub entry_fault-verdict : (node : NodeValue) (moves : ℕ) (entry : EntryValue) (verdict : Verdict) → length entry.vector ≡ length node.lefts → IsVerdict node moves entry.plan entry.vector verdict
-    → place_of verdict ≡ entry_fault node moves entry
-unfolding entry_fault
-entry_fault-verdict node moves entry verdict width is =
-    let same : (length entry.vector == length node.lefts) ≡ true = grind (arith, nat_tests, width) in
-    rw same (sym (plan_fault-verdict node moves entry.plan entry.vector verdict is))
+module _ (node : NodeValue) (weights : List ℕ) (moves : ℕ) (read : ReadEntryValue) where
+  -- the place of a verdict is where the entry is at fault
+  pub entry_fault-verdict : (verdict : Verdict) → length read.entry.vector ≡ length node.lefts → read.weight ≡ weight_of weights read.entry.vector
+      → IsVerdict node moves read.entry.plan read.entry.vector verdict → place_of verdict ≡ entry_fault node weights moves read
+  unfolding entry_fault
+  entry_fault-verdict verdict width weight is =
+      let wide : (length read.entry.vector == length node.lefts) ≡ true = grind (arith, nat_tests, width) in
+      let heavy : (read.weight == weight_of weights read.entry.vector) ≡ true = grind (arith, nat_tests, weight) in
+      rw (wide, heavy) (sym (plan_fault-verdict node moves read.entry.plan read.entry.vector verdict is))
 
 -- ---- the plans one after another
 
-module _ (node : NodeValue) (moves : ℕ) (entries : List EntryValue) (index : ℕ) (entry : EntryValue) (low : index < length entries) (is : entry ≡ slice_index_or entries index entry) where
-  first_plan_fault-at : first_plan_fault node moves (1 + index) (drop index entries) ≡ or_later_plan (1 + index) (entry_fault node moves entry) (first_plan_fault node moves (1 + index + 1) (drop (index + 1) entries))
-  first_plan_fault-at = ap (first_plan_fault node moves (1 + index)) (drop_more entries index entry low ∙ ap (λ e. e ∷ drop (index + 1) entries) (sym is))
+module _ (node : NodeValue) (weights : List ℕ) (moves : ℕ) (entries : List ReadEntryValue) where
+  module _ (index : ℕ) (read : ReadEntryValue) (low : index < length entries) (is : read ≡ slice_index_or entries index read) where
+    first_plan_fault-at : first_plan_fault node weights moves (1 + index) (drop index entries)
+        ≡ or_later_plan (1 + index) (entry_fault node weights moves read) (first_plan_fault node weights moves (1 + index + 1) (drop (index + 1) entries))
+    first_plan_fault-at = ap (first_plan_fault node weights moves (1 + index)) (drop_more entries index read low ∙ ap (λ e. e ∷ drop (index + 1) entries) (sym is))
 
-  pub first_plan_fault-found : (place : Place) → entry_fault node moves entry ≡ Some place → first_plan_fault node moves (1 + index) (drop index entries) ≡ Some (index + 1, place)
-  first_plan_fault-found place found =
-      let number : 1 + index ≡ index + 1 = omega arith in
-      first_plan_fault-at ∙ ap (λ f. or_later_plan (1 + index) f (first_plan_fault node moves (1 + index + 1) (drop (index + 1) entries))) found ∙ ap (λ n. Some (n, place)) number
+    pub first_plan_fault-found : (place : Place) → entry_fault node weights moves read ≡ Some place → first_plan_fault node weights moves (1 + index) (drop index entries) ≡ Some (index + 1, place)
+    first_plan_fault-found place found =
+        let number : 1 + index ≡ index + 1 = omega arith in
+        first_plan_fault-at ∙ ap (λ f. or_later_plan (1 + index) f (first_plan_fault node weights moves (1 + index + 1) (drop (index + 1) entries))) found ∙ ap (λ n. Some (n, place)) number
 
-  pub first_plan_fault-later : entry_fault node moves entry ≡ None → first_plan_fault node moves (1 + index) (drop index entries) ≡ first_plan_fault node moves (1 + (index + 1)) (drop (index + 1) entries)
-  first_plan_fault-later found =
-      let number : 1 + index + 1 ≡ 1 + (index + 1) = omega arith in
-      first_plan_fault-at ∙ ap (λ f. or_later_plan (1 + index) f (first_plan_fault node moves (1 + index + 1) (drop (index + 1) entries))) found ∙ ap (λ n. first_plan_fault node moves n (drop (index + 1) entries)) number
+    pub first_plan_fault-later : entry_fault node weights moves read ≡ None
+        → first_plan_fault node weights moves (1 + index) (drop index entries) ≡ first_plan_fault node weights moves (1 + (index + 1)) (drop (index + 1) entries)
+    first_plan_fault-later found =
+        let number : 1 + index + 1 ≡ 1 + (index + 1) = omega arith in
+        first_plan_fault-at ∙ ap (λ f. or_later_plan (1 + index) f (first_plan_fault node weights moves (1 + index + 1) (drop (index + 1) entries))) found
+        ∙ ap (λ n. first_plan_fault node weights moves n (drop (index + 1) entries)) number
 
--- past the last plan
-pub first_plan_fault-end : (node : NodeValue) (moves : ℕ) (entries : List EntryValue) (index : ℕ) → length entries ≤ index → first_plan_fault node moves (1 + index) (drop index entries) ≡ None
-first_plan_fault-end node moves entries index past = ap (first_plan_fault node moves (1 + index)) (drop_of_length-le entries past)
+  -- past the last plan
+  pub first_plan_fault-end : (index : ℕ) → length entries ≤ index → first_plan_fault node weights moves (1 + index) (drop index entries) ≡ None
+  first_plan_fault-end index past = ap (first_plan_fault node weights moves (1 + index)) (drop_of_length-le entries past)

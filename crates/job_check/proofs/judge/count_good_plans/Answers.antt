@@ -1,6 +1,6 @@
 use Rattle.std.proofs.Common.{◌^◌, length, arith}
 use Rattle.strategy_games.specs.Misfits.{node_count}
-use Rattle.am_report.specs.Answers.{EntryValue}
+use Rattle.am_report.specs.Answers.{ReadEntryValue}
 use Rattle.am_report.specs.Reading.{report_of}
 use Rattle.job_check.proofs.ReadEntries.{All-below, report_sizes}
 use Rattle.job_check.proofs.judge.count_good_plans.Goals as goal
@@ -8,9 +8,9 @@ use Rattle.job_check.proofs.judge.count_good_plans.Goals as goal
 pub judged-requires-clause-few : goal.judged-requires-clause-few
 judged-requires-clause-few c =
     let sizes = report_sizes c.args.bytes.now (report_of c.in-Ok.report) c.in-Ok.ensures.read in
-    omega (arith, sizes.0, c.requires)
+    omega (arith, sizes.0, c.requires.short)
 
 pub judged-requires-clause-countable : goal.judged-requires-clause-countable
 judged-requires-clause-countable c =
     let sizes = report_sizes c.args.bytes.now (report_of c.in-Ok.report) c.in-Ok.ensures.read in
-    All-below (λ (e : EntryValue). node_count e.plan) (length c.args.bytes.now) (2 ^ 32) (omega (arith, c.requires)) c.in-Ok.report.entries.items sizes.1
+    All-below (λ (e : ReadEntryValue). node_count e.entry.plan) (length c.args.bytes.now) (2 ^ 32) (omega (arith, c.requires.short)) c.in-Ok.report.entries.items sizes.1
