@@ -71,12 +71,7 @@ fn audited_vectors(
 /// where the head isn't that of the files or a vector is of another width; or else `Unproved`
 /// exactly where the log isn't valid, with its first line that doesn't follow.
 #[tactic(auto, unfolding(am_answer::specs::Answers::task_at))]
-pub fn audit_report(
-    alloc: Global,
-    root: &Root,
-    report: &Text,
-    log: &Text,
-) -> Result<Text, Status>
+pub fn audit_report(alloc: Global, root: &Root, report: &Text, log: &Text) -> Result<Text, Status>
     requires short { length report.now < 2 ^ 32 - 1 }
     requires log_short { length log.now < 2 ^ 32 - 1 }
     ensures text { IfOk result (IsTextFor (task_at root.now (works.Audit report.now log.now))) }
