@@ -1,5 +1,5 @@
 pub mod Answered
-pub mod Entries
+pub mod ReportOrder
 pub mod Firsts
 pub mod Spent
 pub mod Counts

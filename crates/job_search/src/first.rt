@@ -91,7 +91,14 @@ fn first_over(
     if search.table {
         let mut store = WideStore::new(alloc, SharedStore::new(table, pass));
         first_entry(
-            alloc, &mut store, &mut solver, node, weights, moves, search, front,
+            alloc,
+            &mut store,
+            &mut solver,
+            node,
+            weights,
+            moves,
+            search,
+            front,
         )
     } else {
         first_entry(
@@ -140,7 +147,9 @@ pub fn first_strategy<R: Threads + Sync, G: Gate>(
         Err(fault) => return Err(root_status(fault)),
     };
     let front = &found.front;
-    match first_over(alloc, &table, &mut pass, node, weights, moves, search, front) {
+    match first_over(
+        alloc, &table, &mut pass, node, weights, moves, search, front,
+    ) {
         Ok(entry) => Ok(entry),
         Err(fault) => Err(root_status(fault)),
     }

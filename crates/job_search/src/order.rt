@@ -1,10 +1,13 @@
 //! The vectors of a front as a report lists them.
-ghost use Rattle.std.specs.Prelude.{◌≡◌, IfOk, length};
+ghost use Rattle.std.specs.Prelude.{◌≡◌, ◌==◌, IfOk, length, All, AllPairs, IsPermutation, if◌then◌else◌};
+ghost use Rattle.win_vectors.specs.Fronts.{Precedes};
+ghost use Rattle.win_vectors.specs.Weights.{weight_of, IsReportedBefore};
 ghost use Rattle.front_table.specs.Proven.{IsFrontAt};
 ghost use Rattle.am_answer.specs.ReportOrder.{IsReportedFront};
 
 use pareto_fronts::Front;
 use std::alloc::{AllocError, Global};
+use std::cmp::Reverse;
 use trick_rules::Node;
 use win_vectors::{Weights, WinVector};
 
@@ -22,18 +25,35 @@ pub(crate) fn reported(
     ensures { IfOk result (λ vectors.
         IsReportedFront node.now weights.now moves vectors.items) }
 {
+    by_weight(alloc, weights, front.as_slice())
+}
+
+// Vectors that stand in order, in report order.
+fn by_weight(
+    alloc: Global,
+    weights: &Weights,
+    ordered: &[WinVector],
+) -> Result<Vec<WinVector>, AllocError>
+    requires wide { All (λ v. length v ≡ length weights.now) ordered.now }
+    requires ordered { AllPairs Precedes ordered.now }
+    ensures same { IfOk result (λ vectors. IsPermutation ordered.now vectors.items) }
+    ensures reported { IfOk result (λ vectors.
+        AllPairs (IsReportedBefore weights.now) vectors.items) }
+{
     let mut vectors = Vec::new(alloc);
-    for place in 0..front.len() {
-        vectors.push(front.get(place))?;
+    for vector in ordered {
+        vectors.push(*vector)?;
     }
-    vectors.sort_by_key(|vector| u32::MAX - weight_in(weights, *vector))?;
+    vectors.sort_by_cached_key(|vector| Reverse(weight_in(weights, *vector)))?;
     Ok(vectors)
 }
 
-// The weight of a vector that has a bit for each layout.
+// The weight of a vector that has a bit for each layout, and 0 for another one.
 fn weight_in(weights: &Weights, vector: WinVector) -> u32
+    ensures { result ≡ (if length weights.now == length vector
+        then weight_of weights.now vector else 0) }
 {
-    if vector.width() == weights.width() {
+    if weights.width() == vector.width() {
         weights.total(vector)
     } else {
         0

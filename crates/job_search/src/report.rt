@@ -4,6 +4,7 @@ ghost use Rattle.std.specs.Prelude.{◌≡◌, ℕ, true, map, length, All, Ok, 
 ghost use Rattle.strategy_games.specs.Choosing.{IsChosenPlan, IsBestWeight, IsNamedByWeight};
 ghost use Rattle.strategy_tree.specs.Bridge.{bridge};
 ghost use Rattle.front_table.specs.Proven.{IsFrontAt};
+ghost use Rattle.plan_finder.specs.Targets.{IsOfFront};
 ghost use Rattle.root_workers.specs.Roots.{IsSpentAt};
 ghost use Rattle.shared_table.specs.Passes.{IsPassOf};
 ghost use Rattle.job_words.specs.Asks.{IsMoves, IsSearchWithinLimits};
@@ -30,10 +31,51 @@ use std::alloc::Global;
 use std::thread::Threads;
 use trick_rules::Node;
 use wide_store::WideStore;
-use win_vectors::Weights;
+use win_vectors::{Weights, WinVector};
 
-// Each vector of the front in report order, with the plan for it. The plans have many parts in
-// common, which are found once.
+// Each vector with the plan for it, in order. The plans have many parts in common, which are found
+// once.
+fn with_plans<S: FrontStore>(
+    alloc: Global,
+    store: &mut S,
+    solver: &mut Solver,
+    node: &Node,
+    moves: u8,
+    search: &Search,
+    vectors: &[WinVector],
+) -> Result<Vec<Entry>, RootFault>
+    requires turn { has_choice node.now ≡ true }
+    requires moves { IsMoves moves }
+    requires targets { All (λ v. IsOfFront node.now moves v) vectors.now }
+    ensures vectors { IfOk result (λ entries. map (λ e. e.vector) entries.items ≡ vectors.now) }
+    ensures plans { IfOk result (λ entries.
+        All (λ e. IsChosenPlan bridge e.plan node.now moves e.vector) entries.items) }
+    ensures spent { (card : ℕ) → IsErrOf result (RootFault.Spent card)
+        → IsSpentAt node.now moves search.now.nodes card }
+{
+    let mut memo = PlanMemo::new(alloc);
+    let mut entries = Vec::new(alloc);
+    for vector in vectors {
+        let plan = plan_over(
+            alloc,
+            &mut memo,
+            store,
+            solver,
+            node,
+            moves,
+            vector,
+            search.nodes,
+            search.cuts,
+        )?;
+        entries.push(Entry {
+            vector: *vector,
+            plan,
+        })?;
+    }
+    Ok(entries)
+}
+
+// Each vector of the front in report order, with the plan for it.
 fn entries<S: FrontStore>(
     alloc: Global,
     store: &mut S,
@@ -55,23 +97,8 @@ fn entries<S: FrontStore>(
     ensures spent { (card : ℕ) → IsErrOf result (RootFault.Spent card)
         → IsSpentAt node.now moves search.now.nodes card }
 {
-    let mut memo = PlanMemo::new(alloc);
-    let mut entries = Vec::new(alloc);
-    for vector in reported(alloc, node, moves, weights, front)? {
-        let plan = plan_over(
-            alloc,
-            &mut memo,
-            store,
-            solver,
-            node,
-            moves,
-            &vector,
-            search.nodes,
-            search.cuts,
-        )?;
-        entries.push(Entry { vector, plan })?;
-    }
-    Ok(entries)
+    let vectors = reported(alloc, node, moves, weights, front)?;
+    with_plans(alloc, store, solver, node, moves, search, &vectors)
 }
 
 // The report of what was found at a root.

@@ -1,24 +1,24 @@
 use Rattle.std.proofs.Common.{Err, ap, subst, ◌∙◌}
-use Rattle.strategy_games.specs.Choosing.{IsBestCount}
+use Rattle.strategy_games.specs.Choosing.{IsBestWeight}
 use Rattle.strategy_tree.specs.Bridge.{bridge}
 use Rattle.am_answer.specs.declared.root.Root.{Root}
 use Rattle.am_answer.specs.Answers.{Report}
 use Rattle.job_search.proofs.Spent.{workers_as, spent_task, spent_by, spent_later, spent_as, first_as, fits_as}
 use Rattle.job_search.proofs.report.solve.Goals as goal
 
-pub counted_front-requires-clause-workers : goal.counted_front-requires-clause-workers
-counted_front-requires-clause-workers g c = λ κs outlives. workers_as c.options_of-options.result c.args.search.now c.options_of-options.ensures c.requires.limits
+pub root_front-requires-clause-workers : goal.root_front-requires-clause-workers
+root_front-requires-clause-workers g c = λ κs outlives. workers_as c.options_of-options.result c.args.search.now c.options_of-options.ensures c.requires.limits
 
 pub returns-in-Err-clause-refused : goal.returns-in-Err-clause-refused
 returns-in-Err-clause-refused g c =
     rw (c.root_status.ensures)
     (spent_task (Report c.args.root.now c.args.moves c.args.search.now) c.in-Err.fault
     (λ card is. spent_by c.args.root.now.kept.node c.args.moves c.args.search.now card
-    (spent_as _ c.args.root.now c.root.view_is c.options_of-options.result c.args.search.now c.options_of-options.ensures c.args.moves card (c.counted_front.ensures.spent card (c.in-Err.is ∙ ap Err is)))
-    (first_as _ c.args.root.now c.root.view_is c.options_of-options.result c.args.search.now c.options_of-options.ensures c.args.moves card (λ plain. c.counted_front.ensures.first_spent plain card (c.in-Err.is ∙ ap Err is)))))
+    (spent_as _ c.args.root.now c.root.view_is c.options_of-options.result c.args.search.now c.options_of-options.ensures c.args.moves card (c.root_front.ensures.spent card (c.in-Err.is ∙ ap Err is)))
+    (first_as _ c.args.root.now c.root.view_is c.options_of-options.result c.args.search.now c.options_of-options.ensures c.args.moves card (λ plain. c.root_front.ensures.first_spent plain card (c.in-Err.is ∙ ap Err is)))))
 
-pub report_over-requires-clause-count : goal.report_over-requires-clause-count
-report_over-requires-clause-count g c = subst (λ (root : Root). IsBestCount bridge root.kept.node c.args.moves c.in-Ok.found.count) c.root.view_is c.in-Ok.ensures.count
+pub report_over-requires-clause-weight : goal.report_over-requires-clause-weight
+report_over-requires-clause-weight g c = subst (λ (root : Root). IsBestWeight bridge root.kept.weights root.kept.node c.args.moves c.in-Ok.found.weight) c.root.view_is c.in-Ok.ensures.weight
 
 pub returns-clause-refused : goal.returns-clause-refused
 returns-clause-refused g c =
