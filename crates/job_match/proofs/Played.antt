@@ -1,8 +1,9 @@
--- The first strategy of a front, played out in a layout.
+-- The first strategy that is printed, played out in a layout.
 use Rattle.std.proofs.Common.{◌≡◌, ◌∙◌, ℕ, zero, suc, ◌+◌, ◌-◌, ◌<◌, ◌==◌, Bool, Option, Some, List, [], ◌∷◌, Result, Ok, Err, length, All, refl, ap, ap₂, sym, subst, arith, slice_get}
-use Rattle.std.specs.Prelude.{IfOk}
+use Rattle.std.specs.Prelude.{IfOk, Contains}
 use Rattle.std.proofs.lemmas.List.{length-map}
 use Rattle.std.proofs.lemmas.List.Elements.{All-contains}
+use Rattle.std.proofs.lemmas.List.Sorted.{Contains-permutation, IsPermutation-sym}
 use Rattle.win_vectors.specs.Fronts.{Vector}
 use Rattle.win_vectors.proofs.Orders.{Dominates-refl}
 use Rattle.trick_rules.specs.Positions.{State}
@@ -19,16 +20,22 @@ use Rattle.am_answer.specs.declared.root.Root.{Root}
 use Rattle.am_answer.specs.Answers.{Playing}
 use Rattle.am_answer.specs.Matches.{IsFirstStrategy, IsMatchText, seated, third_at, seated_at}
 
-module _ (n : NodeValue) (moves : ℕ) (vector : Vector) (plan : Plan ℕ) (node : IsNode n) (is : IsFirstStrategy n moves vector plan) where
+module _ (n : NodeValue) (weights : List ℕ) (moves : ℕ) (vector : Vector) (plan : Plan ℕ) (node : IsNode n) (is : IsFirstStrategy n weights moves vector plan) where
+  -- it is of the front
+  of_front : Contains is.reported.front vector
+  of_front =
+      Contains-permutation (vector ∷ is.others) is.reported.front vector (IsPermutation-sym is.reported.front (vector ∷ is.others) is.reported.same)
+      (Contains-here vector is.others)
+
   -- it is a strategy
   pub first_fits : Fits bridge plan n moves
   first_fits =
-      (laws.chosen_plan.wins plan n moves vector (vector ∷ is.others) node is.front (vector, Contains-here vector is.others, Dominates-refl vector) is.chosen).0
+      (laws.chosen_plan.wins plan n moves vector is.reported.front node is.reported.is_front (vector, of_front, Dominates-refl vector) is.chosen).0
 
   -- its vector has a bit for each layout
   pub first_wide : length vector ≡ length n.lefts
   first_wide =
-      All-contains (λ v. length v ≡ length (states n)) (vector ∷ is.others) vector (laws.one_front.wide n moves (vector ∷ is.others) is.front) (Contains-here vector is.others)
+      All-contains (λ v. length v ≡ length (states n)) is.reported.front vector (laws.one_front.wide n moves is.reported.front is.reported.is_front) of_front
       ∙ length-map n.lefts (λ left. record { position = n.position; left = left })
 
 some-at : {X : Type 0} (xs : List X) (k : ℕ) → k < length xs → (x : X) × (slice_get xs k ≡ Some x)
@@ -38,7 +45,7 @@ some-at (x ∷ xs) (suc k) inside = some-at xs k (omega (arith, inside))
 
 -- what is written of it
 pub match-text : {E : Type 0} (result : Result (List ℕ) E) (root : Root) (moves : ℕ) (playing : Playing) (table later : List Sitter) (vector : Vector) (plan : Plan ℕ) (bit made : Bool) (cards : List ℕ)
-    → IsFirstStrategy root.kept.node moves vector plan → playing.place < length root.kept.node.lefts → slice_get vector playing.place ≡ Some bit
+    → IsFirstStrategy root.kept.node root.kept.weights moves vector plan → playing.place < length root.kept.node.lefts → slice_get vector playing.place ≡ Some bit
     → ((s : State) → slice_get (states root.kept.node) playing.place ≡ Some s → Follows plan s (seated_at playing.switch table) cards)
     → ((s : State) → slice_get (states root.kept.node) playing.place ≡ Some s → made ≡ ((state_after s cards).position.need == 0))
     → later ≡ tell_table cards (seated_at playing.switch table (length cards))
@@ -78,7 +85,7 @@ module _ (opened root : Root) (root_is : opened ≡ root) (found first : EntryVa
   there s here = ap (λ (k : ℕ). slice_get (states opened.kept.node) k) place_is ∙ ap (λ (r : Root). slice_get (states r.kept.node) playing.place) root_is ∙ here
 
   pub text-opened : {E : Type 0} (result : Result (List ℕ) E) (later : List Sitter) (bit made : Bool) (cards : List ℕ)
-      → IsFirstStrategy root.kept.node moves first.vector first.plan → playing.place < length root.kept.node.lefts → slice_get found.vector playing.place ≡ Some bit
+      → IsFirstStrategy root.kept.node root.kept.weights moves first.vector first.plan → playing.place < length root.kept.node.lefts → slice_get found.vector playing.place ≡ Some bit
       → ((s : State) → slice_get (states opened.kept.node) ((playing.place + 1) - 1) ≡ Some s → Follows found.plan s (table_at ready change) cards)
       → ((s : State) → slice_get (states opened.kept.node) ((playing.place + 1) - 1) ≡ Some s → made ≡ ((state_after s cards).position.need == 0))
       → later ≡ tell_table cards (table_at ready change (length cards))

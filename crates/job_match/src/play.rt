@@ -88,8 +88,8 @@ fn played_text(
     match_text(alloc, layout, bit, &played.cards, played.made)
 }
 
-/// Plays the first strategy that is printed for a root, by so many moves of declarer's side, in the kept
-/// layout of a number.
+/// Plays the first strategy that is printed for a root, by so many moves of declarer's side, in the
+/// kept layout of a number.
 ///
 /// The table's first defender sits at Left and its second at Right. With a switch the third is
 /// taken from the table, and comes to Left's seat before the card of that number; the cards are

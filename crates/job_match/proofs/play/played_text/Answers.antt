@@ -11,7 +11,7 @@ use Rattle.job_match.proofs.play.played_text.Goals as goal
 pub get-bit-requires : goal.get-bit-requires
 get-bit-requires g c =
     let node = subst (λ (r : Root). IsNode r.kept.node) c.root.view_is c.width.ensures.a_node in
-    let wide = first_wide c.args.root.now.kept.node c.args.moves c.args.first.now.vector c.args.first.now.plan node c.requires.first in
+    let wide = first_wide c.args.root.now.kept.node c.args.root.now.kept.weights c.args.moves c.args.first.now.vector c.args.first.now.plan node c.requires.first in
     omega (arith, wide, ap (λ (e : EntryValue). length e.vector) c.first.view_is, c.requires.inside)
 
 pub play_out-requires-clause-fits : goal.play_out-requires-clause-fits
@@ -19,7 +19,7 @@ play_out-requires-clause-fits g c =
     let node = subst (λ (r : Root). IsNode r.kept.node) c.root.view_is c.width.ensures.a_node in
     subst (λ (r : Root). Fits bridge (plan_of c.first.inside.plan) r.kept.node c.args.moves) (sym c.root.view_is)
     (subst (λ (e : EntryValue). Fits bridge e.plan c.args.root.now.kept.node c.args.moves) (sym c.first.view_is)
-    (first_fits c.args.root.now.kept.node c.args.moves c.args.first.now.vector c.args.first.now.plan node c.requires.first))
+    (first_fits c.args.root.now.kept.node c.args.root.now.kept.weights c.args.moves c.args.first.now.vector c.args.first.now.plan node c.requires.first))
 
 pub returns : goal.returns
 returns g c = record {
