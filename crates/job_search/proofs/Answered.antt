@@ -1,33 +1,18 @@
 -- The texts of what was found at a root.
-use Rattle.std.proofs.Common.{◌≡◌, ℕ, List, Result, Ok, Err, length, map, All, refl, sym, subst}
-use Rattle.std.specs.Prelude.{IfOk}
+use Rattle.std.proofs.Common.{◌≡◌, ℕ, List, Ok, length, refl, sym, subst}
 use Rattle.strategy_games.specs.Plans.{IsFront}
-use Rattle.strategy_games.specs.Choosing.{IsChosenPlan, IsBestCount, IsNamedCard, IsBestWeight, IsNamedByWeight}
+use Rattle.strategy_games.specs.Choosing.{IsBestCount, IsNamedCard, IsBestWeight, IsNamedByWeight}
 use Rattle.strategy_tree.specs.Bridge.{bridge}
 use Rattle.win_vectors.specs.Fronts.{Vector}
 use Rattle.root_workers.specs.Roots.{AllFit}
 use Rattle.job_words.specs.declared.asks.Search.{Search}
-use Rattle.am_report.specs.Answers.{SolveAnswerValue, EntryValue}
 use Rattle.am_report.specs.Card.{card_text}
 use Rattle.am_report.specs.Made.{made_text}
-use Rattle.am_report.specs.Solve.{solve_text}
 use Rattle.am_answer.specs.declared.root.Root.{Root}
 use Rattle.am_answer.specs.Answers.{NamedCard, Problem}
 use Rattle.am_answer.specs.Endings.{IsPlain}
-use Rattle.am_answer.specs.ReportOrder.{IsReportedFront}
-use Rattle.am_answer.specs.Reports.{IsSolveAnswer, IsSolveText, IsMadeText, made_moves}
+use Rattle.am_answer.specs.Reports.{IsMadeText, made_moves}
 use Rattle.am_answer.specs.Stages.{IsTextFor}
-
--- the vectors with their plans, the card and the weight are an answer
-pub solve-answer : (root : Root) (moves : ℕ) (entries : List EntryValue) (card weight : ℕ) → IsReportedFront root.kept.node root.kept.weights moves (map (λ e. e.vector) entries)
-    → All (λ e. IsChosenPlan bridge e.plan root.kept.node moves e.vector) entries → IsNamedByWeight bridge root.kept.weights root.kept.node moves card → IsBestWeight bridge root.kept.weights root.kept.node moves weight
-    → IsSolveAnswer root.kept.node root.kept.weights moves (record { entries = entries; card = card; weight = weight })
-solve-answer root moves entries card weight vectors plans named best = record { vectors = vectors; plans = plans; card = named; weight = best }
-
-pub solve-text : {E : Type 0} (root : Root) (moves : ℕ) (result : Result (List ℕ) E) (found : SolveAnswerValue) → IsSolveAnswer root.kept.node root.kept.weights moves found
-    → IfOk result (λ text. text ≡ solve_text root.board root.kept moves found) → IfOk result (IsSolveText root moves)
-solve-text root moves (Ok text) found is written = (found, is, written)
-solve-text root moves (Err e) found is written = tt
 
 -- the same root, once as it is and once as it is opened
 pub card-text : (opened root : Root) (moves : ℕ) (search' : Search) (card weight : ℕ) (text : List ℕ) → opened ≡ root → (IsPlain search' → AllFit root.kept.node moves search'.nodes)

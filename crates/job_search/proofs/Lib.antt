@@ -3,3 +3,4 @@ pub mod ReportOrder
 pub mod Firsts
 pub mod Spent
 pub mod Counts
+pub mod WrittenEntries

@@ -1,5 +1,5 @@
 -- A stable sort by weight puts the vectors of a front in report order.
-use Rattle.std.proofs.Common.{◌≡◌, ◌⊎◌, ◌∙◌, ◌<◌, ◌≤◌, ◌==◌, ℕ, zero, suc, ◌+◌, Bool, true, false, List, [], ◌∷◌, length, get_or, refl, sym, ap, subst, inl, inr, not, ◌&&◌, if◌then◌else◌, arith}
+use Rattle.std.proofs.Common.{◌≡◌, ◌∙◌, ◌<◌, ◌≤◌, ◌==◌, ℕ, zero, suc, Bool, true, false, List, [], ◌∷◌, length, get_or, refl, sym, subst, inl, inr, not, ◌&&◌, if◌then◌else◌, arith}
 use Rattle.std.specs.List.{All, AllPairs, filter}
 use Rattle.std.specs.List.Sorted.{IsPermutation, IsSortedBy, IsStableBy, ties}
 use Rattle.std.specs.Cmp.{IsStrictWeakOrder}
@@ -10,9 +10,8 @@ use Rattle.std.proofs.lemmas.Cmp.{nat_cmp_total}
 use Rattle.std.proofs.lemmas.List.Elements.{Contains-get_or}
 use Rattle.std.proofs.lemmas.List.Kept.{AllPairs-filter}
 use Rattle.std.proofs.lemmas.List.Sorted.{All-permutation, IsStrictWeakOrder-flip, ranks_by, sorted_far}
-use Rattle.win_vectors.specs.Vectors.{vector_order}
 use Rattle.win_vectors.specs.Fronts.{Vector, Precedes}
-use Rattle.win_vectors.specs.Weights.{weight_of, report_order, IsReportedBefore}
+use Rattle.win_vectors.specs.Weights.{weight_of, IsReportedBefore}
 use Rattle.strategy_games.proofs.Fronts.{AllPairs-head, AllPairs-tail}
 use Rattle.strategy_games.proofs.Lists.{Contains-filter}
 

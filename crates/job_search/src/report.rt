@@ -1,7 +1,7 @@
 //! The report of a root: the front in report order with a plan for each vector, the named card and
 //! the best weight.
-ghost use Rattle.std.specs.Prelude.{◌≡◌, ℕ, true, map, length, All, Ok, IfOk, IfErr, IsErrOf};
-ghost use Rattle.strategy_games.specs.Choosing.{IsChosenPlan, IsBestWeight, IsNamedByWeight};
+ghost use Rattle.std.specs.Prelude.{◌≡◌, ℕ, true, length, All, Ok, IfOk, IfErr, OnOk, IsErrOf};
+ghost use Rattle.strategy_games.specs.Choosing.{IsBestWeight, IsNamedByWeight};
 ghost use Rattle.strategy_tree.specs.Bridge.{bridge};
 ghost use Rattle.front_table.specs.Proven.{IsFrontAt};
 ghost use Rattle.plan_finder.specs.Targets.{IsOfFront};
@@ -9,22 +9,21 @@ ghost use Rattle.root_workers.specs.Roots.{IsSpentAt};
 ghost use Rattle.shared_table.specs.Passes.{IsPassOf};
 ghost use Rattle.job_words.specs.Asks.{IsMoves, IsSearchWithinLimits};
 ghost use Rattle.am_answer.specs.Answers.{has_choice, Report};
-ghost use Rattle.am_answer.specs.ReportOrder.{IsReportedFront};
 ghost use Rattle.am_answer.specs.Reports.{IsSolveText};
 ghost use Rattle.am_answer.specs.Stages.{IsTaskRefusal, IsTextFor};
+ghost use Rattle.job_search.specs.EntryTexts.{AreEntriesWritten};
 
 use crate::order::reported;
 use crate::table::{options_of, table_of};
 use alphamu_core::RootFault;
 use am_answer::{Root, Status, root_status};
 use am_outside::Gate;
-use am_report::{Entry, SolveAnswer, solve_text};
+use am_report::{solve_end, solve_start, vector_text};
 use byte_text::Text;
 use dd_solver::Solver;
 use front_table::{FrontStore, NoStore};
 use job_words::Search;
-use pareto_fronts::Front;
-use plan_finder::{PlanMemo, plan_over};
+use plan_finder::PlanWriter;
 use root_workers::{RootFront, root_front};
 use shared_table::{Pass, SharedStore, SharedTable};
 use std::alloc::Global;
@@ -33,32 +32,32 @@ use trick_rules::Node;
 use wide_store::WideStore;
 use win_vectors::{Weights, WinVector};
 
-// Each vector with the plan for it, in order. The plans have many parts in common, which are found
-// once.
-fn with_plans<S: FrontStore>(
+// Writes each vector with the plan for it, in order. The plans have many parts in common, which are
+// found once.
+fn write_entries<S: FrontStore>(
+    out: &mut PlanWriter,
     alloc: Global,
     store: &mut S,
     solver: &mut Solver,
     node: &Node,
+    weights: &Weights,
     moves: u8,
     search: &Search,
     vectors: &[WinVector],
-) -> Result<Vec<Entry>, RootFault>
+) -> Result<(), RootFault>
     requires turn { has_choice node.now ≡ true }
+    requires weighed { length weights.now ≡ length node.now.lefts }
     requires moves { IsMoves moves }
     requires targets { All (λ v. IsOfFront node.now moves v) vectors.now }
-    ensures vectors { IfOk result (λ entries. map (λ e. e.vector) entries.items ≡ vectors.now) }
-    ensures plans { IfOk result (λ entries.
-        All (λ e. IsChosenPlan bridge e.plan node.now moves e.vector) entries.items) }
+    ensures entries { OnOk result
+        (AreEntriesWritten node.now weights.now moves vectors.now out.old out.new) }
     ensures spent { (card : ℕ) → IsErrOf result (RootFault.Spent card)
         → IsSpentAt node.now moves search.now.nodes card }
 {
-    let mut memo = PlanMemo::new(alloc);
-    let mut entries = Vec::new(alloc);
     for vector in vectors {
-        let plan = plan_over(
-            alloc,
-            &mut memo,
+        let line = vector_text(alloc, weights, *vector)?;
+        out.push(line.bytes())?;
+        out.push_plan(
             store,
             solver,
             node,
@@ -67,38 +66,8 @@ fn with_plans<S: FrontStore>(
             search.nodes,
             search.cuts,
         )?;
-        entries.push(Entry {
-            vector: *vector,
-            plan,
-        })?;
     }
-    Ok(entries)
-}
-
-// Each vector of the front in report order, with the plan for it.
-fn entries<S: FrontStore>(
-    alloc: Global,
-    store: &mut S,
-    solver: &mut Solver,
-    node: &Node,
-    weights: &Weights,
-    moves: u8,
-    search: &Search,
-    front: &Front,
-) -> Result<Vec<Entry>, RootFault>
-    requires turn { has_choice node.now ≡ true }
-    requires weighed { length weights.now ≡ length node.now.lefts }
-    requires moves { IsMoves moves }
-    requires front { IsFrontAt node.now moves front.now }
-    ensures vectors { IfOk result (λ entries.
-        IsReportedFront node.now weights.now moves (map (λ e. e.vector) entries.items)) }
-    ensures plans { IfOk result (λ entries.
-        All (λ e. IsChosenPlan bridge e.plan node.now moves e.vector) entries.items) }
-    ensures spent { (card : ℕ) → IsErrOf result (RootFault.Spent card)
-        → IsSpentAt node.now moves search.now.nodes card }
-{
-    let vectors = reported(alloc, node, moves, weights, front)?;
-    with_plans(alloc, store, solver, node, moves, search, &vectors)
+    Ok(())
 }
 
 // The report of what was found at a root.
@@ -123,22 +92,18 @@ fn report<S: FrontStore>(
     ensures spent { (card : ℕ) → IsErrOf result (RootFault.Spent card)
         → IsSpentAt root.now.kept.node moves search.now.nodes card }
 {
-    let entries = entries(
-        alloc,
-        store,
-        solver,
-        &root.kept.node,
-        &root.kept.weights,
-        moves,
-        search,
-        &found.front,
+    let node = &root.kept.node;
+    let weights = &root.kept.weights;
+    let vectors = reported(alloc, node, moves, weights, &found.front)?;
+    let start = solve_start(alloc, &root.board, &root.kept, moves, vectors.len())?;
+    let end = solve_end(alloc, weights, found.card, found.weight)?;
+    let mut out = PlanWriter::new(alloc);
+    out.push(start.bytes())?;
+    write_entries(
+        &mut out, alloc, store, solver, node, weights, moves, search, &vectors,
     )?;
-    let answer = SolveAnswer {
-        entries,
-        card: found.card,
-        weight: found.weight,
-    };
-    let text = solve_text(alloc, &root.board, &root.kept, moves, &answer)?;
+    out.push(end.bytes())?;
+    let text = Text::from_bytes(alloc, out.bytes())?;
     Ok(text)
 }
 
