@@ -13,8 +13,6 @@ use Rattle.strategy_games.specs.Plans.{Plan, Replies, NoReply, Reply, cards_of, 
 use Rattle.strategy_games.specs.Choosing.{IsPick, IsChosenPlan, AreChosenReplies}
 use Rattle.strategy_games.proofs.Lists.{Contains-here, Contains-append_second}
 use Rattle.strategy_tree.specs.Bridge.{bridge}
-use Rattle.strategy_tree.specs.PlanMeaning.{plan_of, replies_of}
-use Rattle.strategy_tree.specs.declared.plan.Reply.{Reply as Answered}
 use Rattle.strategy_tree.proofs.CardLists.{has_card-from_Contains}
 use Rattle.strategy_tree.proofs.BridgeLaws.{chosen_plan, sizes}
 use Rattle.strategy_tree.proofs.BridgeNodes.{mask-bridge, length-child_mask, length-child_lefts, some_layout}
@@ -42,10 +40,6 @@ chosen-then : (n : NodeValue) (moves : ℕ) (vector : Vector) (replies : Replies
 chosen-then n moves vector NoReply card plan so last = (last, so)
 chosen-then n moves vector (Reply c q later) card plan so last = (so.0, chosen-then n moves vector later card plan so.1 last)
 
-replies_of-push : (replies : List Answered) (reply : Answered) → replies_of (replies ++ reply ∷ []) ≡ then_reply (replies_of replies) reply.card (plan_of reply.plan)
-replies_of-push [] reply = refl
-replies_of-push (r ∷ replies) reply = ap (λ later. Reply r.card (plan_of r.plan) later) (replies_of-push replies reply)
-
 -- the front of a child covers the vector's part
 pub part_covered : (n : NodeValue) (moves : ℕ) (vector : Vector) (card : ℕ) (m : NodeValue) (bits : Vector) (found : FrontValue) → IsNode n → stops bridge n moves ≡ false → bridge.is_ours n ≡ false → IsOfFront n moves vector
     → Contains (choices n) card → m ≡ child n card → bits ≡ child_mask n card → IsFrontAt m moves found → Covers found.vectors (restrict_of vector bits)
@@ -67,11 +61,6 @@ larger_below n (suc k) card m nodes sound goes_on theirs among is_child larger =
 module _ (n : NodeValue) (moves : ℕ) (vector : Vector) where
   pub replied_none : (cards : List ℕ) → cards ≡ choices n → RepliedSoFar n moves vector cards NoReply
   replied_none cards e = record { split = sym e; chosen = tt }
-
-  -- in memory
-  pub replied_push : {cards : List ℕ} (more replies : List Answered) (reply : Answered) → more ≡ replies ++ reply ∷ [] → RepliedSoFar n moves vector cards (then_reply (replies_of replies) reply.card (plan_of reply.plan)) → RepliedSoFar n moves vector cards (replies_of more)
-  replied_push {cards = cards} more replies reply pushed so =
-      subst (λ (replies : Replies ℕ). RepliedSoFar n moves vector cards replies) (sym (ap (λ replies. replies_of replies) pushed ∙ replies_of-push replies reply)) so
 
   module _ {cards : List ℕ} {replies : Replies ℕ} (so : RepliedSoFar n moves vector cards replies) where
     pub replied_all : cards ≡ [] → cards_of replies ≡ choices n

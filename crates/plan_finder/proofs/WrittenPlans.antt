@@ -1,16 +1,23 @@
 -- Plans that are written as text.
-use Rattle.std.proofs.Common.{◌≡◌, ◌∙◌, ◌+◌, ◌-◌, ◌≤◌, ◌++◌, ℕ, true, false, Option, None, Some, List, [], length, take, drop, sym, ap, subst, append_assoc, arith}
+use Rattle.std.proofs.Common.{◌≡◌, ◌∙◌, ◌+◌, ◌-◌, ◌≤◌, ◌++◌, ℕ, true, false, Option, None, Some, Result, Ok, List, [], length, take, drop, sym, ap, subst, append_assoc, arith}
 use Rattle.std.specs.List.{All, slice_range}
 use Rattle.std.proofs.Math.Seq.{drop-append_seam, take-append_seam}
 use Rattle.std.proofs.lemmas.List.{append-nil, length-append}
 use Rattle.std.proofs.lemmas.List.Elements.{All-weaker}
-use Rattle.win_vectors.specs.Fronts.{Vector}
+use Rattle.win_vectors.specs.Fronts.{Vector, Covers}
+use Rattle.win_vectors.proofs.Orders.{Dominates-refl}
 use Rattle.trick_rules.specs.Nodes as nodes
-use Rattle.trick_rules.specs.Nodes.{NodeValue, choices}
+use Rattle.trick_rules.specs.Nodes.{NodeValue, IsNode, choices}
+use Rattle.strategy_games.specs.Choosing.{IsChosenPlan}
 use Rattle.strategy_games.specs.Plans.{Plan, Replies, Stop, Play, Hear, NoReply, Reply, cards_of, stops}
 use Rattle.strategy_tree.specs.Bridge.{bridge}
 use Rattle.strategy_tree.specs.PlanText.{stop_line, play_line, hear_line, on_line, plan_text, replies_text}
+use Rattle.strategy_tree.specs.PlanRead.{plan_read}
+use Rattle.strategy_tree.specs.declared.plan_reader.PlanFault.{PlanFault}
+use Rattle.strategy_tree.proofs.BridgeLaws.{chosen_plan}
 use Rattle.strategy_tree.proofs.BridgeNodes.{stopped}
+use Rattle.strategy_tree.proofs.Printing.{printed_plan}
+use Rattle.strategy_tree.proofs.ReadBack.{reads_back}
 use Rattle.plan_finder.specs.declared.choice.Choice.{Choice}
 use Rattle.plan_finder.specs.declared.writer.WrittenPlan.{WrittenPlan}
 use Rattle.plan_finder.specs.Choices.{IsFirstChoice}
@@ -140,3 +147,21 @@ module _ {n : NodeValue} {moves : ℕ} {vector : Vector} {text : List ℕ} {star
 
   pub written_again : (after : List ℕ) → after ≡ text ++ slice_range text start end → IsPlanWritten n moves vector text after
   written_again after lines = record { plan = s.plan; chosen = s.chosen; lines = lines ∙ ap (λ more. text ++ more) range_is }
+
+-- ---- read
+
+read_same : (read other : Plan ℕ × ℕ) (result : Result (Plan ℕ × ℕ) PlanFault) → result ≡ Ok read → result ≡ Ok other → read.0 ≡ other.0
+read_same read other result is also = let same : read ≡ other = cc in ap (λ (p : Plan ℕ × ℕ). p.0) same
+
+-- what is read of a text with one plan is the chosen plan
+pub read_chosen : (n : NodeValue) (moves : ℕ) (vector : Vector) (empty text slice : List ℕ) (read : Plan ℕ) (end : ℕ) → IsNode n → IsOfFront n moves vector → empty ≡ [] → IsPlanWritten n moves vector empty text
+    → slice ≡ text → plan_read slice 0 ≡ Ok (read, end) → IsChosenPlan bridge read n moves vector
+read_chosen n moves vector empty text slice read end sound of none written all is =
+    let covered : Covers of.0 vector = (vector, of.2, Dominates-refl vector) in
+    let fits = (chosen_plan.wins written.plan n moves vector of.0 sound of.1 covered written.chosen).0 in
+    let printed = printed_plan written.plan n moves sound fits in
+    let whole : ([] ++ plan_text written.plan) ++ [] ≡ slice = append-nil (plan_text written.plan) ∙ sym (all ∙ written.lines ∙ ap (λ before. before ++ plan_text written.plan) none) in
+    let back : plan_read slice 0 ≡ Ok (written.plan, length ([] ++ plan_text written.plan)) =
+    subst (λ t. plan_read t 0 ≡ Ok (written.plan, length ([] ++ plan_text written.plan))) whole (reads_back written.plan [] [] printed.0 printed.1 printed.2) in
+    let plan : read ≡ written.plan = read_same (read, end) (written.plan, length ([] ++ plan_text written.plan)) (plan_read slice 0) is back in
+    subst (λ p. IsChosenPlan bridge p n moves vector) (sym plan) written.chosen

@@ -6,13 +6,11 @@
 mod choice;
 mod digest;
 mod finder;
-mod memo;
 mod misses;
 mod plan_lines;
 mod searches;
 mod writer;
 mod written;
 
-pub use finder::{plan_for, plan_over};
-pub use memo::PlanMemo;
+pub use finder::plan_for;
 pub use writer::PlanWriter;
