@@ -81,8 +81,8 @@ fn layouts_that_are_not_shown_or_none_are_not_listed(rt: HostRuntime) -> Result<
 #[test]
 fn layouts_that_are_too_many_are_counted(rt: HostRuntime) -> Result<(), Fail> {
     for (file, fault) in [
-        (SLAM, "MoreThan64(924)"),
-        (SLAM_DEALT, "MoreThan64(10400600)"),
+        (SLAM, "TooManyFit(924)"),
+        (SLAM_DEALT, "TooManyFit(10400600)"),
     ] {
         assert_eq!(rt; outcome(rt.alloc(), file)?.bytes(), fault.as_bytes());
     }

@@ -13,6 +13,9 @@ pub(crate) const ENDING: &str =
 
 pub(crate) const ENDING_LAYOUTS: &str = "N:32... A7... KJ... Q5...\nN:32... Q7... KJ... A5...\n";
 
+// The same layouts, the second three times as likely as the first.
+pub(crate) const WEIGHED_LAYOUTS: &str = "N:32... A7... KJ... Q5...\n3 N:32... Q7... KJ... A5...\n";
+
 // Its deal, and the same with the defenders' hands.
 pub(crate) const HIDDEN: &str = "N:32... - KJ... -";
 

@@ -1,11 +1,11 @@
 //! Layout files: what is kept, what the play rules out, and the first fault of damaged files.
 use crate::endings::{
-    ENDING, ENDING_LAYOUTS, HIDDEN, SHOWN, SLAM, SLAM_LAYOUTS, TWO_SUITS, TWO_SUITS_LAYOUTS,
-    board_of, ending,
+    ENDING_LAYOUTS, HIDDEN, SHOWN, SLAM, SLAM_LAYOUTS, TWO_SUITS, TWO_SUITS_LAYOUTS, board_of,
+    ending,
 };
 use byte_text::Text;
 use card_letters::{compass_letter, letters_of};
-use layout_list::{Kept, LayoutFault, layouts};
+use layout_list::{Kept, layouts};
 use pbn_deal::{Board, hand_text};
 use std::alloc::Global;
 use std::test::Fail;
@@ -220,29 +220,6 @@ fn two_layouts_of_a_slam_are_dropped(rt: HostRuntime) -> Result<(), Fail> {
     assert_eq!(rt;
         outcome(rt.alloc(), SLAM, SLAM_LAYOUTS)?.bytes(),
         line.as_bytes()
-    );
-    Ok(())
-}
-
-#[test]
-fn a_file_has_at_most_64_layouts(rt: HostRuntime) -> Result<(), Fail> {
-    let board = board_of(rt.alloc(), ENDING)?;
-    let mut list = Text::new(rt.alloc());
-    list.push(b"% one layout many times\n")?;
-    for _ in 0..64 {
-        list.push(b"N:32... A7... KJ... Q5...\n")?;
-    }
-    assert!(rt; list.bytes().len() < 10_000);
-    let kept = layouts(rt.alloc(), list.bytes(), &board)?;
-    assert_eq!(rt; kept.numbers.len(), 64);
-    assert_eq!(rt; kept.node.width(), 64);
-    list.push(b"\nN:32... Q7... KJ... A5...\n")?;
-    assert!(rt; list.bytes().len() < 10_000);
-    assert!(rt;
-        matches!(
-            layouts(rt.alloc(), list.bytes(), &board),
-            Err(LayoutFault::TooMany(67))
-        )
     );
     Ok(())
 }

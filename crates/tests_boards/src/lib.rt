@@ -21,4 +21,8 @@ mod made_problems;
 #[cfg(test)]
 mod report_texts;
 #[cfg(test)]
+mod report_weights;
+#[cfg(test)]
 mod reports_read;
+#[cfg(test)]
+mod weighed_layouts;

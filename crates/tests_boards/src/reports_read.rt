@@ -1,6 +1,6 @@
 //! Reports of a worked ending read back, and texts that are refused.
 
-use am_report::{Entry, ReadReport, ReportFault, ReportKind, read_report};
+use am_report::{Entry, ReadReport, ReportFault, ReportKind, Version, read_report};
 use byte_text::Text;
 use card_letters::letters_of;
 use std::alloc::{AllocError, Global};
@@ -29,12 +29,23 @@ const TRICK_HEAD: &str =
 const TRICK_FRONT: &str =
     "front 2\nvector 10 count 1\nplay SK\nstop\nvector 01 count 1\nplay SJ\nstop\ncard SJ count 1\nend\n";
 
+// The first head and front where the second layout weighs 3.
+const WEIGHED_HEAD: &str =
+    "alphamu report 2\ndeclarer S\ntrump NT\nneed 1\nhand S KJ...\nhand N 32...\ntrick N -\nturn N\nmoves 2\nkept 1 2\nweights 1 3\n";
+
+const WEIGHED_FRONT: &str =
+    "front 2\nvector 01 weight 3\nplay S2\nhear 3\non S7\nplay SJ\nstop\non SQ\nplay SK\nstop\non SA\nplay SJ\nstop\nvector 10 weight 1\nplay S2\nhear 3\non S7\nplay SK\nstop\non SQ\nplay SK\nstop\non SA\nplay SJ\nstop\ncard S2 weight 3\nend\n";
+
 // What stands above each text that is refused below the head.
 const START: &str = "alphamu report 1\nmoves 1\n";
 
+const WEIGHED_START: &str = "alphamu report 2\nmoves 1\n";
+
 // Whole texts with the first line at fault.
-const FAULTY: [(&'static str, u32, ReportKind); 10] = [
+const FAULTY: [(&'static str, u32, ReportKind); 12] = [
     ("", 1, ReportKind::Version),
+    ("alphamu report 3\n", 1, ReportKind::Version),
+    ("alphamu report 2\n", 2, ReportKind::Head),
     ("alphamu report 1", 1, ReportKind::Version),
     ("Alphamu report 1\n", 1, ReportKind::Version),
     ("alphamu report 1\n", 2, ReportKind::Head),
@@ -54,8 +65,30 @@ const FAULTY: [(&'static str, u32, ReportKind); 10] = [
     ),
 ];
 
+// Texts below the start of the second version.
+const FAULTY_WEIGHED: [(&'static str, u32, ReportKind); 5] = [
+    ("front 1\nvector 1 count 1\n", 4, ReportKind::Vector),
+    ("front 1\nvector 1 weight 01\n", 4, ReportKind::Vector),
+    (
+        "front 1\nvector 1 weight 256000001\n",
+        4,
+        ReportKind::Vector,
+    ),
+    (
+        "front 1\nvector 1 weight 256000000\nstop\ncard S2 weight 256000001\n",
+        6,
+        ReportKind::Card,
+    ),
+    (
+        "front 1\nvector 1 weight 0\nstop\ncard S2 count 1\n",
+        6,
+        ReportKind::Card,
+    ),
+];
+
 // Texts below the start.
-const FAULTY_BELOW: [(&'static str, u32, ReportKind); 12] = [
+const FAULTY_BELOW: [(&'static str, u32, ReportKind); 13] = [
+    ("front 1\nvector 1 weight 1\n", 4, ReportKind::Vector),
     ("front 1\n", 4, ReportKind::Vector),
     ("front 1\nvector 1 count 2\n", 4, ReportKind::Vector),
     ("front 1\nvector 12 count 1\n", 4, ReportKind::Vector),
@@ -67,7 +100,7 @@ const FAULTY_BELOW: [(&'static str, u32, ReportKind); 12] = [
         ReportKind::Plan,
     ),
     (
-        "front 1\nvector 1 count 1\nstop\ncard S2 count 65\n",
+        "front 1\nvector 1 count 1\nstop\ncard S2 count 257\n",
         6,
         ReportKind::Card,
     ),
@@ -125,12 +158,34 @@ fn a_report_is_read_with_its_plans(rt: HostRuntime) -> Result<(), Fail> {
     assert_eq!(rt; report.head.bytes(), HEAD.as_bytes());
     assert_eq!(rt; report.moves, 2);
     assert_eq!(rt; letters_of(report.card).as_slice(), b"S2".as_slice());
-    assert_eq!(rt; report.count, 1);
+    assert!(rt; matches!(report.version, Version::Counts));
+    assert_eq!(rt; report.weight, 1);
     let [first, second] = report.entries.as_slice() else {
         return Err("there are two vectors".into());
     };
-    assert!(rt; is_entry(alloc, first, true, KING_ON_SEVEN)?);
-    assert!(rt; is_entry(alloc, second, false, JACK_ON_SEVEN)?);
+    assert_eq!(rt; first.weight, 1);
+    assert_eq!(rt; second.weight, 1);
+    assert!(rt; is_entry(alloc, &first.entry, true, KING_ON_SEVEN)?);
+    assert!(rt; is_entry(alloc, &second.entry, false, JACK_ON_SEVEN)?);
+    Ok(())
+}
+
+#[test]
+fn a_report_with_weights_is_read(rt: HostRuntime) -> Result<(), Fail> {
+    let alloc = rt.alloc();
+    let report = read_pieces(alloc, WEIGHED_HEAD.as_bytes(), WEIGHED_FRONT.as_bytes())?;
+    assert_eq!(rt; report.head.bytes(), WEIGHED_HEAD.as_bytes());
+    assert_eq!(rt; report.moves, 2);
+    assert_eq!(rt; letters_of(report.card).as_slice(), b"S2".as_slice());
+    assert!(rt; matches!(report.version, Version::Weights));
+    assert_eq!(rt; report.weight, 3);
+    let [first, second] = report.entries.as_slice() else {
+        return Err("there are two vectors".into());
+    };
+    assert_eq!(rt; first.weight, 3);
+    assert_eq!(rt; second.weight, 1);
+    assert!(rt; is_entry(alloc, &first.entry, false, JACK_ON_SEVEN)?);
+    assert!(rt; is_entry(alloc, &second.entry, true, KING_ON_SEVEN)?);
     Ok(())
 }
 
@@ -150,6 +205,10 @@ fn the_first_line_at_fault_is_named(rt: HostRuntime) {
     let alloc = rt.alloc();
     for (text, line, kind) in FAULTY {
         let fault = read_pieces(alloc, text.as_bytes(), b"").err();
+        assert_eq!(rt; fault, Some(ReportFault::Fault { line, kind }));
+    }
+    for (text, line, kind) in FAULTY_WEIGHED {
+        let fault = read_pieces(alloc, WEIGHED_START.as_bytes(), text.as_bytes()).err();
         assert_eq!(rt; fault, Some(ReportFault::Fault { line, kind }));
     }
     for (text, line, kind) in FAULTY_BELOW {
