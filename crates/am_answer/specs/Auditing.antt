@@ -39,7 +39,7 @@ unfoldable pub audit_of : Root → ReadReportValue → List LogLine → Result A
 audit_of root report lines =
     if bytes_eq report.head (head_text root.board root.kept report.moves)
     then unless_width_fault (record { moves = report.moves; vectors = vectors_of report; lines = lines })
-        (first_other_width (length root.kept.node.lefts) 1 (vectors_of report))
+    (first_other_width (length root.kept.node.lefts) 1 (vectors_of report))
     else Err (Refuted 0 Head)
 
 -- a log that was read, or the status of its fault

@@ -10,8 +10,7 @@ mod status;
 
 pub use inputs::{Inputs, Work};
 pub use refusals::{
-    board_status, layout_status, log_status, make_status, report_status, root_status,
-    syntax_status,
+    board_status, layout_status, log_status, make_status, report_status, root_status, syntax_status,
 };
 pub use root::Root;
 pub use status::{FileWord, PbnKind, Place, Status};
