@@ -1,5 +1,6 @@
 -- A layout at which the vector has a 1 is made.
 use Rattle.std.proofs.Common.{◌≡◌, ◌∙◌, ℕ, zero, suc, Bool, true, Some, List, [], ◌∷◌, map, Contains, refl, sym, ap, subst, slice_get, rules}
+use Rattle.std.proofs.lemmas.List.Sorted.{Contains-permutation, IsPermutation-sym}
 use Rattle.win_vectors.proofs.Orders.{Dominates-refl}
 use Rattle.trick_rules.specs.Nodes.{NodeValue, IsNode, states}
 use Rattle.strategy_games.specs.Plans.{wins, wins_vector}
@@ -24,13 +25,15 @@ contains_at (y ∷ xs) (suc k) x here = Contains-there y xs x (contains_at xs k 
 some-same : {X : Type 0} (x y : X) → Some x ≡ Some y → x ≡ y
 some-same x y same = cc
 
-pub bit-made : (n : NodeValue) (moves : ℕ) (playing : Playing) (table later : List Sitter) (cards : List ℕ) (made : Bool) → IsNode n → IsPlayed n moves playing table later true cards made → made ≡ true
-bit-made n moves playing table later cards made node is =
+pub bit-made : (n : NodeValue) (weights : List ℕ) (moves : ℕ) (playing : Playing) (table later : List Sitter) (cards : List ℕ) (made : Bool) → IsNode n
+    → IsPlayed n weights moves playing table later true cards made → made ≡ true
+bit-made n weights moves playing table later cards made node is =
     let first = is.first in
-    let vectors = is.vector ∷ first.others in
-    let inside = Contains-here is.vector first.others in
-    let won = laws.chosen_plan.wins is.plan n moves is.vector vectors node first.front (is.vector, inside, Dominates-refl is.vector) first.chosen in
-    let exact : wins_vector bridge is.plan n ≡ is.vector = first.front.apart (wins_vector bridge is.plan n) is.vector won.1.member inside won.1.above in
+    let front = first.reported.front in
+    let whole = first.reported.is_front in
+    let inside = Contains-permutation (is.vector ∷ first.others) front is.vector (IsPermutation-sym front (is.vector ∷ first.others) first.reported.same) (Contains-here is.vector first.others) in
+    let won = laws.chosen_plan.wins is.plan n moves is.vector front node whole (is.vector, inside, Dominates-refl is.vector) first.chosen in
+    let exact : wins_vector bridge is.plan n ≡ is.vector = whole.apart (wins_vector bridge is.plan n) is.vector won.1.member inside won.1.above in
     let there = mapped_at (λ s. wins bridge is.plan s) (states n) playing.place is.state is.at_layout in
     let bit : wins bridge is.plan is.state ≡ true = some-same (wins bridge is.plan is.state) true (sym there ∙ ap (λ v. slice_get v playing.place) exact ∙ is.bit_there) in
     let made_there = what_is_won_is_made is.plan n moves is.state (seated_at playing.switch table) cards node won.0 (contains_at (states n) playing.place is.state is.at_layout) bit is.follows in

@@ -8,15 +8,15 @@ use Rattle.job_words.specs.Asks.{AskValue}
 use Rattle.job_words.specs.Words.{words_read}
 use Rattle.am_answer.specs.declared.status.FileWord.{FileWord}
 use Rattle.am_answer.specs.declared.status.Status.{Status}
-use Rattle.am_answer.specs.declared.status.Status.TheVariants.{Done, Refuted, BadWords, Unread, BadPbn, BadLayouts, NoTurn, Spent, Unwritten, Memory, TooLong, BadReport, BadMake, NoLayout}
+use Rattle.am_answer.specs.declared.status.Status.TheVariants.{Done, Refuted, BadWords, Unread, BadPbn, BadLayouts, NoTurn, Spent, Unwritten, Memory, TooLong, BadReport, BadMake, NoLayout, BadLog, Unproved}
 use Rattle.am_answer.specs.declared.root.Root.{Root}
 use Rattle.am_answer.specs.Answers.{TaskValue, Problem, answer, problem_of}
 use Rattle.am_answer.specs.Files.{name_of}
 use Rattle.am_answer.specs.Refusals.{IsUnread}
-use Rattle.am_answer.specs.Endings.{IsSpentOn, IsWithinNodes, IsWithinIfPlain, IsMadeStatus, IsMadeRun, HasNoFault, IsDoneOrMemory}
+use Rattle.am_answer.specs.Endings.{IsSpentOn, IsUnprovedOn, HasText, IsWithinIfPlain, IsMadeStatus, IsMadeRun, HasNoFault, IsDoneOrMemory}
 use Rattle.am_answer.specs.Stages.{IsRefusal, IsTaskRefusal, IsTextForAt}
 use Rattle.am_match.specs.Defences.{Sitter}
-use Rattle.am_answer.proofs.Endings.{not_spent}
+use Rattle.am_answer.proofs.Endings.{not_spent, not_unproved}
 use Rattle.am_top.proofs.MadeAccepted.{made-problem}
 
 ok-err : {A : Type 0} (result : Result A Status) (value : A) (status : Status) → result ≡ Ok value → result ≡ Err status → ⊥
@@ -39,7 +39,7 @@ not_unread words ask before now file asked none (other, is, rose) =
     let same = some-same (words_read words) other ask is asked in
     both-not (name_of ask file) (λ name. Rose (before name) (now name)) (subst (λ a. IsSomeAnd (name_of a file) (λ name. Rose (before name) (now name))) same rose) (none file)
 
-module _ (words : List (List ℕ)) (files : Files) (before now : List ℕ → ℕ) (ask : AskValue) (task : TaskValue) (asked : words_read words ≡ Some ask) (accepted : answer words files ≡ Ok task) (fits : IsWithinNodes task)
+module _ (words : List (List ℕ)) (files : Files) (before now : List ℕ → ℕ) (ask : AskValue) (task : TaskValue) (asked : words_read words ≡ Some ask) (accepted : answer words files ≡ Ok task) (fits : HasText task)
     (none : HasNoFault ask before now) where
   complete : (status : Status) → IsRefusal (answer words files) status → ((file : FileWord) → status ≡ Unread file → IsUnread words before now file) → IsDoneOrMemory status
   complete Done is unread = absurd is
@@ -57,9 +57,12 @@ module _ (words : List (List ℕ)) (files : Files) (before now : List ℕ → �
   complete (BadReport line kind) is unread = absurd (ok-err (answer words files) task (BadReport line kind) accepted is)
   complete (BadMake fault) is unread = absurd (ok-err (answer words files) task (BadMake fault) accepted is)
   complete (NoLayout layout) is unread = absurd (ok-err (answer words files) task (NoLayout layout) accepted is)
+  complete (BadLog line) is unread = absurd (ok-err (answer words files) task (BadLog line) accepted is)
+  complete (Unproved number) (other, also, unproved) unread =
+      absurd (not_unproved task number fits (subst (λ t. IsUnprovedOn t number) (ok-same (answer words files) other task also accepted) unproved))
 
 pub told_complete : (told : Option Files) (words : List (List ℕ)) (status : Status) (before now : List ℕ → ℕ) (written : Type 0) → IfSome told (λ files. IsRefusal (answer words files) status) → ((file : FileWord) → status ≡ Unread file → IsUnread words before now file)
-    → IfSome told (λ files. (ask : AskValue) (task : TaskValue) → words_read words ≡ Some ask → answer words files ≡ Ok task → IsWithinNodes task → HasNoFault ask before now → (written → ⊥) → IsDoneOrMemory status)
+    → IfSome told (λ files. (ask : AskValue) (task : TaskValue) → words_read words ≡ Some ask → answer words files ≡ Ok task → HasText task → HasNoFault ask before now → (written → ⊥) → IsDoneOrMemory status)
 told_complete None words status before now written is unread = tt
 told_complete (Some files) words status before now written is unread = λ ask task asked accepted fits none _. complete words files before now ask task asked accepted fits none status is unread
 
@@ -83,6 +86,9 @@ module _ (number : ℕ) (search' : Search) where
   made_refused root (BadReport line kind) is refused = absurd (ok-err (problem_of number search') (Problem number root search') (BadReport line kind) is refused)
   made_refused root (BadMake fault) is refused = absurd (ok-err (problem_of number search') (Problem number root search') (BadMake fault) is refused)
   made_refused root (NoLayout layout) is refused = absurd (ok-err (problem_of number search') (Problem number root search') (NoLayout layout) is refused)
+  made_refused root (BadLog line) is refused = absurd (ok-err (problem_of number search') (Problem number root search') (BadLog line) is refused)
+  made_refused root (Unproved line) is (other, also, unproved) =
+      subst (λ t. IsUnprovedOn t line) (ok-same (problem_of number search') other (Problem number root search') also is) unproved
 
   pub made_run_refused : (status : Status) → IsTaskRefusal (problem_of number search') status → IsMadeRun number search' status
   made_run_refused status refused = let made = made-problem number search' in (made.0, made.1, made_refused made.0 status made.1 refused)
@@ -100,7 +106,7 @@ module _ (number : ℕ) (search' : Search) where
       (λ (e : status ≡ Unwritten). subst (λ s. IsMadeRun number search' s) (sym e) (made.0, made.1, fits))
       ends
 
-  pub made_complete : (task : TaskValue) (status : Status) → problem_of number search' ≡ Ok task → IsWithinNodes task → IsTaskRefusal (problem_of number search') status → IsDoneOrMemory status
+  pub made_complete : (task : TaskValue) (status : Status) → problem_of number search' ≡ Ok task → HasText task → IsTaskRefusal (problem_of number search') status → IsDoneOrMemory status
   made_complete task Done is fits refused = absurd refused
   made_complete task (Refuted plan place) is fits refused = absurd (ok-err (problem_of number search') task (Refuted plan place) is refused)
   made_complete task BadWords is fits refused = absurd refused
@@ -115,3 +121,6 @@ module _ (number : ℕ) (search' : Search) where
   made_complete task (BadReport line kind) is fits refused = absurd (ok-err (problem_of number search') task (BadReport line kind) is refused)
   made_complete task (BadMake fault) is fits refused = absurd (ok-err (problem_of number search') task (BadMake fault) is refused)
   made_complete task (NoLayout layout) is fits refused = absurd (ok-err (problem_of number search') task (NoLayout layout) is refused)
+  made_complete task (BadLog line) is fits refused = absurd (ok-err (problem_of number search') task (BadLog line) is refused)
+  made_complete task (Unproved line) is fits (other, also, unproved) =
+      absurd (not_unproved task line fits (subst (λ t. IsUnprovedOn t line) (ok-same (problem_of number search') other task also is) unproved))

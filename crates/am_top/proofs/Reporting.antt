@@ -1,15 +1,21 @@
 -- What a report says, and that it is the only one.
 use Rattle.std.proofs.Common.{◌≡◌, ◌≤◌, ℕ, zero, suc, List, [], ◌∷◌, length, map, All, Contains, refl, sym, ap, ap₂, subst, ◌∙◌}
 use Rattle.std.proofs.lemmas.List.Elements.{All-contains, All-tail}
-use Rattle.win_vectors.specs.Vectors.{ones_of}
+use Rattle.std.proofs.lemmas.List.Sorted.{Contains-permutation, IsPermutation-sym}
+use Rattle.win_vectors.specs.Weights.{weight_of}
 use Rattle.win_vectors.specs.Fronts.{Vector, Covers}
 use Rattle.win_vectors.proofs.Orders.{Dominates-refl}
 use Rattle.trick_rules.specs.Nodes.{NodeValue, IsNode}
 use Rattle.strategy_games.specs.Plans.{Plan, Fits, wins_vector}
-use Rattle.strategy_games.specs.Choosing.{IsChosenPlan, IsNamedCard}
+use Rattle.strategy_games.specs.Choosing.{IsChosenPlan, IsNamedCard, IsNamedByWeight, IsBestWeight}
+use Rattle.strategy_games.specs.Laws.{HasBestWeight}
 use Rattle.strategy_games.proofs.Lists.{Contains-map, Contains-here}
+use Rattle.strategy_games.proofs.WeightedChoice as theory_of_weights
 use Rattle.strategy_tree.specs.Bridge.{bridge}
 use Rattle.strategy_tree.proofs.BridgeLaws as laws
+use Rattle.strategy_tree.proofs.Rules.{lawful, settled}
+use Rattle.log_maker.proofs.OneLog.{one_log}
+use Rattle.log_texts.specs.LogText.{log_text}
 use Rattle.job_words.specs.declared.asks.Search.{Search}
 use Rattle.am_report.specs.declared.made.MadeSummary.{MadeSummary}
 use Rattle.am_report.specs.Answers.{SolveAnswerValue, EntryValue}
@@ -17,27 +23,43 @@ use Rattle.am_report.specs.Solve.{solve_text}
 use Rattle.am_report.specs.Card.{card_text}
 use Rattle.am_report.specs.Made.{made_text}
 use Rattle.am_answer.specs.declared.root.Root.{Root}
-use Rattle.am_answer.specs.Answers.{Report, NamedCard, Problem}
+use Rattle.am_answer.specs.Answers.{Report, NamedCard, Proof, Problem}
 use Rattle.am_answer.specs.Reports.{IsSolveAnswer, IsText, made_moves}
+use Rattle.am_top.proofs.OneOrder.{one_reported_front}
 
 -- ---- what is printed
 
-pub plan-wins : (n : NodeValue) (moves : ℕ) (found : SolveAnswerValue) (entry : EntryValue) → IsNode n → IsSolveAnswer n moves found → Contains found.entries entry
+module _ (n : NodeValue) (weights : List ℕ) (moves : ℕ) (found : SolveAnswerValue) (is : IsSolveAnswer n weights moves found) where
+  -- a vector that is printed is of the front
+  of_front : (vector : Vector) → Contains (map (λ e. e.vector) found.entries) vector → Contains is.vectors.front vector
+  of_front vector member =
+      let vectors = map (λ e. e.vector) found.entries in
+      Contains-permutation vectors is.vectors.front vector (IsPermutation-sym is.vectors.front vectors is.vectors.same) member
+
+  -- and the other way round
+  covered : (vector : Vector) → Covers is.vectors.front vector → Covers (map (λ e. e.vector) found.entries) vector
+  covered vector (above, member, dominates) =
+      (above, Contains-permutation is.vectors.front (map (λ e. e.vector) found.entries) above is.vectors.same member, dominates)
+
+pub plan-wins : (n : NodeValue) (weights : List ℕ) (moves : ℕ) (found : SolveAnswerValue) (entry : EntryValue) → IsNode n → IsSolveAnswer n weights moves found → Contains found.entries entry
     → Fits bridge entry.plan n moves × (wins_vector bridge entry.plan n ≡ entry.vector)
-plan-wins n moves found entry node is member =
-    let vectors = map (λ e. e.vector) found.entries in
-    let inside : Contains vectors entry.vector = Contains-map (λ e. e.vector) found.entries entry member in
+plan-wins n weights moves found entry node is member =
+    let front = is.vectors.front in
+    let inside : Contains front entry.vector = of_front n weights moves found is entry.vector (Contains-map (λ e. e.vector) found.entries entry member) in
     let chosen = All-contains (λ e. IsChosenPlan bridge e.plan n moves e.vector) found.entries entry is.plans member in
-    let wins = laws.chosen_plan.wins entry.plan n moves entry.vector vectors node is.vectors (entry.vector, inside, Dominates-refl entry.vector) chosen in
-    (wins.0, is.vectors.apart (wins_vector bridge entry.plan n) entry.vector wins.1.member inside wins.1.above)
+    let wins = laws.chosen_plan.wins entry.plan n moves entry.vector front node is.vectors.is_front (entry.vector, inside, Dominates-refl entry.vector) chosen in
+    (wins.0, is.vectors.is_front.apart (wins_vector bridge entry.plan n) entry.vector wins.1.member inside wins.1.above)
 
-pub vectors-cover : (n : NodeValue) (moves : ℕ) (found : SolveAnswerValue) (plan : Plan ℕ) → IsSolveAnswer n moves found → Fits bridge plan n moves
+pub vectors-cover : (n : NodeValue) (weights : List ℕ) (moves : ℕ) (found : SolveAnswerValue) (plan : Plan ℕ) → IsSolveAnswer n weights moves found → Fits bridge plan n moves
     → Covers (map (λ e. e.vector) found.entries) (wins_vector bridge plan n)
-vectors-cover n moves found plan is fits = is.vectors.covered (wins_vector bridge plan n) (plan, fits, refl)
+vectors-cover n weights moves found plan is fits = covered n weights moves found is (wins_vector bridge plan n) (is.vectors.is_front.covered (wins_vector bridge plan n) (plan, fits, refl))
 
-pub count-most : (n : NodeValue) (moves : ℕ) (found : SolveAnswerValue) (plan : Plan ℕ) → IsSolveAnswer n moves found → Fits bridge plan n moves
-    → ones_of (wins_vector bridge plan n) ≤ found.count
-count-most n moves found plan is fits = laws.best_count.most n moves found.count plan is.count fits
+best_weight : HasBestWeight bridge IsNode
+best_weight = theory_of_weights.best_weight bridge IsNode lawful settled
+
+pub weight-most : (n : NodeValue) (weights : List ℕ) (moves : ℕ) (found : SolveAnswerValue) (plan : Plan ℕ) → IsSolveAnswer n weights moves found → Fits bridge plan n moves
+    → weight_of weights (wins_vector bridge plan n) ≤ found.weight
+weight-most n weights moves found plan is fits = (best_weight.best weights).most n moves found.weight plan is.weight fits
 
 -- ---- that it is the only one
 
@@ -64,25 +86,37 @@ named-same : (n : NodeValue) (moves card other : ℕ) → IsNamedCard bridge n m
 named-same n zero card other is also = absurd is
 named-same n (suc moves) card other is also = laws.named_card.unique n moves card other is also
 
-abbrev answer_of : List EntryValue → ℕ → ℕ → SolveAnswerValue
-answer_of entries card count = record { entries = entries; card = card; count = count }
+named_by_weight-same : (weights : List ℕ) (n : NodeValue) (moves card other : ℕ) → IsNamedByWeight bridge weights n moves card → IsNamedByWeight bridge weights n moves other → card ≡ other
+named_by_weight-same weights n zero card other is also = absurd is
+named_by_weight-same weights n (suc moves) card other is also = (best_weight.named weights).unique n moves card other is also
 
-answer-same : (n : NodeValue) (moves : ℕ) (found other : SolveAnswerValue) → IsSolveAnswer n moves found → IsSolveAnswer n moves other → found ≡ other
-answer-same n moves found other is also =
-    let vectors = laws.one_front.unique n moves (map (λ e. e.vector) found.entries) (map (λ e. e.vector) other.entries) is.vectors also.vectors in
+weight-same : (weights : List ℕ) (n : NodeValue) (moves weight other : ℕ) → IsBestWeight bridge weights n moves weight → IsBestWeight bridge weights n moves other → weight ≡ other
+weight-same weights = (best_weight.best weights).unique
+
+abbrev answer_of : List EntryValue → ℕ → ℕ → SolveAnswerValue
+answer_of entries card weight = record { entries = entries; card = card; weight = weight }
+
+answer-same : (n : NodeValue) (weights : List ℕ) (moves : ℕ) (found other : SolveAnswerValue) → IsSolveAnswer n weights moves found → IsSolveAnswer n weights moves other → found ≡ other
+answer-same n weights moves found other is also =
+    let vectors = one_reported_front n weights moves (map (λ e. e.vector) found.entries) (map (λ e. e.vector) other.entries) is.vectors also.vectors in
     let entries = entries-same n moves found.entries other.entries vectors is.plans also.plans in
-    let card = named-same n moves found.card other.card is.card also.card in
-    let count = laws.best_count.unique n moves found.count other.count is.count also.count in
-    ap (λ e. answer_of e found.card found.count) entries ∙ ap₂ (λ c k. answer_of other.entries c k) card count
+    let card = named_by_weight-same weights n moves found.card other.card is.card also.card in
+    let weight = weight-same weights n moves found.weight other.weight is.weight also.weight in
+    ap (λ e. answer_of e found.card found.weight) entries ∙ ap₂ (λ c k. answer_of other.entries c k) card weight
 
 module _ (root : Root) (moves : ℕ) (search other : Search) (text more : List ℕ) where
   pub one-report : IsText (Report root moves search) text → IsText (Report root moves other) more → text ≡ more
   one-report (found, is, written) (also, same, again) =
-      written ∙ ap (solve_text root.board root.kept moves) (answer-same root.kept.node moves found also is same) ∙ sym again
+      written ∙ ap (solve_text root.board root.kept moves) (answer-same root.kept.node root.kept.weights moves found also is same) ∙ sym again
 
   pub one-card : IsText (NamedCard root moves search) text → IsText (NamedCard root moves other) more → text ≡ more
-  one-card (card, count, is, best, written) (named, most, also, same, again) =
-      written ∙ ap₂ (λ c k. card_text c k (length root.kept.node.lefts)) (named-same root.kept.node moves card named is also) (laws.best_count.unique root.kept.node moves count most best same) ∙ sym again
+  one-card (card, weight, is, best, written) (named, most, also, same, again) =
+      written
+      ∙ ap₂ (λ c k. card_text c k root.kept.weights) (named_by_weight-same root.kept.weights root.kept.node moves card named is also) (weight-same root.kept.weights root.kept.node moves weight most best same)
+      ∙ sym again
+
+pub one-proof : (root : Root) (moves nodes others : ℕ) (text more : List ℕ) → IsText (Proof root moves nodes) text → IsText (Proof root moves others) more → text ≡ more
+one-proof root moves nodes others text more (lines, is, written) (also, same, again) = written ∙ ap log_text (one_log root.kept.node moves lines also is same) ∙ sym again
 
 abbrev summary_of : ℕ → Root → ℕ → ℕ → ℕ → MadeSummary
 summary_of number root front best card = record { number = number; layouts = length root.kept.node.lefts; front = front; best = best; card = card }

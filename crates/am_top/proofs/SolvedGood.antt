@@ -1,13 +1,13 @@
 -- A report that was written for a root is found good.
-use Rattle.std.proofs.Common.{◌≡◌, ◌≤◌, ◌<◌, ◌+◌, ◌^◌, ℕ, zero, suc, true, false, None, Ok, List, [], ◌∷◌, length, map, Contains, bytes_eq, refl, sym, ap, ◌∙◌, arith}
+use Rattle.std.proofs.Common.{◌≡◌, ◌≤◌, ◌<◌, ◌+◌, ◌^◌, ℕ, zero, suc, true, false, None, Ok, List, [], ◌∷◌, length, map, sum, All, Contains, bytes_eq, refl, sym, ap, ◌∙◌, arith}
 use Rattle.std.proofs.lemmas.List.{length-map}
-use Rattle.std.proofs.lemmas.List.Elements.{All-contains}
+use Rattle.std.proofs.lemmas.List.Sorted.{length_permutation}
 use Rattle.std.proofs.lemmas.Slice.Eq.{bytes_eq-Decides}
 use Rattle.card_sets.proofs.Sets.{IsCardSet-cards_where, has_card-below}
-use Rattle.win_vectors.specs.Vectors.{ones_of}
-use Rattle.win_vectors.specs.Fronts.{Vector}
-use Rattle.trick_rules.specs.Nodes.{NodeValue, IsNode, states, choices, most_moves}
-use Rattle.strategy_games.specs.Choosing.{IsNamedCard, IsBestCount, HasCount}
+use Rattle.win_vectors.specs.Weights.{weight_of, IsWeight}
+use Rattle.win_vectors.proofs.WeightLemmas.{weight_of-most}
+use Rattle.trick_rules.specs.Nodes.{NodeValue, IsNode, choices, most_moves}
+use Rattle.strategy_games.specs.Choosing.{IsNamedByWeight, IsBestWeight, HasMeasure}
 use Rattle.strategy_games.proofs.Lists.{All-from, Contains-here, Contains-there, first_is_member}
 use Rattle.strategy_tree.specs.Bridge.{bridge}
 use Rattle.strategy_tree.proofs.BridgeLaws as laws
@@ -20,7 +20,7 @@ use Rattle.am_report.specs.Answers.{SolveAnswerValue, EntryValue}
 use Rattle.am_report.specs.Head.{head_text}
 use Rattle.am_report.specs.Solve.{solve_text}
 use Rattle.am_report.specs.Reading.{report_read}
-use Rattle.am_report.specs.ReadBack.{IsPrintableEntry, IsPrintable, printed_report}
+use Rattle.am_report.specs.ReadBack.{ArePrintableWeights, IsPrintableEntry, IsPrintable, printed_entry, printed_report}
 use Rattle.am_report.proofs.ReportReadBack.{solve_text-read}
 use Rattle.am_answer.specs.declared.root.Root.{Root}
 use Rattle.am_answer.specs.Judging.{entry_fault, first_plan_fault, judged, plans_in}
@@ -28,82 +28,90 @@ use Rattle.am_answer.specs.Reports.{IsSolveAnswer}
 use Rattle.job_check.proofs.Judged.{entry_fault-verdict}
 use Rattle.am_top.proofs.Reporting.{plan-wins}
 
--- ---- the card and the count
+-- ---- the card and the weight
 
-ones_of-le : (vector : Vector) → ones_of vector ≤ length vector
-ones_of-le [] = omega arith
-ones_of-le (true ∷ rest) = omega (arith, ones_of-le rest)
-ones_of-le (false ∷ rest) = omega (arith, ones_of-le rest)
+module _ (weights : List ℕ) (n : NodeValue) where
+  named-below : (moves card : ℕ) → IsNamedByWeight bridge weights n moves card → card < 52
+  named-below zero card is = absurd is
+  named-below (suc moves) card (best, most, first) =
+      has_card-below (choices n) card (IsCardSet-cards_where _)
+      (has_card-from_Contains (choices n) card (first_is_member (λ d. HasMeasure bridge (weight_of weights) (bridge.child n d) moves best) (choices n) card first))
 
-named-below : (n : NodeValue) (moves card : ℕ) → IsNamedCard bridge n moves card → card < 52
-named-below n zero card is = absurd is
-named-below n (suc moves) card (best, most, first) =
-    has_card-below (choices n) card (IsCardSet-cards_where _)
-    (has_card-from_Contains (choices n) card (first_is_member (λ d. HasCount bridge (bridge.child n d) moves best) (choices n) card first))
-
-count-below : (n : NodeValue) (moves count : ℕ) → length n.lefts ≤ most_listed → IsBestCount bridge n moves count → count ≤ most_listed
-count-below n moves count listed ((front, is, vector, inside, ones), most) =
-    let wide : length vector ≡ length n.lefts =
-    All-contains (λ v. length v ≡ length (states n)) front vector (laws.one_front.wide n moves front is) inside ∙ length-map n.lefts (λ left. record { position = n.position; left = left }) in
-    omega (arith, ones, wide, ones_of-le vector, listed)
+  weight-below : (moves weight : ℕ) → IsBestWeight bridge weights n moves weight → weight ≤ sum weights
+  weight-below moves weight ((front, is, vector, inside, weighs), most) = omega (arith, weighs, weight_of-most weights vector)
 
 -- ---- the plans
 
-filled_length : {X Y : Type 0} (f : X → Y) (xs : List X) → (map f xs ≡ [] → ⊥) → 1 ≤ length xs
-filled_length f [] filled = absurd (filled refl)
-filled_length f (x ∷ xs) filled = omega arith
+filled_length : {X : Type 0} (xs : List X) → (xs ≡ [] → ⊥) → 1 ≤ length xs
+filled_length [] filled = absurd (filled refl)
+filled_length (x ∷ xs) filled = omega arith
 
-no_first_fault : (node : NodeValue) (moves number : ℕ) (entries : List EntryValue) → ((entry : EntryValue) → Contains entries entry → entry_fault node moves entry ≡ None)
-    → first_plan_fault node moves number entries ≡ None
-no_first_fault node moves number [] good = refl
-no_first_fault node moves number (entry ∷ entries) good =
-    rw (good entry (Contains-here entry entries)) (no_first_fault node moves (number + 1) entries (λ e among. good e (Contains-there entry entries e among)))
+module _ (node : NodeValue) (weights : List ℕ) (moves : ℕ) where
+  no_first_fault : (number : ℕ) (entries : List EntryValue) → ((entry : EntryValue) → Contains entries entry → entry_fault node weights moves (printed_entry weights entry) ≡ None)
+      → first_plan_fault node weights moves number (map (printed_entry weights) entries) ≡ None
+  no_first_fault number [] good = refl
+  no_first_fault number (entry ∷ entries) good =
+      rw (good entry (Contains-here entry entries)) (no_first_fault (number + 1) entries (λ e among. good e (Contains-there entry entries e among)))
 
-module _ (n : NodeValue) (moves : ℕ) (found : SolveAnswerValue) (node : IsNode n) (listed : length n.lefts ≤ most_listed) (is : IsSolveAnswer n moves found) where
+module _ (n : NodeValue) (weights : List ℕ) (moves : ℕ) (found : SolveAnswerValue) (node : IsNode n) (listed : length n.lefts ≤ most_listed) (weighed : length weights ≡ length n.lefts) (each : All IsWeight weights)
+    (is : IsSolveAnswer n weights moves found) where
   width : (entry : EntryValue) → Contains found.entries entry → length entry.vector ≡ length n.lefts
-  width entry among = ap length (sym (plan-wins n moves found entry node is among).1) ∙ length-wins_vector entry.plan n
+  width entry among = ap length (sym (plan-wins n weights moves found entry node is among).1) ∙ length-wins_vector entry.plan n
 
-  entry-good : (entry : EntryValue) → Contains found.entries entry → entry_fault n moves entry ≡ None
-  entry-good entry among = sym (entry_fault-verdict n moves entry Good (width entry among) (plan-wins n moves found entry node is among))
+  entry-good : (entry : EntryValue) → Contains found.entries entry → entry_fault n weights moves (printed_entry weights entry) ≡ None
+  entry-good entry among = sym (entry_fault-verdict n weights moves (printed_entry weights entry) Good (width entry among) refl (plan-wins n weights moves found entry node is among))
 
-  entry-printable : (entry : EntryValue) → Contains found.entries entry → IsPrintableEntry entry
+  entry-printable : (entry : EntryValue) → Contains found.entries entry → IsPrintableEntry (length weights) entry
   entry-printable entry among =
-      let printed = printed_plan entry.plan n moves node (plan-wins n moves found entry node is among).0 in
-      record {
-        some_layouts = omega (arith, width entry among, node.some);
-        few_layouts = omega (arith, width entry among, listed);
-        plan = record { levels = printed.0; replies = printed.1; cards = printed.2 };
-      }
+      let printed = printed_plan entry.plan n moves node (plan-wins n weights moves found entry node is among).0 in
+      record { width = width entry among ∙ sym weighed; plan = record { levels = printed.0; replies = printed.1; cards = printed.2 } }
 
-  answer-printable : 1 ≤ moves → moves ≤ most_moves → length found.entries < 2 ^ 32 → IsPrintable moves found
+  weights-printable : ArePrintableWeights weights
+  weights-printable = record { some_layouts = omega (arith, weighed, node.some); few_layouts = omega (arith, weighed, listed); each = each }
+
+  some_entries : 1 ≤ length found.entries
+  some_entries =
+      let vectors = map (λ (e : EntryValue). e.vector) found.entries in
+      omega (
+        arith,
+        filled_length is.vectors.front (laws.one_front.filled n moves is.vectors.front node is.vectors.is_front),
+        length_permutation is.vectors.front vectors is.vectors.same,
+        length-map found.entries (λ (e : EntryValue). e.vector),
+      )
+
+  answer-printable : 1 ≤ moves → moves ≤ most_moves → length found.entries < 2 ^ 32 → IsPrintable weights moves found
   answer-printable some few vectors = record {
+    layouts = weights-printable;
     some_moves = some;
     few_moves = few;
-    some_vectors = filled_length (λ e. e.vector) found.entries (laws.one_front.filled n moves (map (λ e. e.vector) found.entries) node is.vectors);
+    some_vectors = some_entries;
     few_vectors = vectors;
-    entries = All-from IsPrintableEntry found.entries entry-printable;
-    card = named-below n moves found.card is.card;
-    count = count-below n moves found.count listed is.count;
+    entries = All-from (IsPrintableEntry (length weights)) found.entries entry-printable;
+    card = named-below weights n moves found.card is.card;
+    weight = weight-below weights n moves found.weight is.weight;
   }
 
 -- ---- the report
 
-judged-printed : (root : Root) (moves : ℕ) (found : SolveAnswerValue) → first_plan_fault root.kept.node moves 1 found.entries ≡ None
-    → judged root (printed_report root.board root.kept moves found) ≡ Ok (length found.entries)
-unfolding judged
-judged-printed root moves found good =
-    let head = head_text root.board root.kept moves in
-    let same : bytes_eq head head ≡ true = (bytes_eq-Decides head head).1 refl in
-    rw (same, good) refl
+module _ (root : Root) (moves : ℕ) (found : SolveAnswerValue) where
+  judged-printed : first_plan_fault root.kept.node root.kept.weights moves 1 (map (printed_entry root.kept.weights) found.entries) ≡ None
+      → judged root (printed_report root.board root.kept moves found) ≡ Ok (length found.entries)
+  unfolding judged
+  judged-printed good =
+      let head = head_text root.board root.kept moves in
+      let same : bytes_eq head head ≡ true = (bytes_eq-Decides head head).1 refl in
+      rw (same, good, length-map found.entries (printed_entry root.kept.weights)) refl
 
-plans_in-read : (root : Root) (moves : ℕ) (found : SolveAnswerValue) (text : List ℕ) → report_read text ≡ Ok (printed_report root.board root.kept moves found)
-    → plans_in root text ≡ judged root (printed_report root.board root.kept moves found)
-unfolding plans_in
-plans_in-read root moves found text read = rw read refl
+  plans_in-read : (text : List ℕ) → report_read text ≡ Ok (printed_report root.board root.kept moves found)
+      → plans_in root text ≡ judged root (printed_report root.board root.kept moves found)
+  unfolding plans_in
+  plans_in-read text read = rw read refl
 
-pub solved-good : (root : Root) (moves : ℕ) (found : SolveAnswerValue) → IsNode root.kept.node → length root.kept.node.lefts ≤ most_listed → 1 ≤ moves → moves ≤ most_moves → IsSolveAnswer root.kept.node moves found → length found.entries < 2 ^ 32
-    → plans_in root (solve_text root.board root.kept moves found) ≡ Ok (length found.entries)
-solved-good root moves found node listed some few is vectors =
-    let n = root.kept.node in
-    plans_in-read root moves found (solve_text root.board root.kept moves found) (solve_text-read root.board root.kept moves found (answer-printable n moves found node listed is some few vectors))
-    ∙ judged-printed root moves found (no_first_fault n moves 1 found.entries (entry-good n moves found node listed is))
+  pub solved-good : IsNode root.kept.node → length root.kept.node.lefts ≤ most_listed → length root.kept.weights ≡ length root.kept.node.lefts → All IsWeight root.kept.weights → 1 ≤ moves → moves ≤ most_moves
+      → IsSolveAnswer root.kept.node root.kept.weights moves found → length found.entries < 2 ^ 32 → plans_in root (solve_text root.board root.kept moves found) ≡ Ok (length found.entries)
+  solved-good node listed weighed each some few is vectors =
+      let n = root.kept.node in
+      let weights = root.kept.weights in
+      plans_in-read (solve_text root.board root.kept moves found)
+      (solve_text-read root.board root.kept moves found (answer-printable n weights moves found node listed weighed each is some few vectors))
+      ∙ judged-printed (no_first_fault n weights moves 1 found.entries (entry-good n weights moves found node listed weighed each is))

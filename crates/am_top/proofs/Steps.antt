@@ -5,7 +5,7 @@ use Rattle.am_outside.specs.Shelf.{Files}
 use Rattle.am_answer.specs.declared.inputs.Inputs.{Inputs}
 use Rattle.am_answer.specs.declared.inputs.Inputs.TheVariants.{Made}
 use Rattle.am_answer.specs.declared.status.Status.{Status}
-use Rattle.am_answer.specs.declared.status.Status.TheVariants.{Done, Refuted, BadWords, Unread, BadPbn, BadLayouts, NoTurn, Spent, Unwritten, Memory, TooLong, BadReport, BadMake, NoLayout}
+use Rattle.am_answer.specs.declared.status.Status.TheVariants.{Done, Refuted, BadWords, Unread, BadPbn, BadLayouts, NoTurn, Spent, Unwritten, Memory, TooLong, BadReport, BadMake, NoLayout, BadLog, Unproved}
 use Rattle.job_words.specs.declared.asks.Search.{Search}
 use Rattle.layout_maker.specs.MadeProblem.{made_deal, made_layouts}
 use Rattle.am_answer.specs.declared.root.Root.{Root}
@@ -46,6 +46,8 @@ refused_inputs words files (TooLong file) is = answer-refused words files (TooLo
 refused_inputs words files (BadReport line kind) is = absurd is
 refused_inputs words files (BadMake fault) is = absurd is
 refused_inputs words files (NoLayout layout) is = absurd is
+refused_inputs words files (BadLog line) is = absurd is
+refused_inputs words files (Unproved number) is = absurd is
 
 -- a task that is refused
 refused_task : (found : Result TaskValue Status) (status : Status) → IsTaskRefusal found status → IsRefusal found status
@@ -63,6 +65,8 @@ refused_task found (TooLong file) is = absurd is
 refused_task found (BadReport line kind) is = is
 refused_task found (BadMake fault) is = is
 refused_task found (NoLayout layout) is = is
+refused_task found (BadLog line) is = is
+refused_task found (Unproved number) is = is
 
 -- where the shelf tells its files
 

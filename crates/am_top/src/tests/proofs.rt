@@ -11,8 +11,7 @@ use std::thread::Threads;
 const SAMPLED_REPORT: &str =
     "alphamu report 1\ndeclarer S\ntrump NT\nneed 1\nhand S KJ...\nhand N 32...\ntrick N -\nturn N\nmoves 1\nkept 1 2\nfront 1\nvector 11 count 2\nplay S2\nstop\ncard S2 count 2\nend\n";
 
-const SAMPLED_LOG: &str =
-    "alphamu log 1\nleaf S2 0 - 11\nleaf S3 0 - 11\nunion - 1 1,2 11\nend\n";
+const SAMPLED_LOG: &str = "alphamu log 1\nleaf S2 0 - 11\nleaf S3 0 - 11\nunion - 1 1,2 11\nend\n";
 
 // The log of two moves has 21 lines.
 const QUEEN_LOG: &str =

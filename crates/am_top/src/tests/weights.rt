@@ -59,8 +59,7 @@ fn sampling_goes_by_weight(rt: HostRuntime) -> Result<(), Fail> {
 fn a_match_is_by_the_first_printed_strategy(rt: HostRuntime) -> Result<(), Fail> {
     let words = "--job match --deal deal --layouts layouts --moves 2 --layout 1";
     let run = ran(&rt, rt.alloc(), words, QUEEN, WEIGHED_LAYOUTS)?;
-    let played =
-        "alphamu match 1\nlayout 1\nbit 0\ncards S2 S7 SJ S5 SK SQ S3 SA\nmade 1\n";
+    let played = "alphamu match 1\nlayout 1\nbit 0\ncards S2 S7 SJ S5 SK SQ S3 SA\nmade 1\n";
     assert!(rt; run.ends_with(Status::Done, played, ""));
     Ok(())
 }
@@ -113,7 +112,13 @@ fn layouts_of(alloc: Global, aces: usize, queens: usize) -> Result<String, Alloc
 #[test]
 fn of_256_layouts_200_are_made(rt: HostRuntime) -> Result<(), Fail> {
     let alloc = rt.alloc();
-    let run = ran(&rt, alloc, CARD, QUEEN, layouts_of(alloc, 200, 56)?.as_str())?;
+    let run = ran(
+        &rt,
+        alloc,
+        CARD,
+        QUEEN,
+        layouts_of(alloc, 200, 56)?.as_str(),
+    )?;
     let named = "alphamu card 1\ncard S2 count 200 of 256\n";
     assert!(rt; run.ends_with(Status::Done, named, ""));
     Ok(())

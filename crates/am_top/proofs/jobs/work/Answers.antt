@@ -9,3 +9,7 @@ returns-in-Solve-clause-text g c = rw (c.in-Solve.is) (texts_for_at c.solve.resu
 pub returns-in-Solve-clause-refused : goal.returns-in-Solve-clause-refused
 unfolding task_at
 returns-in-Solve-clause-refused g c = rw (c.in-Solve.is) c.solve.ensures.refused
+
+pub returns-in-Prove-clause-refused : goal.returns-in-Prove-clause-refused
+unfolding task_at
+returns-in-Prove-clause-refused g c = rw (c.in-Prove.is) c.prove_front.ensures.refused
