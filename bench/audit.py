@@ -17,7 +17,7 @@ from search import BUILD, random_ending
 from timing import processor_seconds
 
 MOST_BYTES = 16_777_216
-ENDINGS = [(4, 8, 3, 1), (5, 20, 3, 2), (5, 64, 3, 4), (6, 4, 4, 5)]
+ENDINGS = [(4, 8, 3, 1), (5, 20, 3, 2), (5, 64, 3, 4)]
 
 
 def raised(line, by):

@@ -20,8 +20,13 @@ use std::marker::Model;
 use trick_rules::Node;
 use win_vectors::WinVector;
 
-/// How many plans are remembered.
-const SLOTS: usize = 65_536;
+/// How many plans are remembered while the text is short, and how many later.
+const FEW_SLOTS: usize = 1024;
+
+const MOST_SLOTS: usize = 65_536;
+
+/// How many bytes a short text has at most.
+const SHORT: usize = 65_536;
 
 /// A node, a number of moves, a vector, and where the lines of the plan that is chosen for it begin
 /// and end.
@@ -66,12 +71,12 @@ impl Model for PlanWriter {
     ghost invariant = { λ writer. AllStand writer.text.items writer.slots.items };
 }
 
-// A slot with nothing in it, as often as there are slots.
-fn empty_slots(alloc: Global) -> Result<Vec<Option<WrittenPlan>>, AllocError>
+// So many slots with nothing in them.
+fn empty_slots(alloc: Global, count: usize) -> Result<Vec<Option<WrittenPlan>>, AllocError>
     ensures { IfOk result (λ slots. All (λ slot. slot ≡ None) slots.items) }
 {
-    let mut slots = Vec::with_capacity(alloc, SLOTS)?;
-    for _ in 0..SLOTS {
+    let mut slots = Vec::with_capacity(alloc, count)?;
+    for _ in 0..count {
         slots.push(None)?;
     }
     Ok(slots)
@@ -148,12 +153,15 @@ impl PlanWriter {
         Ok(true)
     }
 
-    // Takes the memory of the slots, if it isn't taken.
+    // Takes the memory of the slots, if it isn't taken: of more, once the text is long.
     fn make_slots(&mut self) -> Result<(), AllocError>
         ensures { self.new ≡ self.old }
     {
         if self.slots.is_empty() {
-            self.slots = empty_slots(self.alloc)?;
+            self.slots = empty_slots(self.alloc, FEW_SLOTS)?;
+        }
+        if self.slots.len() < MOST_SLOTS && self.text.len() > SHORT {
+            self.slots = empty_slots(self.alloc, MOST_SLOTS)?;
         }
         Ok(())
     }
