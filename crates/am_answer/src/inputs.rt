@@ -30,8 +30,8 @@ pub enum Work {
     Check {
         report: Text,
     },
-    /// The log that proves the front complete, by so many moves of declarer's side, where the tree of
-    /// each root card has so many nodes at most.
+    /// The log that proves the front complete, by so many moves of declarer's side, where the tree
+    /// of each root card has so many nodes at most.
     Prove {
         moves: u8,
         nodes: u64,

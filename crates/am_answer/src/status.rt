@@ -82,9 +82,9 @@ pub enum Status {
     NoLayout(u16),
     /// The log is refused at this line.
     BadLog(u32),
-    /// The log doesn't prove the report complete: the first of its lines that doesn't follow, counted
-    /// from 1 without the first line of the file; or the number after the last, where all follow and
-    /// the last one leaves out what the report has to cover.
+    /// The log doesn't prove the report complete: the first of its lines that doesn't follow,
+    /// counted from 1 without the first line of the file; or the number after the last, where all
+    /// follow and the last one leaves out what the report has to cover.
     Unproved(u32),
 }
 

@@ -152,8 +152,8 @@ fn read_ask(alloc: Global, words: &[String]) -> Result<Ask<'_>, Status>
     }
 }
 
-/// Reads the words, then the files that they name: the deal, then the layouts, then the report, then
-/// the log. The problem of a number needs no file.
+/// Reads the words, then the files that they name: the deal, then the layouts, then the report,
+/// then the log. The problem of a number needs no file.
 #[tactic(auto, unfolding(am_answer::specs::Files::inputs_read))]
 pub fn read_inputs<S: Shelf>(
     alloc: Global,

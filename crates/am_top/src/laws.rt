@@ -1,5 +1,6 @@
 //! What a report says, in the words of the game. A call does nothing: its contract is the law.
-ghost use Rattle.std.specs.Prelude.{◌≡◌, ◌≤◌, ◌<◌, ◌^◌, ℕ, Bool, true, List, Some, Ok, length, map, All, Contains};
+ghost use Rattle.std.specs.Prelude.{◌≡◌, ◌≤◌, ◌<◌, ◌^◌, ℕ, Bool, true, List, Some, Ok};
+ghost use Rattle.std.specs.Prelude.{length, map, All, Contains};
 ghost use Rattle.win_vectors.specs.Weights.{weight_of, IsWeight};
 ghost use Rattle.win_vectors.specs.Fronts.{Covers};
 ghost use Rattle.trick_rules.specs.Nodes.{NodeValue, IsNode, most_moves};
@@ -24,7 +25,8 @@ ghost use Rattle.am_answer.specs.Reports.{IsSolveAnswer, IsText};
 /// plan, or else it isn't.
 pub fn printed_plan_wins()
     ensures { (n : NodeValue) (weights : List ℕ) (moves : ℕ) (found : SolveAnswerValue)
-        (entry : EntryValue) → IsNode n → IsSolveAnswer n weights moves found → Contains found.entries entry
+        (entry : EntryValue) → IsNode n → IsSolveAnswer n weights moves found
+        → Contains found.entries entry
         → Fits bridge entry.plan n moves × (wins_vector bridge entry.plan n ≡ entry.vector) }
 {}
 

@@ -93,8 +93,8 @@ fn deliver<O: Sink, E: Sink>(text: &Text, out: &mut O, err: &mut E) -> Status
 ///
 /// The whole text is made before its first byte is written. The first refusal ends the run, in the
 /// order: words, the deal file, the layout file, the report, the log, the board, the layouts, whose
-/// turn it is, the report's grammar, the log's grammar, the work of the job, the output. A step that
-/// the job doesn't need is left out.
+/// turn it is, the report's grammar, the log's grammar, the work of the job, the output. A step
+/// that the job doesn't need is left out.
 ///
 /// A match is played at the table of three defenders: the first sits at Left, the second at Right,
 /// and with `--switch` the third is taken from the table and comes to Left's seat before the card

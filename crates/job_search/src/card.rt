@@ -14,7 +14,8 @@ use root_workers::root_card;
 use std::alloc::Global;
 use std::thread::Threads;
 
-/// The first card that keeps the best weight, with that weight, by so many moves of declarer's side.
+/// The first card that keeps the best weight, with that weight, by so many moves of declarer's
+/// side.
 /// Refused as `solve` is.
 pub fn name_card<R: Threads + Sync, G: Gate>(
     rt: &R,

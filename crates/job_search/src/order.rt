@@ -1,5 +1,6 @@
 //! The vectors of a front as a report lists them.
-ghost use Rattle.std.specs.Prelude.{◌≡◌, ◌==◌, IfOk, length, All, AllPairs, IsPermutation, if◌then◌else◌};
+ghost use Rattle.std.specs.Prelude.{◌≡◌, ◌==◌, IfOk, length, All, AllPairs, IsPermutation};
+ghost use Rattle.std.specs.Prelude.{if◌then◌else◌};
 ghost use Rattle.win_vectors.specs.Fronts.{Precedes};
 ghost use Rattle.win_vectors.specs.Weights.{weight_of, IsReportedBefore};
 ghost use Rattle.front_table.specs.Proven.{IsFrontAt};

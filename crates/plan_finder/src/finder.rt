@@ -21,8 +21,8 @@ use win_vectors::WinVector;
 ///
 /// At declarer's side it takes the first card after which some vector of the front dominates the
 /// target. At a defender it goes on, after each card, with the first vector of the front there that
-/// dominates the target's part. Each child that it has to judge is searched with a budget of so many
-/// nodes for itself, and with each cut or none.
+/// dominates the target's part. Each child that it has to judge is searched with a budget of so
+/// many nodes for itself, and with each cut or none.
 ///
 /// `Spent` names a card of the node after which the tree is larger than the budget. It doesn't come
 /// after the plan's first card.

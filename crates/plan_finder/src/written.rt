@@ -20,8 +20,8 @@ use win_vectors::WinVector;
 
 impl PlanWriter {
     /// Adds the lines of the plan that `plan_for` gives for a target. What was written before, for
-    /// vectors of this front or of others, is copied in place of a search. Refused as `plan_for` is;
-    /// some of the lines may be written then.
+    /// vectors of this front or of others, is copied in place of a search. Refused as `plan_for`
+    /// is; some of the lines may be written then.
     pub fn push_plan<S: FrontStore>(
         &mut self,
         store: &mut S,
@@ -122,8 +122,8 @@ fn write_below<S: FrontStore>(
     write_replies(out, alloc, store, solver, node, moves, vector, nodes, cuts)
 }
 
-// The plan for a vector of the front of a node where declarer's side plays, copied if it was written
-// before.
+// The plan for a vector of the front of a node where declarer's side plays, copied if it was
+// written before.
 #[cycle(write)]
 fn write_remembered<S: FrontStore>(
     out: &mut PlanWriter,
