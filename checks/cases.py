@@ -122,19 +122,32 @@ def report(cases, told):
     return sum(bool(lines) for lines in told)
 
 
-def main():
-    parser = argparse.ArgumentParser(description="Runs alphamu on the repository's cases.", allow_abbrev=False)
+def parser_of(description):
+    """A parser of the words that each check over the cases takes."""
+    parser = argparse.ArgumentParser(description=description, allow_abbrev=False)
     parser.add_argument("program", nargs="?", default=LAUNCHER)
     parser.add_argument("--jobs", type=int, default=len(os.sched_getaffinity(0)))
     parser.add_argument("--seconds", type=float, default=300)
     parser.add_argument("--only", default="*", metavar="PATTERN")
+    return parser
+
+
+def is_ready(program, check):
+    """Whether there is a program to run. Says so where there is none."""
+    lacking = lacks_program() if program == LAUNCHER else None
+    if lacking:
+        print(f"{check}: {lacking}")
+    return not lacking
+
+
+def main():
+    parser = parser_of("Runs alphamu on the repository's cases.")
     given = parser.parse_args()
     every = names_of_cases()
-    lacking = lacks_program() if given.program == LAUNCHER else None
-    if not lacking and len(every) < LEAST:
-        lacking = f"there are {len(every)} cases, and not {LEAST} or more"
-    if lacking:
-        print(f"cases: {lacking}")
+    if not is_ready(given.program, "cases"):
+        return 1
+    if len(every) < LEAST:
+        print(f"cases: there are {len(every)} cases, and not {LEAST} or more")
         return 1
     program, cases = os.path.abspath(given.program), fnmatch.filter(every, given.only)
     with ThreadPoolExecutor(given.jobs) as pool:

@@ -6,13 +6,12 @@ once more where one who plays high sits at declarer's left from the first card o
 vector of the report, and a layout with a 1 must be made. Where no program is named it is ./alphamu, as for cases.py.
 The exit status is 0 only where nothing differs and something was played.
 """
-import argparse
 import fnmatch
 import os
 import sys
 from concurrent.futures import ThreadPoolExecutor
 
-from cases import LAUNCHER, expected, lacks_program, names_of_cases, run, words_of
+from cases import expected, is_ready, names_of_cases, parser_of, run, words_of
 from options import job_of
 
 CHOICES = ([], [b"--switch", b"1"])
@@ -58,15 +57,9 @@ def plays(cases):
 
 
 def main():
-    parser = argparse.ArgumentParser(description="Plays the layouts of alphamu's cases out.", allow_abbrev=False)
-    parser.add_argument("program", nargs="?", default=LAUNCHER)
-    parser.add_argument("--jobs", type=int, default=len(os.sched_getaffinity(0)))
-    parser.add_argument("--seconds", type=float, default=300)
-    parser.add_argument("--only", default="*", metavar="PATTERN")
+    parser = parser_of("Plays the layouts of alphamu's cases out.")
     given = parser.parse_args()
-    lacking = lacks_program() if given.program == LAUNCHER else None
-    if lacking:
-        print(f"matches: {lacking}")
+    if not is_ready(given.program, "matches"):
         return 1
     program = os.path.abspath(given.program)
     matches = list(plays(fnmatch.filter(names_of_cases(), given.only)))

@@ -7,13 +7,12 @@ and with two of the choices for several workers, which go round from case to cas
 Where no program is named it is ./alphamu, as for cases.py. Prints the runs that wrote something else, or that ended
 otherwise than done or spent. The exit status is 0 only where there is none, and some run of each choice was done.
 """
-import argparse
 import fnmatch
 import os
 import sys
 from concurrent.futures import ThreadPoolExecutor
 
-from cases import LAUNCHER, expected, lacks_program, names_of_cases, run, words_of
+from cases import expected, is_ready, names_of_cases, parser_of, run, words_of
 
 # A table of one entry stands for a table that is always full.
 ONE_WORKER = [
@@ -66,16 +65,10 @@ def judge(program, case, choice, seconds):
 
 
 def main():
-    parser = argparse.ArgumentParser(description="Runs alphamu's searches with each option.", allow_abbrev=False)
-    parser.add_argument("program", nargs="?", default=LAUNCHER)
-    parser.add_argument("--jobs", type=int, default=len(os.sched_getaffinity(0)))
-    parser.add_argument("--seconds", type=float, default=300)
-    parser.add_argument("--only", default="*", metavar="PATTERN")
+    parser = parser_of("Runs alphamu's searches with each option.")
     parser.add_argument("--whole", action="store_true")
     given = parser.parse_args()
-    lacking = lacks_program() if given.program == LAUNCHER else None
-    if lacking:
-        print(f"options: {lacking}")
+    if not is_ready(given.program, "options"):
         return 1
     program = os.path.abspath(given.program)
     names = fnmatch.filter(names_of_cases(), given.only)

@@ -8,7 +8,6 @@ audited too, and what comes of it must be what a second reading of the rules say
 program is named it is ./alphamu, as for cases.py. The exit status is 0 only where nothing differs, and some damaged logs were
 refused and some still prove all.
 """
-import argparse
 import fnmatch
 import os
 import random
@@ -17,7 +16,7 @@ from concurrent.futures import ProcessPoolExecutor
 
 sys.dont_write_bytecode = True
 import reading
-from cases import LAUNCHER, bytes_of, expected, lacks_program, names_of_cases, run, words_of
+from cases import bytes_of, expected, is_ready, names_of_cases, parser_of, run, words_of
 
 NODES = b"10000"
 REPORT, LOG = b"report.of.the.case", b"log.of.the.case"
@@ -128,15 +127,9 @@ def judge(program, case, options, seconds):
 
 
 def main():
-    parser = argparse.ArgumentParser(description="Proves the reports of alphamu's cases complete.", allow_abbrev=False)
-    parser.add_argument("program", nargs="?", default=LAUNCHER)
-    parser.add_argument("--jobs", type=int, default=len(os.sched_getaffinity(0)))
-    parser.add_argument("--seconds", type=float, default=300)
-    parser.add_argument("--only", default="*", metavar="PATTERN")
+    parser = parser_of("Proves the reports of alphamu's cases complete.")
     given = parser.parse_args()
-    lacking = lacks_program() if given.program == LAUNCHER else None
-    if lacking:
-        print(f"proofs: {lacking}")
+    if not is_ready(given.program, "proofs"):
         return 1
     program = os.path.abspath(given.program)
     tried = [(case, asked(case)) for case in fnmatch.filter(names_of_cases(), given.only)]
