@@ -8,8 +8,8 @@ use crate::order::TURNS;
 use card_sets::Card;
 use std::alloc::Global;
 
-/// The most entries of a memo.
-const MOST_ENTRIES: usize = 262_144;
+/// The most entries that a memo may have.
+pub(crate) const MOST_ENTRIES: u32 = 262_144;
 
 /// The entries of the first table. Each later table has four times as many.
 const FIRST_ENTRIES: usize = 256;
@@ -126,14 +126,14 @@ fn put_all(slots: &mut [Option<Entry>], others: &[Option<Entry>]) {
     }
 }
 
-// How many slots a table has that takes the place of one with so many.
-fn wider_size(slots: usize) -> usize
-    ensures { result ≤ 262144 }
+// How many slots a table has that takes the place of one with so many, where there may be `most`.
+fn wider_size(slots: usize, most: usize) -> usize
+    ensures { result ≤ most }
 {
     if slots == 0 {
-        FIRST_ENTRIES
+        FIRST_ENTRIES.min(most)
     } else {
-        slots.saturating_mul(4).min(MOST_ENTRIES)
+        slots.saturating_mul(4).min(most)
     }
 }
 
@@ -142,17 +142,22 @@ fn wider_size(slots: usize) -> usize
 #[derive(Debug, Drop)]
 pub(crate) struct Memo {
     alloc: Global,
+    most: usize,
     slots: Vec<Option<Entry>>,
     stored: usize,
     favourites: [Option<Card>; TURNS],
-    ghost few: { vec_len slots ≤ 262144 },
+    ghost bounded: { most ≤ 262144 },
+    ghost few: { vec_len slots ≤ most },
 }
 
 impl Memo {
-    /// A memo that holds nothing. It takes no memory.
-    pub(crate) fn new(alloc: Global) -> Memo {
+    /// A memo that holds nothing and will have so many entries at most. It takes no memory.
+    pub(crate) fn new(alloc: Global, most: u32) -> Memo
+        requires { most ≤ 262144 }
+    {
         Memo {
             alloc,
+            most: most as usize,
             slots: Vec::new(alloc),
             stored: 0,
             favourites: [None; TURNS],
@@ -200,7 +205,7 @@ impl Memo {
         requires fits { need ≤ 13 }
         requires known { IsAnswer key.now need made }
     {
-        if self.stored >= self.slots.len() / 2 && self.slots.len() < MOST_ENTRIES {
+        if self.stored >= self.slots.len() / 2 && self.slots.len() < self.most {
             self.grow();
         }
         let entry = match self.entry(key) {
@@ -214,7 +219,7 @@ impl Memo {
     // Puts the entries into a wider table. Where there is no memory for it, the old one stays.
     fn grow(&mut self) {
         self.stored = 0;
-        if let Ok(mut wider) = Vec::from_elem(self.alloc, None, wider_size(self.slots.len())) {
+        if let Ok(mut wider) = Vec::from_elem(self.alloc, None, wider_size(self.slots.len(), self.most)) {
             put_all(wider.as_mut_slice(), self.slots.as_slice());
             self.slots = wider;
         }

@@ -1,9 +1,9 @@
 //! A solver that is asked again and again.
-ghost use Rattle.std.specs.Prelude.{◌≡◌};
+ghost use Rattle.std.specs.Prelude.{◌≡◌, ◌≤◌};
 ghost use Rattle.trick_rules.specs.Positions.{FitsLeft};
 ghost use Rattle.trick_rules.specs.Play.{makes as makes_of};
 
-use crate::memo::Memo;
+use crate::memo::{MOST_ENTRIES, Memo};
 use crate::search::search;
 use card_sets::CardSet;
 use std::alloc::Global;
@@ -16,11 +16,19 @@ pub struct Solver {
 }
 
 impl Solver {
-    /// A solver that remembers nothing yet, by no memory. No clause says so, since what it
-    /// remembers changes no answer.
+    /// A solver that remembers nothing yet, by no memory, and at most 262,144 positions later. No
+    /// clause says so, since what it remembers changes no answer.
     pub fn new(alloc: Global) -> Solver {
+        Solver::with_memo(alloc, MOST_ENTRIES)
+    }
+
+    /// The same, where at most so many positions are remembered later. With fewer than two it
+    /// never takes memory.
+    pub fn with_memo(alloc: Global, limit: u32) -> Solver
+        requires { limit ≤ 262144 }
+    {
         Solver {
-            memo: Memo::new(alloc),
+            memo: Memo::new(alloc, limit),
         }
     }
 
