@@ -72,14 +72,6 @@ impl Entries {
         self.list.as_slice()
     }
 
-    /// The list of the entries, in the order in which they came.
-    pub fn into_list(self) -> Vec<StoredFront>
-        ensures value { result.items ≡ self }
-        ensures once { HasKeysOnce self }
-    {
-        self.list
-    }
-
     /// Looks for the front of a node with so many moves, and leaves it in `out` where it is there.
     /// It takes no memory.
     pub fn look(&self, node: &Node, moves: u8, out: &mut Front) -> bool
