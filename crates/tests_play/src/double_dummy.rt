@@ -74,6 +74,18 @@ fn one_trick_in_both_layouts(rt: HostRuntime) -> Result<(), AllocError> {
     Ok(())
 }
 
+/// A solver that may remember one position, or none, answers the same.
+#[test]
+fn one_trick_by_a_memo_of_one_or_none(rt: HostRuntime) -> Result<(), AllocError> {
+    let node = node_of(&rt, rt.alloc(), GUESS)?;
+    for limit in 0..2 {
+        let mut solver = Solver::with_memo(rt.alloc(), limit);
+        assert!(rt; makes(&rt, &mut solver, &node, 0));
+        assert!(rt; makes(&rt, &mut solver, &node, 1));
+    }
+    Ok(())
+}
+
 /// Numbers that follow one another without an order that shows.
 #[derive(Drop)]
 struct Draws {
@@ -151,6 +163,24 @@ fn agreed(rt: &impl Abort, solver: &mut Solver, draws: &mut Draws) -> bool {
     let made = solver.makes(&position, left);
     assert_eq!(rt; makes_plain(&position, left), made);
     made
+}
+
+/// So does one that may remember no more than these: its memo is soon full, and each position takes
+/// the place of another.
+#[test]
+fn as_plain_minimax_with_few_places(rt: HostRuntime) {
+    for limit in [2, 3, 100, 300] {
+        let mut solver = Solver::with_memo(rt.alloc(), limit);
+        let mut draws = Draws { state: 20_191_118 };
+        let mut made: u32 = 0;
+        for _ in 0..100 {
+            if agreed(&rt, &mut solver, &mut draws) {
+                made = made.saturating_add(1);
+            }
+        }
+        assert!(rt; made > 20);
+        assert!(rt; made < 80);
+    }
 }
 
 /// One solver is asked about 2,100 endings, so that it meets what it remembers of earlier ones.
