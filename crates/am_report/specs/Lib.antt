@@ -10,6 +10,7 @@ pub mod Audit
 pub mod Made
 pub mod Match
 pub mod Fusion
+pub mod Boards
 pub mod LayoutFile
 pub mod ReportLines
 pub mod Reading

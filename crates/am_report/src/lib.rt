@@ -8,6 +8,7 @@
 
 mod answer;
 mod audit;
+mod boards;
 mod card;
 mod check;
 mod fault;
@@ -26,6 +27,7 @@ mod version;
 
 pub use answer::{Entry, ReadEntry, SolveAnswer};
 pub use audit::audit_text;
+pub use boards::{GameText, boards_text};
 pub use card::card_text;
 pub use check::check_text;
 pub use fault::{ReportFault, ReportKind};
