@@ -1,28 +1,32 @@
 #!/usr/bin/env python3
-"""Makes an evening: 24 boards after seven tricks, and twenty layouts for each.
+"""Makes an evening: 24 boards after six tricks, and up to twenty layouts for each.
 
 Usage: examples/evening/make.py FOLDER. It writes FOLDER/evening.pbn, the games of all boards with an empty line between two, and
 FOLDER/evening.lay.1 to FOLDER/evening.lay.24. The same bytes come each time: the cards are drawn by a generator of its own.
 
-Board 17 was passed out. On the others the side that took more of the first seven tricks is declarer's, and its contract needs
-half of the six tricks that are left, as far as there is such a contract. Cards were played without thought: each seat leads a
-card by chance and plays to a trick a card that follows suit where it can, the lowest such card or, half the time, the highest.
-A layout gives each defender the cards that it has played and six of those that are left, by chance; what the play contradicts
-is dropped by alphamu. The first layout is the true one."""
+The side with more high cards plays in its longest suit, or without trumps where it has no eight cards in one. It draws trumps
+first; else each seat leads from its longest side suit. Second hand plays low, and later ones win as cheaply as they can. After
+six tricks the question comes at the next turn of declarer's side. The seeds and the levels of the contracts were chosen so that
+most boards have something to choose; board 17 was passed out. The layouts are dealt by chance from the cards that the
+defenders have left, and none gives a suit to a defender who has shown out of it; the true one stands among them."""
 import pathlib
 import sys
 
-BOARDS, PASSED_OUT, TRICKS, LAYOUTS = 24, 17, 7, 20
+# The seed and the level of each board, in their order; board 17 has none.
+BOARDS = [(16, 2), (23, 4), (36, 3), (47, 1), (53, 4), (31, 3), (102, 4), (80, 3), (91, 3), (94, 1), (113, 2), (119, 3), (144, 4), (152, 4),
+          (138, 5), (239, 4), None, (188, 5), (222, 3), (235, 4), (256, 3), (4, 3), (206, 2), (177, 3)]
+LAYOUTS, TRICKS = 20, 6
 SEATS, SUITS, RANKS = "NESW", "SHDC", "23456789TJQKA"
-STRAINS = ("NT", "S", "H", "D", "C")
 PACK = [suit + rank for suit in SUITS for rank in RANKS]
+POINTS = {"A": 4, "K": 3, "Q": 2, "J": 1}
+VULNERABLE = "None NS EW All NS EW All None EW All None NS All None NS EW".split()
 
 
 class Chance:
     """Numbers without an order that shows, the same in each run."""
 
     def __init__(self, seed):
-        self.state = seed
+        self.state = seed * 2654435761
 
     def below(self, bound):
         self.state = (self.state * 6364136223846793005 + 1442695040888963407) % 2**64
@@ -40,110 +44,154 @@ def rank(card):
     return RANKS.index(card[1])
 
 
+def points(hand):
+    return sum(POINTS.get(card[1], 0) for card in hand)
+
+
+def in_suit(hand, suit):
+    return [card for card in hand if card[0] == suit]
+
+
 def written(hand):
     """A hand as PBN has it."""
-    return ".".join("".join(sorted((c[1] for c in hand if c[0] == suit), key=RANKS.index, reverse=True)) for suit in SUITS)
+    return ".".join("".join(card[1] for card in sorted(in_suit(hand, suit), key=rank, reverse=True)) for suit in SUITS)
 
 
-def winner(trick, leader, trump):
-    """The seat that takes a trick."""
-    def strength(card):
-        return (card[0] == trump, card[0] == trick[0][0], rank(card))
-    return (leader + max(range(4), key=lambda place: strength(trick[place]))) % 4
+class Table:
+    """Hands by seat, the declarer, the trumps, and the tricks so far, each with its leader."""
 
-
-def card_to(trick, hand, chance):
-    """The card that a seat plays to a trick."""
-    if not trick:
-        return chance.shuffled(sorted(hand))[0]
-    following = [c for c in hand if c[0] == trick[0][0]] or hand
-    return sorted(following, key=lambda c: (rank(c), c))[-1 if chance.below(2) else 0]
-
-
-def played(hands, leader, trump, chance):
-    """The first tricks, and who has taken each."""
-    hands, tricks, takers = [list(hand) for hand in hands], [], []
-    for _ in range(TRICKS):
-        trick = []
-        for place in range(4):
-            seat = (leader + place) % 4
-            card = card_to(trick, hands[seat], chance)
-            hands[seat].remove(card)
-            trick.append(card)
-        tricks.append((leader, trick))
-        leader = winner(trick, leader, trump)
-        takers.append(leader)
-    return tricks, takers
-
-
-def contract(declarer, takers):
-    """The level at which half of the tricks that are left are needed, or the nearest there is."""
-    taken = sum(1 for seat in takers if seat % 2 == declarer % 2)
-    return min(7, max(1, taken + (13 - TRICKS) // 2 - 6))
-
-
-def on_turn(takers, declarer):
-    return takers[-1] % 2 == declarer % 2
-
-
-def deal(chance):
-    """Hands, declarer, trumps and the play of a board where it is the turn of declarer's side after the first tricks."""
-    while True:
+    def __init__(self, chance):
         cards = chance.shuffled(PACK)
-        hands = [cards[place * 13:place * 13 + 13] for place in range(4)]
-        declarer, strain = chance.below(4), STRAINS[chance.below(5)]
-        tricks, takers = played(hands, (declarer + 1) % 4, strain, chance)
-        if on_turn(takers, declarer) and 3 <= sum(1 for s in takers if s % 2 == declarer % 2) <= 6:
-            return hands, declarer, strain, tricks, takers
+        self.dealt = [cards[place * 13:place * 13 + 13] for place in range(4)]
+        self.hands = [list(hand) for hand in self.dealt]
+        self.trump, self.declarer = contract_of(self.dealt)
+        self.leader, self.tricks = (self.declarer + 1) % 4, []
+
+    def is_declarers(self, seat):
+        return seat % 2 == self.declarer % 2
+
+    def defenders(self):
+        return [(self.declarer + 1) % 4, (self.declarer + 3) % 4]
+
+    def strength(self, card, led):
+        """What takes a trick: trumps before the suit led, and high cards before low ones."""
+        return card[0] == self.trump, card[0] == led, rank(card)
+
+    def winner(self, trick):
+        """The place of the card that has the trick."""
+        return max(range(len(trick)), key=lambda place: self.strength(trick[place], trick[0][0]))
+
+    def lead(self, seat):
+        """The highest card of a suit where nothing higher is out against it, and else the lowest."""
+        hand, against = self.hands[seat], self.hands[(seat + 1) % 4] + self.hands[(seat + 3) % 4]
+        draws = self.is_declarers(seat) and in_suit(hand, self.trump) and in_suit(against, self.trump)
+        side = [suit for suit in SUITS if suit != self.trump and in_suit(hand, suit)]
+        suit = self.trump if draws or not side else max(side, key=lambda it: len(in_suit(hand, it)))
+        low, high = (pick(in_suit(hand, suit), key=rank) for pick in (min, max))
+        return low if any(rank(card) > rank(high) for card in in_suit(against, suit)) else high
+
+    def follow(self, seat, trick):
+        """Second hand low; else the cheapest card that takes the trick from the other side, or the lowest."""
+        led, hand = trick[0][0], self.hands[seat]
+        same, best = in_suit(hand, led), self.winner(trick)
+        beating = [card for card in same or hand if self.strength(card, led) > self.strength(trick[best], led)]
+        if beating and len(trick) - best != 2 and not (same and len(trick) == 1):
+            return min(beating, key=rank)
+        loose = same or [card for card in hand if card[0] != self.trump] or hand
+        return min(loose, key=lambda card: (-len(in_suit(loose, card[0])), rank(card)))
+
+    def play(self, cards):
+        """A trick of so many cards; a whole one gives the lead to the seat that takes it."""
+        trick = []
+        for place in range(cards):
+            seat = (self.leader + place) % 4
+            card = self.follow(seat, trick) if trick else self.lead(seat)
+            self.hands[seat].remove(card)
+            trick.append(card)
+        self.tricks.append((self.leader, trick))
+        if cards == 4:
+            self.leader = (self.leader + self.winner(trick)) % 4
+
+    def taken(self):
+        """The tricks that declarer's side has."""
+        whole = [(leader, trick) for leader, trick in self.tricks if len(trick) == 4]
+        return sum(self.is_declarers(leader + self.winner(trick)) for leader, trick in whole)
+
+    def shown_out(self, seat):
+        """The suits to which a seat hasn't followed."""
+        cards = [(trick[0][0], trick[(seat - leader) % 4]) for leader, trick in self.tricks if (seat - leader) % 4 < len(trick)]
+        return {led for led, card in cards if card[0] != led}
+
+
+def contract_of(hands):
+    """Trumps, or NT, and the declarer: who has more of them, or more points where there are none."""
+    first = 0 if points(hands[0] + hands[2]) >= 20 else 1
+    both = hands[first] + hands[first + 2]
+    suit = max(SUITS, key=lambda it: len(in_suit(both, it)))
+    trump = suit if len(in_suit(both, suit)) >= 8 else "NT"
+    return trump, max(first, first + 2, key=lambda seat: (len(in_suit(hands[seat], trump)), points(hands[seat])))
+
+
+def board(chance, tricks):
+    """A board after so many tricks, at the next turn of declarer's side."""
+    table = Table(chance)
+    for _ in range(tricks):
+        table.play(4)
+    if not table.is_declarers(table.leader):
+        table.play(1)
+    return table
 
 
 def row(first, leader, trick):
     """A trick as a row of the Play section, whose columns begin at the seat that led first."""
-    return " ".join(trick[(first + column - leader) % 4] for column in range(4))
+    places = [(first + column - leader) % 4 for column in range(4)]
+    return " ".join(trick[place] if place < len(trick) else "-" for place in places)
 
 
-def game(number, hands, declarer, strain, tricks, takers):
-    first = (declarer + 1) % 4
-    lines = ['[Event "Club evening"]', '[Board "%d"]' % number,
-             '[Deal "N:%s"]' % " ".join(written(hand) for hand in hands),
-             '[Declarer "%s"]' % SEATS[declarer], '[Contract "%d%s"]' % (contract(declarer, takers), strain),
-             '[Play "%s"]' % SEATS[first]]
-    return lines + [row(first, leader, trick) for leader, trick in tricks] + ["*"]
+def head(number, hands):
+    return ['[Event "Club evening"]', '[Board "%d"]' % number, '[Dealer "%s"]' % SEATS[(number - 1) % 4],
+            '[Vulnerable "%s"]' % VULNERABLE[(number - 1) % 16], '[Deal "N:%s"]' % " ".join(map(written, hands))]
 
 
-def passed_out(number, hands):
-    return ['[Event "Club evening"]', '[Board "%d"]' % number, '[Deal "N:%s"]' % " ".join(written(hand) for hand in hands),
-            '[Contract "Pass"]']
+def game(number, table, level):
+    first = (table.declarer + 1) % 4
+    lines = ['[Declarer "%s"]' % SEATS[table.declarer], '[Contract "%d%s"]' % (level, table.trump), '[Play "%s"]' % SEATS[first]]
+    return head(number, table.dealt) + lines + [row(first, leader, trick) for leader, trick in table.tricks] + ["*"]
 
 
-def layouts(hands, declarer, tricks, chance):
-    """The true layout, and others by chance."""
-    defenders = [(declarer + 1) % 4, (declarer + 3) % 4]
-    gone = {card for _, trick in tricks for card in trick}
-    left = sorted(card for seat in defenders for card in hands[seat] if card not in gone)
-    lines = ["N:" + " ".join(written(hand) for hand in hands)]
-    while len(lines) < LAYOUTS:
-        cards = chance.shuffled(left)
-        half = len(cards) // 2
-        guess = [list(hand) for hand in hands]
-        for seat, share in zip(defenders, (cards[:half], cards[half:])):
-            guess[seat] = [card for card in hands[seat] if card in gone] + share
-        lines.append("N:" + " ".join(written(hand) for hand in guess))
+def layouts(table, chance, count):
+    """The true layout and others that the play allows, in no order, up to so many."""
+    left, right = table.defenders()
+    voids = table.shown_out(left), table.shown_out(right)
+    fixed = [card for card in table.hands[left] + table.hands[right] if card[0] in voids[0] | voids[1]]
+    free = sorted(card for card in table.hands[left] + table.hands[right] if card not in fixed)
+    given = [[card for card in fixed if card[0] in voids[1 - side]] for side in (0, 1)]
+    room, found = len(table.hands[left]) - len(given[0]), {frozenset(table.hands[left])}
+    for _ in range(40 * count):
+        if len(found) < count:
+            found.add(frozenset(given[0] + chance.shuffled(free)[:room]))
+    unseen, lines = set(table.hands[left] + table.hands[right]), []
+    for lefts in chance.shuffled(sorted(found, key=sorted)):
+        guess = list(table.dealt)
+        for seat, cards in ((left, lefts), (right, unseen - lefts)):
+            guess[seat] = [card for card in table.dealt[seat] if card not in table.hands[seat]] + sorted(cards)
+        lines.append("N:" + " ".join(map(written, guess)))
     return lines
 
 
 def write(path, lines):
-    path.write_text("\n".join(lines) + "\n")
+    path.write_text("".join(line + "\n" for line in lines))
 
 
 def main():
     if len(sys.argv) != 2:
         sys.exit(__doc__)
-    folder, chance, games = pathlib.Path(sys.argv[1]), Chance(20261128), []
-    for number in range(1, BOARDS + 1):
-        board = deal(chance)
-        games.append(passed_out(number, board[0]) if number == PASSED_OUT else game(number, *board))
-        write(folder / ("evening.lay.%d" % number), layouts(board[0], board[1], board[3], chance))
+    folder, games = pathlib.Path(sys.argv[1]), []
+    for number, chosen in enumerate(BOARDS, 1):
+        chance = Chance(chosen[0] if chosen else number)
+        table = board(chance, TRICKS) if chosen else Table(chance)
+        games.append(game(number, table, chosen[1]) if chosen else head(number, table.dealt) + ['[Contract "Pass"]'])
+        write(folder / ("evening.lay.%d" % number), layouts(table, chance, LAYOUTS) if chosen else [])
     write(folder / "evening.pbn", [line for game in games for line in game + [""]][:-1])
 
 
