@@ -7,7 +7,7 @@ second reading of the same rules (checks/reading.py). Where no program is named 
 A run is made from its number and the seed alone: the files of a case, of which one, or the words, are damaged in one to
 four places. So that a deal and layouts that are still read are compared too, many runs judge a report whose head is
 written by the second reading. Of jobs that search, or write a log, the status alone is compared where files and words are
-sound.
+sound, and of `boards` also which games are refused and how.
 
 Prints each run that differs, whose files are then kept in a folder, and how often each status came. The exit status is 0
 only where no run differs.
@@ -29,6 +29,8 @@ import reading
 
 PROVED = os.path.join(cases.TOP, "crates", "alphamu", "out", "alphamu")
 NAMES = {"deal": b"deal.pbn", "layouts": b"layouts.lay", "report": b"report.txt", "log": b"log.txt"}
+# The layout files of the first games, for `boards`.
+OF_GAMES = [b"layouts.lay.%d" % number for number in (1, 2, 3)]
 # The files that a case has at least, for a kind of damage to start from it.
 NEEDED = {"deal": ("deal",), "layouts": ("deal", "layouts"), "report": ("deal", "layouts", "report"),
           "log": ("deal", "layouts", "report", "log"), "words": ()}
@@ -39,7 +41,7 @@ MOST_BYTES = 20000
 # With more cards double dummy takes too long, in the second reading above all.
 MOST_TRICKS = 4
 # What a search may end with.
-SEARCHED = (0, 7)
+SEARCHED = (0, 7, 17)
 MARKS = [b" ", b"\t", b"\r", b"\n", b"\r\n", b"\n\n", b"\n \t\n", b"%", b"{", b"}", b";", b'"', b"\\", b"[", b"]", b"#", b"-",
          b"*", b"+", b"!", b"?", b"$3", b"=1=", b".", b":", b"\x00", b"\x07", b"\x0b", b"\x0c", b"\x1a", b"\x7f", b"\x80", b"\xff",
          b"\xef\xbb\xbf", b"\xc3\xa9", b"0", b"1", b"9", b"10", b"13", b"14", b"S", b"n", b"X", b"T", b"x"]
@@ -58,7 +60,7 @@ SNIPPETS = {
               b"--workers=4", b"--shards", b"--room=65536", b"--no-table", b"--no-cuts", b"--no-cuts=1", b"--", b"-", b"-m", b"--help",
               b"=", b"--=", b"--deal=", b"solve", b"made", b"0", b"002", b"18446744073709551616", b"+2", b"\xff", b"deal.pbn",
               b"prove", b"audit", b"match", b"--log", b"--log=log.txt", b"--report=report.txt", b"--layout=1", b"--switch", b"52", b"268435457",
-              b"--shards=64", b"--room=4096"],
+              b"--shards=64", b"--room=4096", b"boards", b"--job=boards"],
 }
 
 
@@ -219,9 +221,21 @@ WORDS = {
     # What is searched ends soon.
     "match": [b"--job", b"match", b"--deal", b"deal.pbn", b"--layouts", b"layouts.lay", b"--moves", b"1", b"--nodes", b"9", b"--layout", b"2"],
     "prove": [b"--job", b"prove", b"--deal", b"deal.pbn", b"--layouts", b"layouts.lay", b"--moves", b"1", b"--nodes", b"9"],
+    "boards": [b"--job", b"boards", b"--deal", b"deal.pbn", b"--layouts", b"layouts.lay", b"--moves", b"1", b"--nodes", b"9"],
 }
 # The jobs that a damaged deal or damaged layouts are tried with, where there are layouts.
-ON_LAYOUTS = ("check",) * 4 + ("fusion",) * 2 + ("match", "prove")
+ON_LAYOUTS = ("check",) * 4 + ("fusion",) * 2 + ("match", "prove", "boards")
+
+
+def as_games(chance, files, found):
+    """The deal among one or two others as the games of one file, with their layout files, of which one may be missing."""
+    games = [files, *(it for _, it in chance.choices(found["layouts"], k=chance.randrange(3)) if is_small(it))]
+    chance.shuffle(games)
+    made = {NAMES["deal"]: b"\n\n".join(game[NAMES["deal"]] for game in games)}
+    layouts = dict(zip(OF_GAMES, (game[NAMES["layouts"]] for game in games)))
+    if chance.randrange(20) == 0:
+        del layouts[chance.choice(list(layouts))]
+    return {**made, **layouts}
 
 
 def trial(number, seed, found):
@@ -246,8 +260,10 @@ def trial(number, seed, found):
         return kind, WORDS["audit" if is_audit else "check"], files
     has_layouts = NAMES["layouts"] in files
     job = chance.choice((*ON_LAYOUTS, *("list",) * 2 * (kind == "deal"))) if has_layouts else "list"
-    if job in ("fusion", "match", "prove") and not is_small(files):
+    if job in ("fusion", "match", "prove", "boards") and not is_small(files):
         job = "check"
+    if job == "boards":
+        return kind, WORDS[job], as_games(chance, files, found)
     if job == "check":
         report = own_report(files, chance)
         if report or NAMES["report"] not in files:
@@ -257,7 +273,7 @@ def trial(number, seed, found):
 
 def run(program, words, folder, files, seconds):
     """Exit status, standard output and standard error; the status is none where there is no end."""
-    for name in NAMES.values():
+    for name in (*NAMES.values(), *OF_GAMES):
         path = os.path.join(folder, name)
         if name in files:
             with open(path, "wb") as file:
@@ -280,10 +296,24 @@ def run(program, words, folder, files, seconds):
     return status, *(open(path, "rb").read() for path in streams)
 
 
-def agrees(found, wanted):
-    if wanted[0] is None:
-        return found[0] in SEARCHED
-    return found == wanted
+def agrees(found, wanted, words, files):
+    if wanted[0] is not None:
+        return found == wanted
+    return found[0] in SEARCHED and (found[0] != 0 or words != WORDS["boards"] or refused_in(found[1]) == refused_of(words, files))
+
+
+def refused_in(text):
+    """The line of each game that is refused in what `boards` wrote, by the game's number."""
+    return {int(number): line for number, line in re.findall(rb"(?m)^game ([0-9]+)\n(refused .*\n)", text)}
+
+
+def refused_of(words, files):
+    _, options = reading.ask_of([word.decode() for word in words])
+    return reading.boards_refused(options, by_name(files))[0]
+
+
+def by_name(files):
+    return {name.decode(): content for name, content in files.items()}
 
 
 def keep(folder, number, kind, words, files, told):
@@ -308,10 +338,10 @@ def work(part):
         os.chdir(folder)
         for number in range(given.first + start, given.first + given.count, given.jobs):
             kind, words, files = trial(number, given.seed, found)
-            wanted = reading.answer(words, {name.decode(): content for name, content in files.items()})
+            wanted = reading.answer(words, by_name(files))
             got = run(given.program, words, os.fsencode(folder), files, given.seconds)
             counts[kind, got[0]] += 1
-            if not agrees(got, wanted):
+            if not agrees(got, wanted, words, files):
                 told.append(keep(given.keep, number, kind, words, files, f"{got!r}, and not {wanted!r}"))
     return told, counts
 

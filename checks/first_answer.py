@@ -24,6 +24,7 @@ SAMPLE = """
     list-of-an-ending made-of-0 check-a-good-report check-card-exchanged prove-two-moves audit-two-moves deal-file-not-there
     deal-no-text layouts-none-left fusion-defender-to-play nodes-too-few output-that-takes-nothing deal-file-too-long
     check-report-cut-off list-of-too-many match-no-such-layout audit-log-without-end audit-card-left-out
+    boards boards-nodes-spent boards-of-65-games
 """.split()
 # Where the system gives the program no words, nothing is run.
 NO_WORDS = 64

@@ -36,6 +36,7 @@ JOBS = {
     "match": "match-won",
     "prove": "prove-two-moves",
     "audit": "audit-two-moves",
+    "boards": "boards",
     "made": "made-of-0",
     "workers": "made-of-2-with-workers",
     "slam": "club-evening-after-seven-tricks",
@@ -240,11 +241,11 @@ def streams():
 
 # Files.
 
-def spoiled(file, spoil, *allowed, as_other=False):
+def spoiled(file, spoil, *allowed, as_other=False, name=None, job="audit"):
     """The named file is made something else before the run."""
     def trial(given):
         before = become(given.user) if as_other else ""
-        found = given.run(JOBS["audit"], before, spoil=lambda folder: spoil(os.path.join(folder, NAMES[file])))
+        found = given.run(JOBS[job], before, spoil=lambda folder: spoil(os.path.join(folder, name or NAMES[file])))
         return judged(found, *(allowed or [unread(file)]))
     return trial
 
@@ -292,6 +293,11 @@ def files(is_launcher):
         if not (is_launcher and IS_ROOT):
             yield f"{file} may not be read", spoiled(file, close_to_all, as_other=True)
             yield f"{file} is in a closed folder", spoiled(file, put_in_closed_folder, as_other=True)
+    for number in (1, 3):
+        name = f"{NAMES['layouts']}.{number}"
+        yield f"{name} is a folder", spoiled("layouts", to_folder, name=name, job="boards")
+        yield f"{name} isn't there", spoiled("layouts", os.remove, name=name, job="boards")
+        yield f"{name} fails as it is read", spoiled("layouts", link_to("/proc/self/mem"), name=name, job="boards")
     yield "deal has no end", spoiled("deal", link_to("/dev/zero"), TOO_LONG)
     yield "deal has nothing", spoiled("deal", link_to("/dev/null"), NO_GAME)
     yield "a name too long for the system", named(b"n" * 300)
@@ -323,7 +329,7 @@ def stack():
 
 def threads():
     """So many processes and threads of one user in all."""
-    for job in ("fusion", "workers", "solve"):
+    for job in ("fusion", "workers", "boards", "solve"):
         for count in (1, 2, 3, 4):
             yield f"{job} with {count}", limited("NPROC", count, JOBS[job], other_user=True)
 

@@ -40,6 +40,7 @@ RUNS = {
     "check with weights": ("weights-check", ()),
     "prove": ("prove-two-moves", ()),
     "audit": ("audit-two-moves", ()),
+    "boards": ("boards", ()),
     "made": ("made-of-0", ()),
     "made with workers": ("made-of-2-with-workers", ()),
 }

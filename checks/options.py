@@ -24,8 +24,8 @@ ONE_WORKER = [
 SEVERAL_WORKERS = [[b"--workers", workers] + choice for workers in (b"2", b"4", b"64")
                    for choice in [[], *ONE_WORKER, [b"--no-cuts", b"--shards", b"1", b"--room", b"1"]]]
 CHOICES = ONE_WORKER + SEVERAL_WORKERS
-SEARCHES = (b"solve", b"card", b"match", b"made")
-DONE, SPENT = 0, 7
+SEARCHES = (b"solve", b"card", b"match", b"made", b"boards")
+DONE, SPENT = 0, (7, 17)
 
 
 def job_of(words):
@@ -57,7 +57,7 @@ def judge(program, case, choice, seconds):
     """Whether the run is done, and what is wrong with it, if anything."""
     out, _, status = run(program, case, seconds, more=choice)
     named = f"{case} with {b' '.join(choice).decode()}"
-    if status not in (DONE, SPENT):
+    if status not in (DONE, *SPENT):
         return False, f"{named}: exit status {status}"
     if status == DONE and out != expected(case)[0]:
         return True, f"{named}: other bytes"

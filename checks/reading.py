@@ -2,7 +2,7 @@
 
 It says anew what docs/USING.md and docs/definitions/ say, over whole texts and lists of cards, and takes nothing from
 the program. It knows every refusal but those of a search, and all output but that of the jobs that search (`solve`, `card`,
-`match`, `made`) or write what a search would (`prove`). It is slow where many cards are left to be played.
+`match`, `made`, `boards`) or write what a search would (`prove`). It is slow where many cards are left to be played.
 """
 import itertools
 import math
@@ -14,6 +14,7 @@ from playing import RANKS, after, card_named, child, choices, is_decided, legal,
 BLANKS = b" \t\r"
 SEATS = b"NESW"
 MOST_LAYOUTS = 256
+MOST_GAMES = 64
 MOST_WEIGHT = 1000000
 MOST_LEVELS = 64
 MOST_BYTES = {"deal": 1 << 20, "layouts": 1 << 20, "report": 1 << 24, "log": 1 << 24}
@@ -637,7 +638,8 @@ FLAGS = ("no-table", "no-cuts")
 SEARCH = (*SEARCHING, *FLAGS)
 TAKES = {"solve": (("deal", "layouts", "moves"), SEARCH), "card": (("deal", "layouts", "moves"), SEARCH),
          "match": (("deal", "layouts", "moves", "layout"), ("switch", *SEARCH)), "fusion": (("deal", "layouts"), ()),
-         "list": (("deal",), ()), "check": (("deal", "layouts", "report"), ()), "made": (("number",), SEARCH),
+         "boards": (("deal", "layouts", "moves"), SEARCH), "list": (("deal",), ()),
+         "check": (("deal", "layouts", "report"), ()), "made": (("number",), SEARCH),
          "prove": (("deal", "layouts", "moves"), ("nodes",)), "audit": (("deal", "layouts", "report", "log"), ())}
 # The greatest number of nodes that a log may be asked of, and of entries that a table may have.
 MOST_LOGGED = 1 << 28
@@ -710,27 +712,64 @@ def answer(words, files):
     return (None, None, None) if text is None else (0, text, b"")
 
 
-def text_for(job, options, files):
-    if job == "made":
-        return None
-    given = {}
-    for file in FILES:
-        if file in options:
-            if options[file] not in files:
-                raise Refusal(3, b"cannot read " + file.encode())
-            given[file] = files[options[file]]
-            if len(given[file]) > MOST_BYTES[file]:
-                raise Refusal(10, file.encode() + b" too long")
-    games = games_of(given["deal"])
+def file_read(file, name, files):
+    """The file of that name, which is read as a deal, layouts, a report or a log."""
+    if name not in files:
+        raise Refusal(3, b"cannot read " + file.encode())
+    if len(files[name]) > MOST_BYTES[file]:
+        raise Refusal(10, file.encode() + b" too long")
+    return files[name]
+
+
+def games_read(text):
+    games = games_of(text)
     if not games:
         raise bad_pbn(1, b"NoGame")
-    board = board_of(games[0])
-    if job == "list":
-        return list_text(board)
-    kept = layouts_of(given["layouts"], board)
+    return games
+
+
+def layouts_kept(text, board):
+    """The kept layouts of a board on which it is the turn of declarer's side."""
+    kept = layouts_of(text, board)
     turn = moment_after(board).turn()
     if turn is None or turn % 2:
         raise Refusal(6, b"no card to choose")
+    return kept
+
+
+def boards_refused(options, files):
+    """The line of each game that `boards` refuses, by the game's number, and how many games there are."""
+    games = games_read(file_read("deal", options["deal"], files))
+    if len(games) > MOST_GAMES:
+        raise Refusal(18, b"%d games" % len(games))
+    texts = [file_read("layouts", f"{options['layouts']}.{number}", files) for number in range(1, len(games) + 1)]
+    refused = {}
+    for number, (game, text) in enumerate(zip(games, texts), 1):
+        try:
+            layouts_kept(text, board_of(game))
+        except Refusal as refusal:
+            refused[number] = refusal.answer[2].replace(b"alphamu:", b"refused", 1)
+    return refused, len(games)
+
+
+def boards_text(options, files):
+    """The text of `boards`, or none where a game is searched."""
+    refused, count = boards_refused(options, files)
+    if len(refused) < count:
+        return None
+    return b"".join([b"alphamu boards 1\n", *(b"game %d\n%s" % it for it in refused.items()), b"end boards\n"])
+
+
+def text_for(job, options, files):
+    if job == "made":
+        return None
+    if job == "boards":
+        return boards_text(options, files)
+    given = {file: file_read(file, options[file], files) for file in FILES if file in options}
+    board = board_of(games_read(given["deal"])[0])
+    if job == "list":
+        return list_text(board)
+    kept = layouts_kept(given["layouts"], board)
     if job == "fusion":
         return fusion_text(board, kept)
     if job == "check":
