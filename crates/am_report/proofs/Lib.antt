@@ -7,3 +7,4 @@ pub mod ReportReadBack
 pub mod ReportSteps
 pub mod Versions
 pub mod SolveParts
+pub mod Games
