@@ -6,5 +6,4 @@ pub mod PlainTexts
 pub mod ReportReadBack
 pub mod ReportSteps
 pub mod Versions
-pub mod SolveParts
 pub mod Games

@@ -12,7 +12,7 @@ use Rattle.am_report.specs.declared.version.Version.TheVariants.{Counts, Weights
 use Rattle.am_report.specs.Versions.{version_of, version_number, most_written, weights_line}
 use Rattle.am_report.specs.Card.{named_text}
 use Rattle.am_report.specs.Head.{position_text, kept_line, dropped_line, head_text}
-use Rattle.am_report.specs.Solve.{entry_text, solve_text}
+use Rattle.am_report.specs.Solve.{entry_text, solve_start, solve_end, solve_text}
 use Rattle.am_report.specs.ReportLines.{front_said, card_said}
 use Rattle.am_report.specs.Reading.{expected, version_said, front_place, moves_of_head, head_said, head_read, end_read, below_read, report_read}
 use Rattle.am_report.specs.ReadBack.{IsPrintable, printed_entry, printed_report}
@@ -65,7 +65,7 @@ read_below : (bytes : List ℕ) (version : Version) → version_said bytes ≡ S
 unfolding report_read
 read_below bytes version said = rw said refl
 
-five_pieces : (a b c d e : List ℕ) → a ++ b ++ c ++ d ++ e ≡ a ++ (b ++ (c ++ (d ++ e)))
+five_pieces : (a b c d e : List ℕ) → (a ++ b) ++ c ++ (d ++ e) ≡ a ++ (b ++ (c ++ (d ++ e)))
 five_pieces a b c d e = simp append_assoc
 
 module _ (board : BoardValue) (kept : KeptValue) (moves : ℕ) (answer : SolveAnswerValue) (printable : IsPrintable kept.weights moves answer) where
@@ -122,7 +122,7 @@ module _ (board : BoardValue) (kept : KeptValue) (moves : ℕ) (answer : SolveAn
       (answer.card, answer.weight) (length (((head ++ front) ++ plans) ++ card)) card_is_named tt (end_read-here whole (((head ++ front) ++ plans) ++ card) behind_card)
 
   solve_text-parts : solve_text board kept moves answer ≡ whole
-  unfolding solve_text
+  unfolding solve_text solve_start solve_end
   solve_text-parts = five_pieces head front plans card last
 
   pub solve_text-read : report_read (solve_text board kept moves answer) ≡ Ok (printed_report board kept moves answer)

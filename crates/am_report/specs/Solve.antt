@@ -24,15 +24,6 @@ vector_line weights vector =
 unfoldable pub entry_text : List ℕ → EntryValue → List ℕ
 entry_text weights entry = vector_line weights entry.vector ++ plan_text entry.plan
 
--- the head, the front with its plans, and the card to play
-unfoldable pub solve_text : BoardValue → KeptValue → ℕ → SolveAnswerValue → List ℕ
-solve_text board kept moves answer =
-    head_text board kept moves
-    ++ line_of (codes "front " ++ decimal (length answer.entries))
-    ++ flat_map (entry_text kept.weights) answer.entries
-    ++ line_of (named_text (version_of kept.weights) answer.card answer.weight)
-    ++ line_of (codes "end")
-
 -- the report up to its first vector
 unfoldable pub solve_start : BoardValue → KeptValue → ℕ → ℕ → List ℕ
 solve_start board kept moves vectors = head_text board kept moves ++ line_of (codes "front " ++ decimal vectors)
@@ -40,3 +31,10 @@ solve_start board kept moves vectors = head_text board kept moves ++ line_of (co
 -- the report behind its last plan
 unfoldable pub solve_end : List ℕ → ℕ → ℕ → List ℕ
 solve_end weights card weight = line_of (named_text (version_of weights) card weight) ++ line_of (codes "end")
+
+-- the head, the front with its plans, and the card to play
+unfoldable pub solve_text : BoardValue → KeptValue → ℕ → SolveAnswerValue → List ℕ
+solve_text board kept moves answer =
+    solve_start board kept moves (length answer.entries)
+    ++ flat_map (entry_text kept.weights) answer.entries
+    ++ solve_end kept.weights answer.card answer.weight

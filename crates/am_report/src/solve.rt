@@ -1,7 +1,8 @@
-//! The report of an answer.
+//! The report of an answer, whole, and its parts for a writer that puts plans between them.
 ghost use Rattle.std.specs.Prelude.{◌≡◌, ◌++◌, IfOk, OnOk, map, flat_map, length, All};
 ghost use Rattle.am_report.specs.Card.{named_text};
-ghost use Rattle.am_report.specs.Solve.{bit_letter, vector_line, entry_text, solve_text};
+ghost use Rattle.am_report.specs.Solve.{bit_letter, vector_line, entry_text};
+ghost use Rattle.am_report.specs.Solve.{solve_start, solve_end, solve_text};
 ghost use Rattle.byte_text.specs.Lines.{line_of};
 
 use crate::answer::{Entry, SolveAnswer};
@@ -66,7 +67,7 @@ fn push_entries(
 }
 
 // Appends the line of the card to play.
-pub(crate) fn push_named_line(
+fn push_named_line(
     text: &mut Text,
     alloc: Global,
     version: Version,
@@ -77,6 +78,50 @@ pub(crate) fn push_named_line(
 {
     push_named(text, alloc, version, card, weight)?;
     text.push(b"\n")
+}
+
+/// The report up to the first vector: its head, and how many vectors the front has.
+#[tactic(auto, unfolding(crate::specs::Solve::solve_start))]
+pub fn solve_start(
+    alloc: Global,
+    board: &Board,
+    kept: &Kept,
+    moves: u8,
+    vectors: usize,
+) -> Result<Text, AllocError>
+    ensures { IfOk result (λ text. text ≡ solve_start board.now kept.now moves vectors) }
+{
+    let mut text = head_text(alloc, board, kept, moves)?;
+    push_number_line(&mut text, alloc, b"front ", vectors as u64)?;
+    Ok(text)
+}
+
+/// The line before a vector's plan: the vector, which has a bit for each layout, and its weight.
+/// Where each layout weighs 1, that is a count of layouts.
+pub fn vector_text(alloc: Global, weights: &Weights, vector: WinVector) -> Result<Text, AllocError>
+    requires { length weights.now ≡ length vector }
+    ensures { IfOk result (λ text. text ≡ vector_line weights.now vector) }
+{
+    let mut text = Text::new(alloc);
+    push_vector_line(&mut text, alloc, weights, vector)?;
+    Ok(text)
+}
+
+/// The report behind the last plan: the card to play with the weight of the kept layouts in which
+/// the contract is made, and the end.
+#[tactic(auto, unfolding(crate::specs::Solve::solve_end))]
+pub fn solve_end(
+    alloc: Global,
+    weights: &Weights,
+    card: Card,
+    weight: u32,
+) -> Result<Text, AllocError>
+    ensures { IfOk result (λ text. text ≡ solve_end weights.now card weight) }
+{
+    let mut text = Text::new(alloc);
+    push_named_line(&mut text, alloc, Version::of(weights), card, weight)?;
+    text.push(b"end\n")?;
+    Ok(text)
 }
 
 /// The report: its head, then the number of vectors of the front, each vector with its weight and
@@ -95,11 +140,10 @@ pub fn solve_text(
         answer.now.entries }
     ensures { IfOk result (λ text. text ≡ solve_text board.now kept.now moves answer.now) }
 {
-    let mut text = head_text(alloc, board, kept, moves)?;
-    push_number_line(&mut text, alloc, b"front ", answer.entries.len() as u64)?;
+    let vectors = answer.entries.len();
+    let mut text = solve_start(alloc, board, kept, moves, vectors)?;
     push_entries(&mut text, alloc, &kept.weights, &answer.entries)?;
-    let version = Version::of(&kept.weights);
-    push_named_line(&mut text, alloc, version, answer.card, answer.weight)?;
-    text.push(b"end\n")?;
+    let end = solve_end(alloc, &kept.weights, answer.card, answer.weight)?;
+    text.push(end.bytes())?;
     Ok(text)
 }

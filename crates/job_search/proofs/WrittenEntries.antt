@@ -14,8 +14,7 @@ use Rattle.strategy_tree.specs.PlanText.{plan_text}
 use Rattle.plan_finder.specs.Targets.{IsOfFront}
 use Rattle.plan_finder.specs.Written.{IsPlanWritten}
 use Rattle.am_report.specs.Answers.{EntryValue, SolveAnswerValue}
-use Rattle.am_report.specs.Solve.{vector_line, entry_text, solve_start, solve_end}
-use Rattle.am_report.proofs.SolveParts.{solve-parts}
+use Rattle.am_report.specs.Solve.{vector_line, entry_text, solve_start, solve_end, solve_text}
 use Rattle.am_answer.specs.declared.root.Root.{Root}
 use Rattle.am_answer.specs.ReportOrder.{IsReportedFront}
 use Rattle.am_answer.specs.Reports.{IsSolveText}
@@ -57,13 +56,14 @@ report_written : (root : Root) (moves : ℕ) (vectors : List Vector) (card weigh
     → IsNamedByWeight bridge root.kept.weights root.kept.node moves card → IsBestWeight bridge root.kept.weights root.kept.node moves weight
     → started ≡ solve_start root.board root.kept moves (length vectors) → AreEntriesWritten root.kept.node root.kept.weights moves vectors started after → text ≡ after ++ solve_end root.kept.weights card weight
     → IsSolveText root moves text
+unfolding solve_text
 report_written root moves vectors card weight started after text reported named best start w end =
     let answer : SolveAnswerValue = record { entries = w.entries; card = card; weight = weight } in
     let counted : length vectors ≡ length w.entries = ap (λ (vs : List Vector). length vs) (sym w.listed) ∙ length-map w.entries (λ (e : EntryValue). e.vector) in
     let started_with = start ∙ ap (λ k. solve_start root.board root.kept moves k) counted in (
       answer,
       record { vectors = subst (IsReportedFront root.kept.node root.kept.weights moves) (sym w.listed) reported; plans = w.plans; card = named; weight = best },
-      end ∙ ap (λ front. front ++ solve_end root.kept.weights card weight) (w.lines ∙ ap (λ front. front ++ flat_map (entry_text root.kept.weights) w.entries) started_with) ∙ solve-parts root.board root.kept moves answer,
+      end ∙ ap (λ front. front ++ solve_end root.kept.weights card weight) (w.lines ∙ ap (λ front. front ++ flat_map (entry_text root.kept.weights) w.entries) started_with),
     )
 
 -- of a root as it is, by the root as it is opened and the pieces in order
