@@ -9,7 +9,7 @@ use Rattle.card_sets.specs.SetWords.{has_card, cards_where, IsCardSet}
 use Rattle.card_sets.proofs.Sets.{has_card-cards_where, cards_where-agree}
 use Rattle.pbn_deal.specs.BoardRead.{together}
 use Rattle.layout_list.specs.declared.line.Layout.{Layout}
-use Rattle.layout_maker.specs.Divisions.{hands_of_size, layout_with}
+use Rattle.layout_maker.specs.Divisions.{most_unseen, hands_of_size, layout_with}
 use Rattle.layout_maker.specs.Choosing.{ways}
 use Rattle.layout_maker.proofs.Hands.{map-same, map-map, map-append, hands_of_size-none}
 
@@ -28,9 +28,9 @@ ways-power things zero = omega (arith, pow_pos things)
 ways-power zero (suc chosen) = omega arith
 ways-power (suc things) (suc chosen) = omega (arith, pow-suc 2 things, ways-power things chosen, ways-power things (suc chosen))
 
--- 26 things give a number of 26 bits
-pub ways-small : (things chosen : ℕ) → things ≤ 26 → ways things chosen ≤ 67108864
-ways-small things chosen few = let bound : 2 ^ things ≤ 2 ^ 26 = pow_mono few in omega (arith, ways-power things chosen)
+-- so few things give a number of so many bits
+pub ways-small : (things chosen : ℕ) → things ≤ most_unseen → ways things chosen ≤ 2 ^ most_unseen
+ways-small things chosen few = let bound : 2 ^ things ≤ 2 ^ most_unseen = pow_mono few in omega (arith, ways-power things chosen)
 
 zeros : (n k : ℕ) → let none : ℕ = 0 in get_or (replicate n none) k none ≡ none
 zeros zero k = refl

@@ -12,6 +12,10 @@ use Rattle.layout_maker.specs.declared.fault.MakeFault.TheVariants.{TooManyFit, 
 
 -- ---- every division of the cards
 
+-- the most cards that the defenders hold unseen, thirteen each
+abbrev pub most_unseen : ℕ
+most_unseen = 26
+
 -- each hand of so many of these cards: those with the first card, and then those without it
 abbrev pub hands_of_size : ℕ → List ℕ → List (List ℕ)
 hands_of_size zero cards = [] ∷ []

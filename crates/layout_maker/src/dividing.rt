@@ -2,7 +2,7 @@
 ghost use Rattle.std.specs.Prelude.{◌≡◌, ◌≤◌, ◌<◌, ◌+◌, ◌++◌, ℕ, [], slice_index, length, map, MatchOption, IfSome, OnOk, IfOk};
 ghost use Rattle.card_sets.specs.SetWords.{IsCardSet};
 ghost use Rattle.pbn_deal.specs.BoardRead.{together};
-ghost use Rattle.layout_maker.specs.Divisions.{hands_of_size, layout_with};
+ghost use Rattle.layout_maker.specs.Divisions.{most_unseen, hands_of_size, layout_with};
 ghost use Rattle.layout_maker.specs.Choosing.{fitting_hands, ways};
 
 use crate::allowed::MayHold;
@@ -44,7 +44,7 @@ pub fn fitting_choices(may: &MayHold, unseen: CardSet, size: u8) -> Option<Choic
 
 // In how many ways 0 to 13 of one thing more can be chosen.
 fn with_one_more(row: &[u64; 14], things: u8) -> [u64; 14]
-    requires few { things < 26 }
+    requires few { things < most_unseen }
     requires row { (chosen : ℕ) → chosen < 14 → slice_index row.now chosen ≡ ways things chosen }
     ensures { (chosen : ℕ) → chosen < 14 → slice_index result chosen ≡ ways (things + 1) chosen }
 {
@@ -57,7 +57,7 @@ fn with_one_more(row: &[u64; 14], things: u8) -> [u64; 14]
 
 /// In how many ways so many of some things can be chosen.
 pub fn ways(things: u8, chosen: u8) -> u64
-    requires few { things ≤ 26 }
+    requires few { things ≤ most_unseen }
     requires small { chosen ≤ 13 }
     ensures { result ≡ ways things chosen }
 {
@@ -102,7 +102,7 @@ fn add_layouts(
 impl Choices {
     /// How many there are.
     pub fn count(&self) -> u64
-        requires few { length self.now.free ≤ 26 }
+        requires few { length self.now.free ≤ most_unseen }
         requires small { self.now.wanted ≤ 13 }
         ensures { result ≡ length (hands_of_size self.now.wanted self.now.free) }
     {

@@ -2,7 +2,8 @@
 ghost use Rattle.std.specs.Prelude.{◌≡◌, ◌≤◌, Ok, map, length, MatchResult};
 ghost use Rattle.card_sets.specs.SetWords.{IsCardSet};
 ghost use Rattle.pbn_deal.specs.BoardRead.{together};
-ghost use Rattle.layout_maker.specs.Divisions.{hands_of_size, layout_with, if_few, layouts_made, IsMakeFaultOf};
+ghost use Rattle.layout_maker.specs.Divisions.{most_unseen, hands_of_size, layout_with};
+ghost use Rattle.layout_maker.specs.Divisions.{if_few, layouts_made, IsMakeFaultOf};
 
 use crate::allowed::may_hold;
 use crate::dividing::{Choices, fitting_choices};
@@ -15,7 +16,7 @@ use std::alloc::Global;
 // The layouts with these hands of Left's, if they are few enough.
 fn listed(alloc: Global, unseen: CardSet, choices: &Choices) -> Result<Vec<Layout>, MakeFault>
     requires a_set { IsCardSet choices.now.sure }
-    requires few { length choices.now.free ≤ 26 }
+    requires few { length choices.now.free ≤ most_unseen }
     requires small { choices.now.wanted ≤ 13 }
     ensures { let layouts = map (layout_with unseen)
         (map (together choices.now.sure) (hands_of_size choices.now.wanted choices.now.free)) in
