@@ -16,9 +16,9 @@ use Rattle.job_words.specs.Command.{option_command}
 use Rattle.job_words.specs.Options.{OptionValues, options_at, options_read}
 use Rattle.job_words.specs.Values.{file_named, is_value, job_named, number_in, number_read, number_or}
 use Rattle.job_words.specs.Table.{keeps_to}
-use Rattle.job_words.specs.Asks.{Audit, Card, Check, Fusion, ListOf, Made, Match, OnLayouts, Prove, Solve}
-use Rattle.job_words.specs.Plain.{audit_words, card_words, check_words, fusion_words, list_words, made_words, match_words, plain_search, prove_words, solve_words}
-use Rattle.job_words.specs.Words.{ask_in, audit_in, card_in, check_in, job_in, list_in, made_in, match_in, moves_in, on_layouts, prove_in, search_in, solve_in, switch_in, table_in, words_read}
+use Rattle.job_words.specs.Asks.{Audit, Boards, Card, Check, Fusion, ListOf, Made, Match, OnLayouts, Prove, Solve}
+use Rattle.job_words.specs.Plain.{audit_words, boards_words, card_words, check_words, fusion_words, list_words, made_words, match_words, plain_search, prove_words, solve_words}
+use Rattle.job_words.specs.Words.{ask_in, audit_in, boards_in, card_in, check_in, job_in, list_in, made_in, match_in, moves_in, on_layouts, prove_in, search_in, solve_in, switch_in, table_in, words_read}
 
 unfoldable pub shape : Shape
 unfolding option_command
@@ -593,6 +593,21 @@ audit_asks deal layouts report log deal_is layouts_is report_is log_is =
       audit_read (codes "audit") deal layouts report log refl deal_is layouts_is report_is log_is,
       report_is,
       log_is,
+      deal_is,
+      layouts_is,
+    ) refl
+
+pub boards_asks : (deal layouts moves : List ℕ) (number : ℕ) → is_value deal ≡ true → is_value layouts ≡ true → number_in 1 most_moves moves ≡ Some number
+    → words_read (boards_words deal layouts moves) ≡ Some (Boards deal layouts number plain_search)
+unfolding words_read ask_in job_in boards_in moves_in search_in table_in job_named keeps_to file_named number_or
+boards_asks deal layouts moves number deal_is layouts_is number_is =
+    let moves_is = is_value-number_in 1 most_moves moves number number_is in
+    rw (
+      (plain_word deal deal_is).dashes,
+      (plain_word layouts layouts_is).dashes,
+      (plain_word moves moves_is).dashes,
+      searched_read (codes "boards") deal layouts moves refl deal_is layouts_is moves_is,
+      number_is,
       deal_is,
       layouts_is,
     ) refl

@@ -19,11 +19,13 @@ pub data LayoutsJobValue : Type 0 where
   Prove : ℕ → ℕ → LayoutsJobValue
   Audit : List ℕ → List ℕ → LayoutsJobValue
 
--- a job on the layouts that a file has for the deal of another, deal first; all layouts of a deal; the problem made from a number
+-- a job on the layouts that a file has for the deal of another, deal first; all layouts of a deal; the problem made from a number;
+-- every game of a deal, by the names of the deal file and of what the layout files are named by, the moves and how to search
 pub data AskValue : Type 0 where
   OnLayouts : List ℕ → List ℕ → LayoutsJobValue → AskValue
   ListOf : List ℕ → AskValue
   Made : ℕ → Search → AskValue
+  Boards : List ℕ → List ℕ → ℕ → Search → AskValue
 
 -- the bytes of each word
 abbrev pub texts_of : List (String Global) → List (List ℕ)
@@ -43,6 +45,7 @@ job_of (jobs.TheVariants.Audit report log) = Audit report.now log.now
 abbrev pub ask_of : asks.Ask → AskValue
 ask_of (asks.TheVariants.OnLayouts deal layouts job) = OnLayouts deal.now layouts.now (job_of job)
 ask_of (asks.TheVariants.List deal) = ListOf deal.now
+ask_of (asks.TheVariants.Boards deal layouts moves search) = Boards deal.now layouts.now moves search
 ask_of (asks.TheVariants.Made number search) = Made number search
 
 -- how many cards of declarer's side a search can go through
@@ -85,4 +88,6 @@ abbrev pub IsWithinLimits : AskValue → Type 0
 IsWithinLimits (OnLayouts deal layouts job) =
     (is_value deal ≡ true) × (is_value layouts ≡ true) × IsJobWithinLimits job
 IsWithinLimits (ListOf deal) = is_value deal ≡ true
+IsWithinLimits (Boards deal layouts moves search) =
+    (is_value deal ≡ true) × (is_value layouts ≡ true) × IsMoves moves × IsSearchWithinLimits search
 IsWithinLimits (Made number search) = (number < 2 ^ 64) × IsSearchWithinLimits search

@@ -47,6 +47,11 @@ audit_words deal layouts report log =
     codes "--job" ∷ codes "audit" ∷ codes "--deal" ∷ deal ∷ codes "--layouts" ∷ layouts ∷ codes "--report" ∷ report
     ∷ codes "--log" ∷ log ∷ []
 
+-- every game of a deal file, each on its own layout file
+abbrev pub boards_words : List ℕ → List ℕ → List ℕ → List (List ℕ)
+boards_words deal layouts moves =
+    codes "--job" ∷ codes "boards" ∷ codes "--deal" ∷ deal ∷ codes "--layouts" ∷ layouts ∷ codes "--moves" ∷ moves ∷ []
+
 -- how to search where the words say nothing of it
 abbrev pub plain_search : Search
 plain_search = record {

@@ -33,6 +33,7 @@ uses_by jobs.TheVariants.Check = record no_options { deal = Required; layouts = 
 uses_by jobs.TheVariants.Made = record no_options { number = Required; nodes = Allowed; search = Allowed }
 uses_by jobs.TheVariants.Prove = record no_options { deal = Required; layouts = Required; moves = Required; nodes = Allowed }
 uses_by jobs.TheVariants.Audit = record no_options { deal = Required; layouts = Required; report = Required; log = Required }
+uses_by jobs.TheVariants.Boards = record no_options { deal = Required; layouts = Required; moves = Required; nodes = Allowed; search = Allowed }
 
 -- an option that is given, or isn't, is so used
 abbrev pub is_used_so : Use → Bool → Bool

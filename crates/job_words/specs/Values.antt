@@ -46,4 +46,5 @@ job_named name =
     else if bytes_eq name (codes "made") then Some jobs.Made
     else if bytes_eq name (codes "prove") then Some jobs.Prove
     else if bytes_eq name (codes "audit") then Some jobs.Audit
+    else if bytes_eq name (codes "boards") then Some jobs.Boards
     else None

@@ -6,7 +6,7 @@ use Rattle.trick_rules.specs.Nodes.{most_moves}
 use Rattle.job_words.specs.declared.asks.Search.{Search}
 use Rattle.job_words.specs.declared.table.Job as jobs
 use Rattle.job_words.specs.Asks.{most_entries, most_logged}
-use Rattle.job_words.specs.Asks.{AskValue, Audit, Card, Check, Fusion, LayoutsJobValue, ListOf, Made, Match, OnLayouts, Prove, Solve}
+use Rattle.job_words.specs.Asks.{AskValue, Audit, Boards, Card, Check, Fusion, LayoutsJobValue, ListOf, Made, Match, OnLayouts, Prove, Solve}
 use Rattle.job_words.specs.Options.{OptionValues, options_read}
 use Rattle.job_words.specs.Values.{file_named, job_named, number_in, number_or}
 use Rattle.job_words.specs.Table.{keeps_to, uses_by}
@@ -120,6 +120,15 @@ made_in o = do
   search ← search_in o
   Some (Made number search)
 
+-- every game of a deal, by a search
+unfoldable pub boards_in : OptionValues → Option AskValue
+boards_in o = do
+  deal ← o.deal >>= file_named
+  layouts ← o.layouts >>= file_named
+  moves ← moves_in o
+  search ← search_in o
+  Some (Boards deal layouts moves search)
+
 -- what the options ask for, by the job
 abbrev pub ask_by : jobs.Job → OptionValues → Option AskValue
 ask_by jobs.TheVariants.Solve o = solve_in o >>= on_layouts o
@@ -131,6 +140,7 @@ ask_by jobs.TheVariants.Check o = check_in o >>= on_layouts o
 ask_by jobs.TheVariants.Made o = made_in o
 ask_by jobs.TheVariants.Prove o = prove_in o >>= on_layouts o
 ask_by jobs.TheVariants.Audit o = audit_in o >>= on_layouts o
+ask_by jobs.TheVariants.Boards o = boards_in o
 
 -- what the options ask for
 unfoldable pub ask_in : OptionValues → Option AskValue

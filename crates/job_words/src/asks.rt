@@ -91,6 +91,17 @@ pub enum Ask<'a> {
         /// The name of the deal file.
         deal: &'a str,
     },
+    /// Every game of a deal, each on a file of layouts of its own.
+    Boards {
+        /// The name of the deal file.
+        deal: &'a str,
+        /// What the names of the files of layouts begin with.
+        layouts: &'a str,
+        /// How many cards of declarer's side the search goes through: 1 to 26.
+        moves: u8,
+        /// How to search.
+        search: Search,
+    },
     /// The problem made from a number, solved.
     Made {
         /// The number, any of 64 bits.

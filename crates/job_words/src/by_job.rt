@@ -3,8 +3,8 @@ ghost use Rattle.std.specs.Prelude.{◌≡◌, ◌≤◌, ◌*◌, IfSome, optio
 ghost use Rattle.job_words.specs.Asks.{IsJobWithinLimits, IsMoves, IsSearchWithinLimits};
 ghost use Rattle.job_words.specs.Asks.{IsSwitch, IsWithinLimits, ask_of, job_of, most_entries};
 ghost use Rattle.job_words.specs.Options.{options_of};
-ghost use Rattle.job_words.specs.Words.{ask_in, audit_in, card_in, check_in, job_in, list_in};
-ghost use Rattle.job_words.specs.Words.{made_in, match_in, moves_in, on_layouts, prove_in};
+ghost use Rattle.job_words.specs.Words.{ask_in, audit_in, boards_in, card_in, check_in, job_in};
+ghost use Rattle.job_words.specs.Words.{list_in, made_in, match_in, moves_in, on_layouts, prove_in};
 ghost use Rattle.job_words.specs.Words.{search_in, solve_in, switch_in, table_in};
 
 use crate::asks::{Ask, LayoutsJob, MOST_ENTRIES, MOST_LOGGED, Search};
@@ -30,6 +30,7 @@ pub(crate) fn ask_in<'a>(options: &Options<'a>) -> Option<Ask<'a>>
         Job::Made => made_in(options),
         Job::Prove => on_layouts(options, prove_in(options)?),
         Job::Audit => on_layouts(options, audit_in(options)?),
+        Job::Boards => boards_in(options),
     }
 }
 
@@ -186,6 +187,23 @@ fn list_in<'a>(options: &Options<'a>) -> Option<Ask<'a>>
 {
     let deal = file_named(options.deal?)?;
     Some(Ask::List { deal })
+}
+
+#[tactic(auto, unfolding(crate::specs::Words::boards_in))]
+fn boards_in<'a>(options: &Options<'a>) -> Option<Ask<'a>>
+    ensures ask { option_map ask_of result ≡ boards_in (options_of options.now) }
+    ensures limits { IfSome result (λ ask. IsWithinLimits (ask_of ask)) }
+{
+    let deal = file_named(options.deal?)?;
+    let layouts = file_named(options.layouts?)?;
+    let moves = moves_in(options)?;
+    let search = search_in(options)?;
+    Some(Ask::Boards {
+        deal,
+        layouts,
+        moves,
+        search,
+    })
 }
 
 #[tactic(auto, unfolding(crate::specs::Words::made_in))]

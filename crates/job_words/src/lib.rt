@@ -1,4 +1,4 @@
-//! What the words of the command line ask for: one of nine jobs, with just what that job needs.
+//! What the words of the command line ask for: one of ten jobs, with just what that job needs.
 //! It stands on clap, which reads the options as one simple command.
 //! Its contract promises the one ask that the grammar of the words gives, or the refusal of all
 //! other words.
@@ -6,11 +6,11 @@
 
 ghost use Rattle.std.specs.Prelude.{◌≡◌, ◌-◌, ◌^◌, ℕ, List, None, Some, IfOk, IfSome, option_map, true};
 ghost use Rattle.trick_rules.specs.Nodes.{most_moves};
-ghost use Rattle.job_words.specs.Asks.{Audit, Card, Check, Fusion, IsWithinLimits, ListOf, Made};
-ghost use Rattle.job_words.specs.Asks.{Match, OnLayouts, Prove, Solve, ask_of, texts_of};
-ghost use Rattle.job_words.specs.Plain.{audit_words, card_words, check_words, fusion_words};
-ghost use Rattle.job_words.specs.Plain.{list_words, made_words, match_words, plain_search};
-ghost use Rattle.job_words.specs.Plain.{prove_words, solve_words};
+ghost use Rattle.job_words.specs.Asks.{Audit, Boards, Card, Check, Fusion, IsWithinLimits};
+ghost use Rattle.job_words.specs.Asks.{ListOf, Made, Match, OnLayouts, Prove, Solve, ask_of, texts_of};
+ghost use Rattle.job_words.specs.Plain.{audit_words, boards_words, card_words, check_words};
+ghost use Rattle.job_words.specs.Plain.{fusion_words, list_words, made_words, match_words};
+ghost use Rattle.job_words.specs.Plain.{plain_search, prove_words, solve_words};
 ghost use Rattle.job_words.specs.Values.{is_value, number_in};
 ghost use Rattle.job_words.specs.Words.{has_two_dashes, words_read};
 
@@ -79,6 +79,11 @@ pub fn plain_words_are_read()
         → is_value report ≡ true → is_value log ≡ true
         → words_read (audit_words deal layouts report log)
         ≡ Some (OnLayouts deal layouts (Audit report log)) }
+    ensures boards { (deal layouts moves : List ℕ) (number : ℕ) → is_value deal ≡ true
+        → is_value layouts ≡ true
+        → number_in 1 most_moves moves ≡ Some number
+        → words_read (boards_words deal layouts moves)
+        ≡ Some (Boards deal layouts number plain_search) }
 {}
 
 fn has_two_dashes(words: &[String]) -> bool

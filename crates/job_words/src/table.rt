@@ -17,6 +17,7 @@ pub(crate) enum Job {
     Made,
     Prove,
     Audit,
+    Boards,
 }
 
 /// What a job makes of an option.
@@ -73,7 +74,7 @@ pub(crate) fn uses_by(job: Job) -> Uses
     ensures { result ≡ uses_by job }
 {
     match job {
-        Job::Solve | Job::Card => Uses {
+        Job::Solve | Job::Card | Job::Boards => Uses {
             deal: Use::Required,
             layouts: Use::Required,
             moves: Use::Required,

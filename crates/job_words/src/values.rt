@@ -67,6 +67,7 @@ pub(crate) fn job_named(name: &str) -> Option<Job>
         "made" => Some(Job::Made),
         "prove" => Some(Job::Prove),
         "audit" => Some(Job::Audit),
+        "boards" => Some(Job::Boards),
         _ => None,
     }
 }

@@ -1,4 +1,4 @@
-use Rattle.job_words.proofs.PlainLemmas.{audit_asks, card_asks, check_asks, fusion_asks, list_asks, made_asks, match_asks, prove_asks, solve_asks}
+use Rattle.job_words.proofs.PlainLemmas.{audit_asks, boards_asks, card_asks, check_asks, fusion_asks, list_asks, made_asks, match_asks, prove_asks, solve_asks}
 use Rattle.job_words.proofs.plain_words_are_read.Goals as goal
 
 pub returns-clause-solve : goal.returns-clause-solve
@@ -27,3 +27,6 @@ returns-clause-prove c = prove_asks
 
 pub returns-clause-audit : goal.returns-clause-audit
 returns-clause-audit c = audit_asks
+
+pub returns-clause-boards : goal.returns-clause-boards
+returns-clause-boards c = boards_asks

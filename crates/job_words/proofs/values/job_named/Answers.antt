@@ -39,6 +39,10 @@ pub returns-in-audit : goal.returns-in-audit
 unfolding job_named
 returns-in-audit c = sym (ap job_named c.in-audit.is)
 
+pub returns-in-boards : goal.returns-in-boards
+unfolding job_named
+returns-in-boards c = sym (ap job_named c.in-boards.is)
+
 pub returns-in_default : goal.returns-in_default
 unfolding job_named
 returns-in_default c =
@@ -51,4 +55,5 @@ returns-in_default c =
     let made = bytes_ne c.args.name.now (codes "made") c.in_default.not-made in
     let prove = bytes_ne c.args.name.now (codes "prove") c.in_default.not-prove in
     let audit = bytes_ne c.args.name.now (codes "audit") c.in_default.not-audit in
-    rw (solve, card, played, fusion, list, check, made, prove, audit) refl
+    let boards = bytes_ne c.args.name.now (codes "boards") c.in_default.not-boards in
+    rw (solve, card, played, fusion, list, check, made, prove, audit, boards) refl
