@@ -1,5 +1,7 @@
 -- A job that nothing stands against isn't spent, and its log isn't unproved.
-use Rattle.std.proofs.Common.{◌≡◌, ℕ, arith}
+use Rattle.std.proofs.Common.{◌≡◌, ℕ, zero, suc, List, [], ◌∷◌, Some, Result, Ok, slice_get, subst, rules, arith}
+use Rattle.std.specs.Prelude.{IfOk}
+use Rattle.std.proofs.lemmas.List.Elements.{All-head, All-tail}
 use Rattle.trick_rules.specs.Nodes.{NodeValue, choices}
 use Rattle.strategy_games.proofs.Lists.{first_is_member}
 use Rattle.root_workers.specs.Roots.{IsTooLarge, IsSpentAt, IsFirstSpentAt, AllFit}
@@ -7,9 +9,9 @@ use Rattle.log_check.specs.declared.check.LogVerdict.{LogVerdict}
 use Rattle.log_check.specs.declared.check.LogVerdict.TheVariants.{Yes, No}
 use Rattle.log_check.proofs.OneLogVerdict.{one_log_verdict}
 use Rattle.am_answer.specs.declared.root.Root.{Root}
-use Rattle.am_answer.specs.Answers.{TaskValue, Report, NamedCard, PlayedOut, Sample, Proof, Audit, Good, AllLayouts, Problem}
-use Rattle.am_answer.specs.Auditing.{AuditValue}
-use Rattle.am_answer.specs.Endings.{IsSpentOn, IsUnprovedOn, HasText}
+use Rattle.am_answer.specs.Answers.{TaskValue, Report, NamedCard, PlayedOut, Sample, Proof, Audit, Good, AllLayouts, Problem, Boards}
+use Rattle.am_answer.specs.declared.status.Status.{Status}
+use Rattle.am_answer.specs.Endings.{IsSpentOn, IsGameSpentOn, IsUnprovedOn, HasText, AllGamesFit}
 use Rattle.am_answer.specs.Reports.{made_moves}
 
 fits-not_spent : (node : NodeValue) (moves nodes card : ℕ) → AllFit node moves nodes → IsSpentAt node moves nodes card → ⊥
@@ -29,6 +31,32 @@ not_spent (Audit root audit) card fits is = is
 not_spent (Good plans) card fits is = is
 not_spent (AllLayouts board layouts) card fits is = is
 not_spent (Problem number root search) card fits is = fits-not_spent root.kept.node made_moves search.nodes card fits is.spent
+not_spent (Boards roots moves search) card fits is = is
+
+-- no tree of a game's root is too large
+abbrev Fits : ℕ → ℕ → Result Root Status → Type 0
+Fits moves nodes found = IfOk found (λ root. AllFit root.kept.node moves nodes)
+
+-- the same of the game at a place
+game-fits : (roots : List (Result Root Status)) (moves nodes place : ℕ) (root : Root) → AllGamesFit roots moves nodes → slice_get roots place ≡ Some (Ok root) → AllFit root.kept.node moves nodes
+game-fits [] moves nodes place root fit there = absurd (search (rules, there))
+game-fits (found ∷ later) moves nodes zero root fit there =
+    let same : found ≡ Ok root = search (rules, there) in
+    subst (Fits moves nodes) same (All-head (Fits moves nodes) found later fit)
+game-fits (found ∷ later) moves nodes (suc place) root fit there = game-fits later moves nodes place root (All-tail (Fits moves nodes) found later fit) there
+
+pub not_game_spent : (task : TaskValue) (game card : ℕ) → HasText task → IsGameSpentOn task game card → ⊥
+not_game_spent (Report root moves search) game card fits is = is
+not_game_spent (NamedCard root moves search) game card fits is = is
+not_game_spent (PlayedOut root moves search playing) game card fits is = is
+not_game_spent (Sample root) game card fits is = is
+not_game_spent (Proof root moves nodes) game card fits is = is
+not_game_spent (Audit root audit) game card fits is = is
+not_game_spent (Good plans) game card fits is = is
+not_game_spent (AllLayouts board layouts) game card fits is = is
+not_game_spent (Problem number root search) game card fits is = is
+not_game_spent (Boards roots moves search') game card fits is =
+    fits-not_spent is.root.kept.node moves search'.nodes card (game-fits roots moves search'.nodes is.place is.root fits is.there) is.spent
 
 yes_or_no : (number : ℕ) → ◌≡◌ {A = LogVerdict} Yes (No number) → ⊥
 yes_or_no number same = cc
@@ -44,3 +72,4 @@ not_unproved (Audit root audit) number proves is =
 not_unproved (Good plans) number proves is = is
 not_unproved (AllLayouts board layouts) number proves is = is
 not_unproved (Problem problem root search) number proves is = is
+not_unproved (Boards roots moves search) number proves is = is

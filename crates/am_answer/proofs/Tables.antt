@@ -1,9 +1,9 @@
 -- The text of a job that asks no defender is its text at every table.
-use Rattle.std.proofs.Common.{◌≡◌, ℕ, List, Result, Ok, Err}
+use Rattle.std.proofs.Common.{ℕ, List, Result, Ok, Err}
 use Rattle.std.specs.Prelude.{IfOk}
 use Rattle.am_match.specs.Defences.{Sitter}
 use Rattle.am_answer.specs.declared.status.Status.{Status}
-use Rattle.am_answer.specs.Answers.{TaskValue, Report, NamedCard, PlayedOut, Sample, Proof, Audit, Good, AllLayouts, Problem}
+use Rattle.am_answer.specs.Answers.{TaskValue, Report, NamedCard, PlayedOut, Sample, Proof, Audit, Good, AllLayouts, Problem, Boards}
 use Rattle.am_answer.specs.Reports.{IsText, IsTextAt}
 use Rattle.am_answer.specs.Stages.{IsTextFor, IsTextForAt}
 
@@ -17,6 +17,7 @@ text-at (Audit root audit) table later text is = is
 text-at (Good plans) table later text is = is
 text-at (AllLayouts board layouts) table later text is = is
 text-at (Problem number root search) table later text is = is
+text-at (Boards roots moves search) table later text is = is
 
 pub text_for_at : (answer : Result TaskValue Status) (table later : List Sitter) (text : List ℕ) → IsTextFor answer text → IsTextForAt answer table later text
 text_for_at answer table later text is = record {

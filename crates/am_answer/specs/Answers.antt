@@ -1,6 +1,6 @@
 -- What the words and the files lead to, step by step.
-use Rattle.std.specs.Prelude.{ℕ, Bool, not, ◌&&◌, ◌==◌, List, [], ◌∷◌, Option, Result, Ok, Err, ok_or, if◌then◌else◌}
-use Rattle.std.specs.List.{position}
+use Rattle.std.specs.Prelude.{◌≡◌, ℕ, Bool, true, not, ◌&&◌, ◌==◌, List, [], ◌∷◌, length, map, Option, Result, Ok, Err, ok_or, if◌then◌else◌}
+use Rattle.std.specs.List.{position, zip}
 use Rattle.am_outside.specs.Shelf.{Files}
 use Rattle.job_words.specs.declared.asks.Search.{Search}
 use Rattle.pbn_text.specs.declared.fault.Syntax.{Syntax as TextSyntax}
@@ -28,6 +28,7 @@ use Rattle.am_answer.specs.declared.status.PbnKind.TheVariants.{Syntax, NoGame}
 use Rattle.am_answer.specs.declared.status.Status.{Status}
 use Rattle.am_answer.specs.declared.status.Status.TheVariants.{BadPbn, NoTurn, NoLayout}
 use Rattle.am_answer.specs.Files.{inputs_read}
+use Rattle.am_answer.specs.Games.{games_of}
 use Rattle.am_answer.specs.Judging.{plans_in}
 use Rattle.am_answer.specs.Auditing.{AuditValue, audit_in}
 use Rattle.am_answer.specs.Refusals.{board_status, layout_status, make_status}
@@ -65,12 +66,33 @@ has_choice node = not (is_over node.position) && is_declarers (to_play node.posi
 abbrev pub with_turn : Root → Result Root Status
 with_turn root = if has_choice root.kept.node then Ok root else Err NoTurn
 
+-- what holds of every root: declarer's side is to play, and each kept layout has its number and its weight
+pub record IsRoot (root : Root) : Type 0 where
+  pub turn : has_choice root.kept.node ≡ true
+  pub as_many : length root.kept.numbers ≡ length root.kept.node.lefts
+  pub weighed : length root.kept.weights ≡ length root.kept.node.lefts
+
+-- on a board, the layouts, then whose turn it is
+unfoldable pub root_on : BoardValue → List ℕ → Result Root Status
+root_on board layouts = do
+  kept ← kept_in layouts board
+  with_turn (record { board = board; kept = kept })
+
 -- the board, then the layouts, then whose turn it is
 unfoldable pub root_in : List ℕ → List ℕ → Result Root Status
 root_in deal layouts = do
   board ← board_in deal
-  kept ← kept_in layouts board
-  with_turn (record { board = board; kept = kept })
+  root_on board layouts
+
+-- the same for one game of a deal file
+unfoldable pub game_root : GameValue → List ℕ → Result Root Status
+game_root game layouts = do
+  board ← board_or (board_read game)
+  root_on board layouts
+
+-- what each game comes to with its own layout file: a root, or why it has none
+unfoldable pub game_roots : List GameValue → List (List ℕ) → List (Result Root Status)
+game_roots games layouts = map (λ (pair : GameValue × List ℕ). game_root pair.0 pair.1) (zip games layouts)
 
 -- ---- what is to be done
 
@@ -101,6 +123,8 @@ pub data TaskValue : Type 0 where
   AllLayouts : BoardValue → List Layout → TaskValue
   -- the root of the problem made from a number, and a search
   Problem : ℕ → Root → Search → TaskValue
+  -- the reports of all games, each at its root where it has one, by so many moves and a search
+  Boards : List (Result Root Status) → ℕ → Search → TaskValue
 
 -- the place of a layout among the kept ones, counted from 0
 abbrev pub place_of : ℕ → Root → Option ℕ
@@ -142,6 +166,12 @@ problem_of number search = do
   root ← root_in (made_deal number) (made_layouts number)
   Ok (Problem number root search)
 
+-- all games of a deal file, with their layout files in order
+unfoldable pub boards_in : List ℕ → List (List ℕ) → ℕ → Search → Result TaskValue Status
+boards_in deal layouts moves search = do
+  games ← games_of deal
+  Ok (Boards (game_roots games layouts) moves search)
+
 -- the job that the files lead to
 unfoldable pub task_in : Inputs → Result TaskValue Status
 task_in (inputs.OnLayouts deal layouts work) = do
@@ -149,6 +179,7 @@ task_in (inputs.OnLayouts deal layouts work) = do
   task_at root work
 task_in (inputs.List deal) = listed_in deal
 task_in (inputs.Made number search) = problem_of number search
+task_in (inputs.Boards deal layouts moves search) = boards_in deal layouts moves search
 
 -- ---- the whole
 

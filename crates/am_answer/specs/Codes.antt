@@ -1,7 +1,7 @@
 -- The numbers that the program ends with.
 use Rattle.std.specs.Prelude.{ℕ}
 use Rattle.am_answer.specs.declared.status.Status.{Status}
-use Rattle.am_answer.specs.declared.status.Status.TheVariants.{Done, Refuted, BadWords, Unread, BadPbn, BadLayouts, NoTurn, Spent, Unwritten, Memory, TooLong, BadReport, BadMake, NoLayout, BadLog, Unproved}
+use Rattle.am_answer.specs.declared.status.Status.TheVariants.{Done, Refuted, BadWords, Unread, BadPbn, BadLayouts, NoTurn, Spent, Unwritten, Memory, TooLong, BadReport, BadMake, NoLayout, BadLog, Unproved, GameSpent, TooManyGames}
 
 -- each status has a number of its own
 abbrev pub code_of : Status → ℕ
@@ -21,3 +21,5 @@ code_of (BadMake fault) = 12
 code_of (NoLayout layout) = 14
 code_of (BadLog line) = 15
 code_of (Unproved line) = 16
+code_of (GameSpent game card) = 17
+code_of (TooManyGames games) = 18

@@ -1,5 +1,5 @@
 -- How a run may end, and what it has written by then.
-use Rattle.std.specs.Prelude.{◌≡◌, ◌⊎◌, ◌++◌, ⊤, ℕ, false, List, Option, IfSome, IsSomeAnd, Result, Ok, Err}
+use Rattle.std.specs.Prelude.{◌≡◌, ◌⊎◌, ◌++◌, ◌+◌, ⊤, ℕ, false, List, take, slice_get, All, Option, Some, IfSome, IsSomeAnd, Result, Ok, Err, IfOk}
 use Rattle.std.specs.Io.KnownBytes.{append_known}
 use Rattle.am_outside.specs.Faults.{Rose}
 use Rattle.am_outside.specs.Sink.{AppendsPart}
@@ -11,10 +11,10 @@ use Rattle.log_check.specs.declared.check.LogVerdict.TheVariants.{Yes, No}
 use Rattle.log_check.specs.LogVerdicts.{IsLogVerdict}
 use Rattle.am_answer.specs.declared.status.FileWord.{FileWord}
 use Rattle.am_answer.specs.declared.status.Status.{Status}
-use Rattle.am_answer.specs.declared.status.Status.TheVariants.{Done, Unread, Spent, Unwritten, Memory, Unproved}
+use Rattle.am_answer.specs.declared.status.Status.TheVariants.{Done, Unread, Spent, Unwritten, Memory, Unproved, GameSpent}
 use Rattle.am_answer.specs.declared.root.Root.{Root}
-use Rattle.am_answer.specs.Answers.{TaskValue, Report, NamedCard, PlayedOut, Proof, Audit, Problem, problem_of}
-use Rattle.am_answer.specs.Files.{name_of}
+use Rattle.am_answer.specs.Answers.{TaskValue, Report, NamedCard, PlayedOut, Proof, Audit, Problem, Boards, problem_of}
+use Rattle.am_answer.specs.Files.{IsNameOf}
 use Rattle.am_answer.specs.Reports.{IsTextAt, made_moves}
 use Rattle.am_match.specs.Defences.{Sitter}
 
@@ -38,6 +38,26 @@ IsSpentOn (Problem number root search) card = IsSpentBy root.kept.node made_move
 IsSpentOn (Proof root moves nodes) card = IsFirstSpentAt root.kept.node moves nodes card
 IsSpentOn _ card = ⊥
 
+-- no root card's tree is too large in any game that has a root
+abbrev pub AllGamesFit : List (Result Root Status) → ℕ → ℕ → Type 0
+AllGamesFit roots moves nodes = All (λ found. IfOk found (λ root. AllFit root.kept.node moves nodes)) roots
+
+-- the game of this number, counted from 1, has a root, after a card of which the tree has more nodes than the search may enter;
+-- in a plain search it is the first such game, and the card its first
+pub record IsGameSpentBy (roots : List (Result Root Status)) (moves : ℕ) (search : Search) (game card : ℕ) : Type 0 where
+  pub place : ℕ
+  pub root : Root
+  pub number : game ≡ place + 1
+  pub there : slice_get roots place ≡ Some (Ok root)
+  pub spent : IsSpentAt root.kept.node moves search.nodes card
+  pub first : IsPlain search → IsFirstSpentAt root.kept.node moves search.nodes card
+      × AllGamesFit (take place roots) moves search.nodes
+
+-- a job on all games whose search is spent in this game at this card
+abbrev pub IsGameSpentOn : TaskValue → ℕ → ℕ → Type 0
+IsGameSpentOn (Boards roots moves search) game card = IsGameSpentBy roots moves search game card
+IsGameSpentOn _ game card = ⊥
+
 -- a job whose log doesn't prove what it is asked, where this is the number that shows it
 abbrev pub IsUnprovedOn : TaskValue → ℕ → Type 0
 IsUnprovedOn (Audit root audit) number = IsLogVerdict root.kept.node audit.moves audit.vectors audit.lines (No number)
@@ -51,6 +71,7 @@ HasText (NamedCard root moves search) = AllFit root.kept.node moves search.nodes
 HasText (PlayedOut root moves search playing) = AllFit root.kept.node moves search.nodes
 HasText (Problem number root search) = AllFit root.kept.node made_moves search.nodes
 HasText (Proof root moves nodes) = AllFit root.kept.node moves nodes
+HasText (Boards roots moves search) = AllGamesFit roots moves search.nodes
 HasText (Audit root audit) = IsLogVerdict root.kept.node audit.moves audit.vectors audit.lines Yes
 HasText _ = ⊤
 
@@ -60,6 +81,7 @@ IsWithinIfPlain (Report root moves search) = IsPlain search → AllFit root.kept
 IsWithinIfPlain (NamedCard root moves search) = IsPlain search → AllFit root.kept.node moves search.nodes
 IsWithinIfPlain (PlayedOut root moves search playing) = IsPlain search → AllFit root.kept.node moves search.nodes
 IsWithinIfPlain (Problem number root search) = IsPlain search → AllFit root.kept.node made_moves search.nodes
+IsWithinIfPlain (Boards roots moves search) = IsPlain search → AllGamesFit roots moves search.nodes
 IsWithinIfPlain (Proof root moves nodes) = AllFit root.kept.node moves nodes
 IsWithinIfPlain _ = ⊤
 
@@ -68,6 +90,7 @@ abbrev pub IsStatusFor : Result TaskValue Status → Status → Type 0
 IsStatusFor answer Done = (task : TaskValue) × (answer ≡ Ok task) × IsWithinIfPlain task
 IsStatusFor answer (Unread file) = ⊤
 IsStatusFor answer (Spent card) = (task : TaskValue) × (answer ≡ Ok task) × IsSpentOn task card
+IsStatusFor answer (GameSpent game card) = (task : TaskValue) × (answer ≡ Ok task) × IsGameSpentOn task game card
 IsStatusFor answer (Unproved number) = (task : TaskValue) × (answer ≡ Ok task) × IsUnprovedOn task number
 IsStatusFor answer Unwritten = (task : TaskValue) × (answer ≡ Ok task) × IsWithinIfPlain task
 IsStatusFor answer Memory = ⊤
@@ -104,6 +127,6 @@ IsKeptInFront before now = IfSome before (λ bytes. IsSomeAnd now (λ all. (more
 abbrev pub IsDoneOrMemory : Status → Type 0
 IsDoneOrMemory status = (status ≡ Done) ⊎ (status ≡ Memory)
 
--- no fault was counted at the name of a file
+-- no fault was counted at any name of a file
 abbrev pub HasNoFault : AskValue → (List ℕ → ℕ) → (List ℕ → ℕ) → Type 0
-HasNoFault ask before now = (file : FileWord) → IfSome (name_of ask file) (λ name. ¬ (Rose (before name) (now name)))
+HasNoFault ask before now = (file : FileWord) (name : List ℕ) → IsNameOf ask file name → ¬ (Rose (before name) (now name))

@@ -1,5 +1,5 @@
 -- The files that the words name, read one after another.
-use Rattle.std.specs.Prelude.{ℕ, Bool, true, false, ◌<◌, ◌≤◌, ◌^◌, nat_lt, List, length, Option, Some, None, IfSome, Result, Ok, Err, ok_or, ⊤, if◌then◌else◌}
+use Rattle.std.specs.Prelude.{◌≡◌, ℕ, zero, suc, ◌+◌, Bool, true, false, ◌<◌, ◌≤◌, ◌^◌, nat_lt, List, [], ◌∷◌, length, All, Option, Some, None, IfSome, Result, Ok, Err, ok_or, ⊤, if◌then◌else◌}
 use Rattle.std.specs.FinMap.{get}
 use Rattle.am_outside.specs.Shelf.{Files}
 use Rattle.job_words.specs.Asks as asks
@@ -12,6 +12,7 @@ use Rattle.am_answer.specs.declared.status.FileWord.{FileWord}
 use Rattle.am_answer.specs.declared.status.FileWord.TheVariants.{Deal, Layouts, Report, Log}
 use Rattle.am_answer.specs.declared.status.Status.{Status}
 use Rattle.am_answer.specs.declared.status.Status.TheVariants.{BadWords, Unread, TooLong}
+use Rattle.am_answer.specs.Games.{games_of, layouts_name, most_games}
 use Rattle.byte_text.specs.Steps.{◌>>=◌}
 
 -- the most bytes that a file may have
@@ -44,8 +45,22 @@ work_read files (asks.Audit report log) = do
   log ← file_read files Log log
   Ok (works.Audit report log)
 
+-- the layout files of so many games, in order, the first of which has this number
+abbrev pub layouts_from : Files → List ℕ → ℕ → ℕ → Result (List (List ℕ)) Status
+layouts_from files name number zero = Ok []
+layouts_from files name number (suc more) = do
+  layouts ← file_read files Layouts (layouts_name name number)
+  later ← layouts_from files name (number + 1) more
+  Ok (layouts ∷ later)
+
+-- the layout file of each game of a deal file, in order
+unfoldable pub layouts_by_game : Files → List ℕ → List ℕ → Result (List (List ℕ)) Status
+layouts_by_game files name deal = do
+  games ← games_of deal
+  layouts_from files name 1 (length games)
+
 -- what the words ask for, with the bytes of the files that they name: the deal, then the layouts, then the report,
--- then the log
+-- then the log; for all games, after the deal the layout file of each
 unfoldable pub named_read : Files → asks.AskValue → Result Inputs Status
 named_read files (asks.OnLayouts deal layouts job) = do
   deal ← file_read files Deal deal
@@ -56,6 +71,10 @@ named_read files (asks.ListOf name) = do
   deal ← file_read files Deal name
   Ok (inputs.List deal)
 named_read files (asks.Made number search) = Ok (inputs.Made number search)
+named_read files (asks.Boards deal layouts moves search) = do
+  deal ← file_read files Deal deal
+  layouts ← layouts_by_game files layouts deal
+  Ok (inputs.Boards deal layouts moves search)
 
 -- the words, then the files
 unfoldable pub inputs_read : List (List ℕ) → Files → Result Inputs Status
@@ -72,13 +91,23 @@ file_named (asks.Audit report log) Report = Some report
 file_named (asks.Audit report log) Log = Some log
 file_named _ _ = None
 
--- the name that the words give a file
+-- the name that the words give a file by itself
 abbrev pub name_of : asks.AskValue → FileWord → Option (List ℕ)
 name_of (asks.OnLayouts deal layouts job) Deal = Some deal
 name_of (asks.OnLayouts deal layouts job) Layouts = Some layouts
 name_of (asks.OnLayouts deal layouts job) file = file_named job file
 name_of (asks.ListOf deal) Deal = Some deal
+name_of (asks.Boards deal layouts moves search) Deal = Some deal
 name_of _ _ = None
+
+-- the name of a game's layout file, where each game has its own
+abbrev pub IsLayoutsName : List ℕ → List ℕ → Type 0
+IsLayoutsName layouts name = (number : ℕ) × (1 ≤ number) × (number ≤ most_games) × (name ≡ layouts_name layouts number)
+
+-- the words name a file so; where each game has its own layout file, it is the name of one of these
+abbrev pub IsNameOf : asks.AskValue → FileWord → List ℕ → Type 0
+IsNameOf (asks.Boards deal layouts moves search) Layouts name = IsLayoutsName layouts name
+IsNameOf ask file name = name_of ask file ≡ Some name
 
 -- ---- which job is played at a table
 
@@ -114,8 +143,15 @@ IsWithin (works.Check report) = length report ≤ limit_of Report
 IsWithin (works.Prove moves nodes) = asks.IsMoves moves × (1 ≤ nodes) × (nodes ≤ asks.most_logged)
 IsWithin (works.Audit report log) = (length report ≤ limit_of Report) × (length log ≤ limit_of Log)
 
+-- each of these layout files keeps to its limit
+abbrev pub AreWithinLimit : List (List ℕ) → Type 0
+AreWithinLimit layouts = All (λ text. length text ≤ limit_of Layouts) layouts
+
 -- each file and each search keeps to its limits
 abbrev pub AreWithin : Inputs → Type 0
 AreWithin (inputs.OnLayouts deal layouts work) = (length deal ≤ limit_of Deal) × (length layouts ≤ limit_of Layouts) × IsWithin work
 AreWithin (inputs.List deal) = length deal ≤ limit_of Deal
 AreWithin (inputs.Made number search) = (number < 2 ^ 64) × asks.IsSearchWithinLimits search
+AreWithin (inputs.Boards deal layouts moves search) =
+    (length deal ≤ limit_of Deal) × AreWithinLimit layouts
+    × asks.IsMoves moves × asks.IsSearchWithinLimits search

@@ -1,9 +1,12 @@
 pub mod Codes
+pub mod Games
 pub mod Files
 pub mod Refusals
 pub mod Judging
 pub mod Auditing
 pub mod Answers
+pub mod Names
+pub mod Lines
 pub mod ReportOrder
 pub mod Matches
 pub mod Reports

@@ -1,5 +1,5 @@
 -- Why words and files are refused.
-use Rattle.std.specs.Prelude.{◌≡◌, ℕ, List, Some, IsSomeAnd}
+use Rattle.std.specs.Prelude.{◌≡◌, ℕ, List, Some}
 use Rattle.am_outside.specs.Faults.{Rose}
 use Rattle.job_words.specs.Asks.{AskValue}
 use Rattle.job_words.specs.Words.{words_read}
@@ -14,7 +14,7 @@ use Rattle.am_answer.specs.declared.status.FileWord.{FileWord}
 use Rattle.am_answer.specs.declared.status.PbnKind.TheVariants.{Syntax, Board}
 use Rattle.am_answer.specs.declared.status.Status.{Status}
 use Rattle.am_answer.specs.declared.status.Status.TheVariants.{BadPbn, BadLayouts, BadReport, BadMake, BadLog, Spent, Memory}
-use Rattle.am_answer.specs.Files.{name_of}
+use Rattle.am_answer.specs.Files.{IsNameOf}
 
 abbrev pub syntax_status : text.TextFault → Status
 syntax_status (text.TheVariants.Syntax line kind) = BadPbn line (Syntax kind)
@@ -51,6 +51,7 @@ make_status make.TheVariants.NoneFit = BadMake make.TheVariants.NoneFit
 make_status make.TheVariants.NotShown = BadMake make.TheVariants.NotShown
 make_status make.TheVariants.Memory = Memory
 
--- the words name the file, and the count of faults at that name rose
+-- the words name the file, and the count of faults at a name of it rose
 abbrev pub IsUnread : List (List ℕ) → (List ℕ → ℕ) → (List ℕ → ℕ) → FileWord → Type 0
-IsUnread words before now file = (ask : AskValue) × (words_read words ≡ Some ask) × IsSomeAnd (name_of ask file) (λ name. Rose (before name) (now name))
+IsUnread words before now file = (ask : AskValue) × (name : List ℕ)
+    × (words_read words ≡ Some ask) × IsNameOf ask file name × Rose (before name) (now name)

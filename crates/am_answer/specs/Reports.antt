@@ -1,5 +1,6 @@
 -- What is written where a job is done.
-use Rattle.std.specs.Prelude.{◌≡◌, ℕ, Bool, List, map, length, All}
+use Rattle.std.specs.Prelude.{◌≡◌, ℕ, Bool, List, map, length, All, Result, Ok, Err}
+use Rattle.std.specs.List.{AllZip}
 use Rattle.strategy_games.specs.Plans.{IsFront}
 use Rattle.strategy_games.specs.Choosing.{IsChosenPlan, IsBestCount, IsNamedCard, IsBestWeight, IsNamedByWeight}
 use Rattle.strategy_tree.specs.Bridge.{bridge}
@@ -14,13 +15,18 @@ use Rattle.am_report.specs.Answers.{SolveAnswerValue}
 use Rattle.am_report.specs.Card.{card_text}
 use Rattle.am_report.specs.Check.{check_text}
 use Rattle.am_report.specs.Audit.{audit_text}
+use Rattle.am_report.specs.declared.boards.GameText.{GameText}
+use Rattle.am_report.specs.declared.boards.GameText.TheVariants.{Solved, Refused}
+use Rattle.am_report.specs.Boards.{boards_text}
 use Rattle.am_report.specs.Fusion.{fusion_text}
 use Rattle.am_report.specs.LayoutFile.{list_text}
 use Rattle.am_report.specs.Made.{made_text}
 use Rattle.am_report.specs.Solve.{solve_text}
 use Rattle.am_answer.specs.declared.root.Root.{Root}
-use Rattle.am_answer.specs.Answers.{TaskValue, Report, NamedCard, PlayedOut, Sample, Proof, Audit, Good, AllLayouts, Problem}
+use Rattle.am_answer.specs.declared.status.Status.{Status}
+use Rattle.am_answer.specs.Answers.{TaskValue, Report, NamedCard, PlayedOut, Sample, Proof, Audit, Good, AllLayouts, Problem, Boards}
 use Rattle.am_answer.specs.Auditing.{AuditValue}
+use Rattle.am_answer.specs.Lines.{said_of}
 use Rattle.am_answer.specs.ReportOrder.{IsReportedFront}
 use Rattle.am_answer.specs.Matches.{IsMatchText}
 use Rattle.am_match.specs.Defences.{Sitter}
@@ -62,6 +68,16 @@ abbrev pub IsAuditText : Root → AuditValue → List ℕ → Type 0
 IsAuditText root audit text = IsLogVerdict root.kept.node audit.moves audit.vectors audit.lines Yes
     × (text ≡ audit_text (length audit.lines))
 
+-- the outcome of a game: the report of its root, or the line that says why it has none
+abbrev pub IsGameText : ℕ → Result Root Status → GameText → Type 0
+IsGameText moves (Ok root) (Solved text) = IsSolveText root moves text
+IsGameText moves (Err status) (Refused said) = said ≡ said_of status
+IsGameText moves _ _ = ⊥
+
+-- the outcomes of all games, in order
+abbrev pub IsBoardsText : List (Result Root Status) → ℕ → List ℕ → Type 0
+IsBoardsText roots moves text = (games : List GameText) × AllZip (IsGameText moves) roots games × (text ≡ boards_text games)
+
 -- the text of a job that asks no defender for a card
 abbrev pub IsText : TaskValue → List ℕ → Type 0
 IsText (Report root moves search) text = IsSolveText root moves text
@@ -73,6 +89,7 @@ IsText (Audit root audit) text = IsAuditText root audit text
 IsText (Good plans) text = text ≡ check_text plans
 IsText (AllLayouts board layouts) text = text ≡ list_text board layouts
 IsText (Problem number root search) text = IsMadeText number root made_moves text
+IsText (Boards roots moves search) text = IsBoardsText roots moves text
 
 -- the text of a job at a table of defenders, and the table after it
 abbrev pub IsTextAt : TaskValue → List Sitter → List Sitter → List ℕ → Type 0

@@ -1,6 +1,9 @@
 //! What the words ask for, once the files that they name are read.
+ghost use Rattle.std.specs.Prelude.{◌≡◌};
+
 use byte_text::Text;
 use job_words::Search;
+use std::marker::Model;
 
 /// A job on layouts, with the report that it judges and the log that it judges it by.
 #[derive(Drop)]
@@ -43,6 +46,36 @@ pub enum Work {
     },
 }
 
+/// The texts of layout files, one for each game of a deal file, in order.
+#[derive(Drop)]
+pub struct LayoutFiles {
+    texts: Vec<Text>,
+}
+
+impl Model for LayoutFiles {
+    ghost use Rattle.std.specs.Prelude.{ℕ, List};
+
+    ghost Value = { List (List ℕ) };
+
+    ghost view = { λ files. files.texts.items };
+}
+
+impl LayoutFiles {
+    /// These texts, in order.
+    pub fn new(texts: Vec<Text>) -> LayoutFiles
+        ensures { result ≡ texts.items }
+    {
+        LayoutFiles { texts }
+    }
+
+    /// The texts, in order.
+    pub fn as_slice(&self) -> &[Text]
+        ensures { result.now ≡ self.now }
+    {
+        self.texts.as_slice()
+    }
+}
+
 /// What the words ask for, with the files that they name.
 #[derive(Drop)]
 pub enum Inputs {
@@ -59,6 +92,14 @@ pub enum Inputs {
     /// The problem made from a number, solved.
     Made {
         number: u64,
+        search: Search,
+    },
+    /// Every game of a deal, each on a file of layouts of its own, by so many moves of declarer's
+    /// side.
+    Boards {
+        deal: Text,
+        layouts: LayoutFiles,
+        moves: u8,
         search: Search,
     },
 }

@@ -86,6 +86,11 @@ pub enum Status {
     /// counted from 1 without the first line of the file; or the number after the last, where all
     /// follow and the last one leaves out what the report has to cover.
     Unproved(u32),
+    /// The tree after this card has more nodes than a search may enter, in the game of this number,
+    /// counted from 1 in its deal file.
+    GameSpent(u16, Card),
+    /// The deal file has so many games, which are more than 64.
+    TooManyGames(u32),
 }
 
 impl Status {
@@ -110,6 +115,8 @@ impl Status {
             Status::NoLayout(_) => 14,
             Status::BadLog(_) => 15,
             Status::Unproved(_) => 16,
+            Status::GameSpent(_, _) => 17,
+            Status::TooManyGames(_) => 18,
         }
     }
 }
