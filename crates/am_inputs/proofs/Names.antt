@@ -2,10 +2,10 @@
 use Rattle.std.proofs.Common.{◌≡◌, ◌≤◌, ℕ, List, Option, Some, None, Result, Ok, Err, IsErrAnd, IsErrOf, inl, inr, refl, sym, subst, ◌∙◌, arith}
 use Rattle.std.specs.Prelude.{IsSomeAnd}
 use Rattle.am_outside.specs.Faults.{Rose}
-use Rattle.job_words.specs.Asks.{LayoutsJobValue, OnLayouts, Solve, Card, Match, Fusion, Check, Prove, Audit}
+use Rattle.job_words.specs.Asks.{AskValue, LayoutsJobValue, OnLayouts, Solve, Card, Match, Fusion, Check, Prove, Audit}
 use Rattle.am_answer.specs.declared.status.FileWord.{FileWord}
 use Rattle.am_answer.specs.declared.status.FileWord.TheVariants.{Deal, Layouts, Report, Log}
-use Rattle.am_answer.specs.Files.{file_named, name_of}
+use Rattle.am_answer.specs.Files.{file_named, IsNameOf}
 
 -- a job names neither the deal nor the layouts
 neither_named : (job : LayoutsJobValue) → (file_named job Deal ≡ None) × (file_named job Layouts ≡ None)
@@ -27,14 +27,19 @@ pub rose_since : (before between now : ℕ) → before ≤ between → Rose betw
 rose_since before between now earlier (inl less) = inl (omega arith)
 rose_since before between now earlier (inr last) = inr last
 
+-- a file that the words name so, where its count rose
+pub is_named : (ask : AskValue) (file named : FileWord) (name : List ℕ) (before now : List ℕ → ℕ) → file ≡ named → IsNameOf ask named name → Rose (before name) (now name)
+    → (other : List ℕ) × IsNameOf ask file other × Rose (before other) (now other)
+is_named ask file named name before now same is rose = (name, subst (λ f. IsNameOf ask f name) (sym same) is, rose)
+
 module _ (before between now : List ℕ → ℕ) (earlier : (name : List ℕ) → before name ≤ between name) where
-  named_since : (named : Option (List ℕ)) → IsSomeAnd named (λ name. Rose (between name) (now name)) → IsSomeAnd named (λ name. Rose (before name) (now name))
-  named_since None rose = rose
-  named_since (Some name) rose = rose_since (before name) (between name) (now name) (earlier name) rose
+  named_since : (named : Option (List ℕ)) → IsSomeAnd named (λ name. Rose (between name) (now name)) → (name : List ℕ) × (named ≡ Some name) × Rose (before name) (now name)
+  named_since None rose = absurd rose
+  named_since (Some name) rose = (name, refl, rose_since (before name) (between name) (now name) (earlier name) rose)
 
   -- the file that a job names is the one that its words name
   pub job_names : (deal layouts : List ℕ) (job : LayoutsJobValue) (file : FileWord) → IsSomeAnd (file_named job file) (λ name. Rose (between name) (now name))
-      → IsSomeAnd (name_of (OnLayouts deal layouts job) file) (λ name. Rose (before name) (now name))
+      → (name : List ℕ) × IsNameOf (OnLayouts deal layouts job) file name × Rose (before name) (now name)
   job_names deal layouts job Deal rose = absurd (subst (λ (o : Option (List ℕ)). IsSomeAnd o (λ name. Rose (between name) (now name))) (neither_named job).0 rose)
   job_names deal layouts job Layouts rose = absurd (subst (λ (o : Option (List ℕ)). IsSomeAnd o (λ name. Rose (between name) (now name))) (neither_named job).1 rose)
   job_names deal layouts job Report rose = named_since (file_named job Report) rose

@@ -6,12 +6,13 @@ ghost use Rattle.job_words.specs.declared.asks.Search.{Search};
 ghost use Rattle.job_words.specs.Asks.{Made, ask_of, job_of, texts_of};
 ghost use Rattle.job_words.specs.Asks.{IsWithinLimits, IsJobWithinLimits};
 ghost use Rattle.job_words.specs.Words.{words_read};
-ghost use Rattle.am_answer.specs.Files.{file_read, inputs_read, limit_of, name_of, named_read};
-ghost use Rattle.am_answer.specs.Files.{file_named, work_read, AreWithin, IsWithin};
+ghost use Rattle.am_answer.specs.Files.{file_read, inputs_read, limit_of, named_read};
+ghost use Rattle.am_answer.specs.Files.{file_named, work_read, AreWithin, IsNameOf, IsWithin};
 ghost use Rattle.am_answer.specs.Files.{is_match_job, asks_match, is_match_work, is_match};
 ghost use Rattle.am_answer.specs.Refusals.{IsUnread};
 ghost use Rattle.am_answer.specs.Stages.{IsOfFiles, IsOfReading, IsReadRefusal};
 
+use crate::boards::read_by_game;
 use am_answer::{FileWord, Inputs, Status, Work};
 use am_outside::{Shelf, ShelfFault};
 use byte_text::Text;
@@ -30,7 +31,7 @@ fn limit_of(file: FileWord) -> u64
 
 // The bytes of a file.
 #[tactic(auto, unfolding(am_answer::specs::Files::file_read))]
-fn read_file<S: Shelf>(
+pub(crate) fn read_file<S: Shelf>(
     alloc: Global,
     shelf: &mut S,
     file: FileWord,
@@ -101,7 +102,8 @@ fn read_work<S: Shelf>(alloc: Global, shelf: &mut S, job: LayoutsJob<'_>) -> Res
     }
 }
 
-// The files that an ask names: the deal, then the layouts, then the report, then the log.
+// The files that an ask names: the deal, then the layouts, then the report, then the log; for all
+// games of a deal, after it the layout file of each.
 #[tactic(auto, unfolding(am_answer::specs::Files::named_read))]
 fn read_named<S: Shelf>(alloc: Global, shelf: &mut S, ask: Ask<'_>) -> Result<Inputs, Status>
     requires { IsWithinLimits (ask_of ask) }
@@ -114,8 +116,8 @@ fn read_named<S: Shelf>(alloc: Global, shelf: &mut S, ask: Ask<'_>) -> Result<In
         is_match inputs ≡ asks_match (Some (ask_of ask.entry))) }
     ensures only { IfErr result IsOfFiles }
     ensures unread { (file : FileWord) → IsErrOf result (Status.Unread file)
-        → IsSomeAnd (name_of (ask_of ask.entry) file) (λ name.
-        Rose (S.faults shelf.old name) (S.faults shelf.new name)) }
+        → (name : List ℕ) × IsNameOf (ask_of ask.entry) file name
+        × Rose (S.faults shelf.old name) (S.faults shelf.new name) }
     ensures made { (number : ℕ) (search : Search) → ask_of ask.entry ≡ Made number search
         → result ≡ Ok (Inputs.Made number search) }
     ensures same_files { S.told shelf.new ≡ S.told shelf.old }
@@ -135,6 +137,21 @@ fn read_named<S: Shelf>(alloc: Global, shelf: &mut S, ask: Ask<'_>) -> Result<In
             let deal = read_file(alloc, shelf, FileWord::Deal, deal)?;
             Ok(Inputs::List { deal })
         }
+        Ask::Boards {
+            deal,
+            layouts,
+            moves,
+            search,
+        } => {
+            let deal = read_file(alloc, shelf, FileWord::Deal, deal)?;
+            let layouts = read_by_game(alloc, shelf, layouts, &deal)?;
+            Ok(Inputs::Boards {
+                deal,
+                layouts,
+                moves,
+                search,
+            })
+        }
         Ask::Made { number, search } => Ok(Inputs::Made { number, search }),
     }
 }
@@ -153,7 +170,9 @@ fn read_ask(alloc: Global, words: &[String]) -> Result<Ask<'_>, Status>
 }
 
 /// Reads the words, then the files that they name: the deal, then the layouts, then the report,
-/// then the log. The problem of a number needs no file.
+/// then the log. For all games of a deal, the deal file's games come next, and then the layout
+/// file of each in order, whose name is that of the words, a full stop and the game's number from
+/// 1. The problem of a number needs no file.
 #[tactic(auto, unfolding(am_answer::specs::Files::inputs_read))]
 pub fn read_inputs<S: Shelf>(
     alloc: Global,

@@ -1,10 +1,13 @@
-//! Reads what a run is about: words, files, the board, the kept layouts and whose turn it is.
+//! Reads what a run is about: words, files, the board, the kept layouts and whose turn it is, for
+//! one game or for all games of a deal file.
 //! It stands on the readers of words, deal files and layout files, and on a shelf for the files.
 //! Its contract promises what `am_answer` says that the files lead to, or the first refusal.
 #![tactic(auto)]
 
+mod boards;
 mod inputs;
 mod root;
 
+pub use boards::read_roots;
 pub use inputs::read_inputs;
 pub use root::{read_deal, read_root};

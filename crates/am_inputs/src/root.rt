@@ -1,6 +1,6 @@
 //! The board, the kept layouts and the turn: what the files say, once they are read.
 ghost use Rattle.std.specs.Prelude.{◌≡◌, ◌<◌, ◌-◌, ◌^◌, Ok, true, length, IfOk, IfErr};
-ghost use Rattle.am_answer.specs.Answers.{board_in, kept_in, has_choice, root_in};
+ghost use Rattle.am_answer.specs.Answers.{board_in, kept_in, has_choice, root_in, root_on, IsRoot};
 ghost use Rattle.am_answer.specs.Stages.{IsFileRefusal};
 
 use am_answer::{PbnKind, Root, Status, board_status, layout_status, syntax_status};
@@ -53,6 +53,22 @@ fn has_choice(node: &Node) -> bool
     !node.position().over() && node.is_ours()
 }
 
+/// Reads the layouts of a board, then whose turn it is.
+#[tactic(auto, unfolding(am_answer::specs::Answers::root_on))]
+pub(crate) fn root_on(alloc: Global, board: Board, layouts: &Text) -> Result<Root, Status>
+    requires { length layouts.now < 2 ^ 32 - 1 }
+    ensures root { IfOk result (λ root. root_on board layouts.now ≡ Ok root) }
+    ensures is_root { IfOk result IsRoot }
+    ensures refused { IfErr result (IsFileRefusal (root_on board layouts.now)) }
+{
+    let kept = read_layouts(alloc, layouts, &board)?;
+    if has_choice(&kept.node) {
+        Ok(Root { board, kept })
+    } else {
+        Err(Status::NoTurn)
+    }
+}
+
 /// Reads the board, then the layouts, then whose turn it is.
 #[tactic(auto, unfolding(am_answer::specs::Answers::root_in))]
 pub fn read_root(alloc: Global, deal: &Text, layouts: &Text) -> Result<Root, Status>
@@ -67,10 +83,5 @@ pub fn read_root(alloc: Global, deal: &Text, layouts: &Text) -> Result<Root, Sta
     ensures refused { IfErr result (IsFileRefusal (root_in deal.now layouts.now)) }
 {
     let board = read_deal(alloc, deal)?;
-    let kept = read_layouts(alloc, layouts, &board)?;
-    if has_choice(&kept.node) {
-        Ok(Root { board, kept })
-    } else {
-        Err(Status::NoTurn)
-    }
+    root_on(alloc, board, layouts)
 }
