@@ -6,7 +6,8 @@ use Rattle.std.specs.Io.KnownBytes.{append_known}
 use Rattle.am_outside.specs.Sink.{AppendsPart}
 use Rattle.am_outside.specs.declared.sink.SinkFailed.{SinkFailed}
 use Rattle.am_outside.proofs.Written.{AppendsPart-first, AppendsPart-second, append_known-append_known}
-use Rattle.am_line.specs.Lines.{joined_pieces, IsWritten}
+use Rattle.am_answer.specs.Lines.{joined_pieces}
+use Rattle.am_line.specs.Said.{IsWritten}
 
 joined_suc : {B : Type 0} (now : B → List ℕ) (pieces : List B) (i : ℕ) (d : B) → i < length pieces
     → joined_pieces (take (suc i) (map now pieces)) ≡ joined_pieces (take i (map now pieces)) ++ now (slice_index_or pieces i d)

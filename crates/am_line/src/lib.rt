@@ -5,5 +5,7 @@
 
 mod line;
 mod names;
+mod saying;
 
 pub use line::refuse;
+pub use saying::said;

@@ -1,8 +1,9 @@
 //! The line to standard error that says why a run was refused. It takes no memory.
 ghost use Rattle.std.specs.Prelude.{◌≡◌, ◌≤◌, map, codes, if◌then◌else◌, OnErr};
 ghost use Rattle.am_outside.specs.Faults.{Rose};
-ghost use Rattle.am_line.specs.Lines.{joined_pieces, layouts_line, make_line, refuted_line, spent_line};
-ghost use Rattle.am_line.specs.Lines.{status_line, IsSaid, IsWritten};
+ghost use Rattle.am_answer.specs.Lines.{game_spent_line, joined_pieces, layouts_line, make_line};
+ghost use Rattle.am_answer.specs.Lines.{refuted_line, spent_line, status_line};
+ghost use Rattle.am_line.specs.Said.{IsSaid, IsWritten};
 
 use crate::names::{deal_name, file_name, kind_name, report_name};
 use am_answer::{Place, Status};
@@ -139,8 +140,8 @@ fn write_make<O: Sink>(out: &mut O, fault: MakeFault) -> Result<(), SinkFailed>
 }
 
 // Writes the line of a status.
-#[tactic(auto, unfolding(crate::specs::Lines::status_line))]
-fn write_line<O: Sink>(out: &mut O, status: &Status) -> Result<(), SinkFailed>
+#[tactic(auto, unfolding(am_answer::specs::Lines::status_line))]
+pub(crate) fn write_line<O: Sink>(out: &mut O, status: &Status) -> Result<(), SinkFailed>
     ensures written { IsWritten (O.told out.old) (status_line status.now) (O.told out.new) result }
     ensures failed { OnErr result (Rose (O.faults out.old) (O.faults out.new)) }
 {
@@ -205,6 +206,11 @@ fn write_line<O: Sink>(out: &mut O, status: &Status) -> Result<(), SinkFailed>
                 b" not proved\n",
             ],
         ),
+        Status::GameSpent(game, card) => write_game_spent(out, *game, *card),
+        Status::TooManyGames(games) => write_pieces(
+            out,
+            &[b"alphamu: ", number.format(*games).as_bytes(), b" games\n"],
+        ),
     }
 }
 
@@ -216,6 +222,27 @@ fn write_spent<O: Sink>(out: &mut O, card: Card) -> Result<(), SinkFailed>
 {
     let letters = letters_of(card);
     write_pieces(out, &[b"alphamu: nodes spent at ", &letters, b"\n"])
+}
+
+// Writes the line for a root card whose tree is too large, in the game of a number.
+fn write_game_spent<O: Sink>(out: &mut O, game: u16, card: Card) -> Result<(), SinkFailed>
+    ensures written { IsWritten (O.told out.old) (joined_pieces (game_spent_line game card))
+        (O.told out.new) result }
+    ensures failed { OnErr result (Rose (O.faults out.old) (O.faults out.new)) }
+{
+    let mut digits = Buffer::new();
+    let number = digits.format(game).as_bytes();
+    let letters = letters_of(card);
+    write_pieces(
+        out,
+        &[
+            b"alphamu: game ",
+            number,
+            b": nodes spent at ",
+            &letters,
+            b"\n",
+        ],
+    )
 }
 
 /// Says why a run was refused, and hands the status back. The line is whole, or a proper prefix of

@@ -1,7 +1,7 @@
 //! The names of files and faults, as lines to standard error print them.
 ghost use Rattle.std.specs.Prelude.{◌≡◌};
-ghost use Rattle.am_line.specs.Names.{file_name, syntax_name, deal_name, board_name, kind_name};
-ghost use Rattle.am_line.specs.Names.{report_name};
+ghost use Rattle.am_answer.specs.Names.{file_name, syntax_name, deal_name, board_name, kind_name};
+ghost use Rattle.am_answer.specs.Names.{report_name};
 
 use am_answer::{FileWord, PbnKind};
 use am_report::ReportKind;

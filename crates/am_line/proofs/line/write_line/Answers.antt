@@ -1,4 +1,4 @@
-use Rattle.am_line.specs.Lines.{status_line}
+use Rattle.am_answer.specs.Lines.{status_line}
 use Rattle.am_line.proofs.line.write_line.Goals as goal
 
 pub returns-in-Unread-clause-written : goal.returns-in-Unread-clause-written
@@ -51,3 +51,12 @@ pub returns-in-Unproved-clause-written : goal.returns-in-Unproved-clause-written
 unfolding status_line
 returns-in-Unproved-clause-written g c =
     rw (c.in-Unproved.is, ← c.format-in-Unproved.ensures.text, ← c.as_bytes-in-Unproved.ensures.value) c.write_pieces-in-Unproved.ensures.written
+
+pub returns-in-GameSpent-clause-written : goal.returns-in-GameSpent-clause-written
+unfolding status_line
+returns-in-GameSpent-clause-written g c = rw (c.in-GameSpent.is) c.write_game_spent.ensures.written
+
+pub returns-in-TooManyGames-clause-written : goal.returns-in-TooManyGames-clause-written
+unfolding status_line
+returns-in-TooManyGames-clause-written g c =
+    rw (c.in-TooManyGames.is, ← c.format-in-TooManyGames.ensures.text, ← c.as_bytes-in-TooManyGames.ensures.value) c.write_pieces-in-TooManyGames.ensures.written

@@ -1,6 +1,6 @@
 use Rattle.std.proofs.Common.{◌≡◌, ◌≤◌, map, take}
 use Rattle.std.specs.Io.KnownBytes.{append_known}
-use Rattle.am_line.specs.Lines.{joined_pieces}
+use Rattle.am_answer.specs.Lines.{joined_pieces}
 use Rattle.am_line.proofs.line.write_pieces.Given as goal
 
 abbrev pub invariant-loop-piece : goal.invariant-loop-piece

@@ -1,6 +1,7 @@
 use Rattle.std.proofs.Common.{subst, [], ◌∷◌}
 use Rattle.std.specs.Prelude.{codes}
-use Rattle.am_line.specs.Lines.{joined_pieces, IsWritten}
+use Rattle.am_answer.specs.Lines.{joined_pieces}
+use Rattle.am_line.specs.Said.{IsWritten}
 use Rattle.am_line.proofs.line.write_spent.Goals as goal
 
 pub returns-clause-written : goal.returns-clause-written
