@@ -1,6 +1,6 @@
 -- A run that is accepted, and meets no fault, is done or out of memory.
 use Rattle.std.proofs.Common.{◌≡◌, ◌⊎◌, inr, ⊎_elim, ℕ, List, Option, Some, None, Result, Ok, Err, refl, sym, subst, ◌∙◌, rules}
-use Rattle.std.specs.Prelude.{IfSome, IsSomeAnd}
+use Rattle.std.specs.Prelude.{IfSome}
 use Rattle.am_outside.specs.Faults.{Rose}
 use Rattle.am_outside.specs.Shelf.{Files}
 use Rattle.job_words.specs.declared.asks.Search.{Search}
@@ -8,15 +8,15 @@ use Rattle.job_words.specs.Asks.{AskValue}
 use Rattle.job_words.specs.Words.{words_read}
 use Rattle.am_answer.specs.declared.status.FileWord.{FileWord}
 use Rattle.am_answer.specs.declared.status.Status.{Status}
-use Rattle.am_answer.specs.declared.status.Status.TheVariants.{Done, Refuted, BadWords, Unread, BadPbn, BadLayouts, NoTurn, Spent, Unwritten, Memory, TooLong, BadReport, BadMake, NoLayout, BadLog, Unproved}
+use Rattle.am_answer.specs.declared.status.Status.TheVariants.{Done, Refuted, BadWords, Unread, BadPbn, BadLayouts, NoTurn, Spent, Unwritten, Memory, TooLong, BadReport, BadMake, NoLayout, BadLog, Unproved, GameSpent, TooManyGames}
 use Rattle.am_answer.specs.declared.root.Root.{Root}
 use Rattle.am_answer.specs.Answers.{TaskValue, Problem, answer, problem_of}
-use Rattle.am_answer.specs.Files.{name_of}
+use Rattle.am_answer.specs.Files.{IsNameOf}
 use Rattle.am_answer.specs.Refusals.{IsUnread}
-use Rattle.am_answer.specs.Endings.{IsSpentOn, IsUnprovedOn, HasText, IsWithinIfPlain, IsMadeStatus, IsMadeRun, HasNoFault, IsDoneOrMemory}
+use Rattle.am_answer.specs.Endings.{IsSpentOn, IsGameSpentOn, IsUnprovedOn, HasText, IsWithinIfPlain, IsMadeStatus, IsMadeRun, HasNoFault, IsDoneOrMemory}
 use Rattle.am_answer.specs.Stages.{IsRefusal, IsTaskRefusal, IsTextForAt}
 use Rattle.am_match.specs.Defences.{Sitter}
-use Rattle.am_answer.proofs.Endings.{not_spent, not_unproved}
+use Rattle.am_answer.proofs.Endings.{not_spent, not_game_spent, not_unproved}
 use Rattle.am_top.proofs.MadeAccepted.{made-problem}
 
 ok-err : {A : Type 0} (result : Result A Status) (value : A) (status : Status) → result ≡ Ok value → result ≡ Err status → ⊥
@@ -30,14 +30,9 @@ some-same found value other is also = search (rules, sym is ∙ also)
 
 -- ---- a run that wrote nothing
 
-both-not : {A : Type 0} (found : Option A) (P : A → Type 0) → IsSomeAnd found P → IfSome found (λ x. P x → ⊥) → ⊥
-both-not None P is none = absurd is
-both-not (Some x) P is none = none is
-
 not_unread : (words : List (List ℕ)) (ask : AskValue) (before now : List ℕ → ℕ) (file : FileWord) → words_read words ≡ Some ask → HasNoFault ask before now → IsUnread words before now file → ⊥
-not_unread words ask before now file asked none (other, is, rose) =
-    let same = some-same (words_read words) other ask is asked in
-    both-not (name_of ask file) (λ name. Rose (before name) (now name)) (subst (λ a. IsSomeAnd (name_of a file) (λ name. Rose (before name) (now name))) same rose) (none file)
+not_unread words ask before now file asked none (other, name, is, named, rose) =
+    none file name (subst (λ a. IsNameOf a file name) (some-same (words_read words) other ask is asked) named) rose
 
 module _ (words : List (List ℕ)) (files : Files) (before now : List ℕ → ℕ) (ask : AskValue) (task : TaskValue) (asked : words_read words ≡ Some ask) (accepted : answer words files ≡ Ok task) (fits : HasText task)
     (none : HasNoFault ask before now) where
@@ -60,6 +55,9 @@ module _ (words : List (List ℕ)) (files : Files) (before now : List ℕ → �
   complete (BadLog line) is unread = absurd (ok-err (answer words files) task (BadLog line) accepted is)
   complete (Unproved number) (other, also, unproved) unread =
       absurd (not_unproved task number fits (subst (λ t. IsUnprovedOn t number) (ok-same (answer words files) other task also accepted) unproved))
+  complete (GameSpent game card) (other, also, spent) unread =
+      absurd (not_game_spent task game card fits (subst (λ t. IsGameSpentOn t game card) (ok-same (answer words files) other task also accepted) spent))
+  complete (TooManyGames games) is unread = absurd (ok-err (answer words files) task (TooManyGames games) accepted is)
 
 pub told_complete : (told : Option Files) (words : List (List ℕ)) (status : Status) (before now : List ℕ → ℕ) (written : Type 0) → IfSome told (λ files. IsRefusal (answer words files) status) → ((file : FileWord) → status ≡ Unread file → IsUnread words before now file)
     → IfSome told (λ files. (ask : AskValue) (task : TaskValue) → words_read words ≡ Some ask → answer words files ≡ Ok task → HasText task → HasNoFault ask before now → (written → ⊥) → IsDoneOrMemory status)
@@ -89,6 +87,9 @@ module _ (number : ℕ) (search' : Search) where
   made_refused root (BadLog line) is refused = absurd (ok-err (problem_of number search') (Problem number root search') (BadLog line) is refused)
   made_refused root (Unproved line) is (other, also, unproved) =
       subst (λ t. IsUnprovedOn t line) (ok-same (problem_of number search') other (Problem number root search') also is) unproved
+  made_refused root (GameSpent game card) is (other, also, spent) =
+      subst (λ t. IsGameSpentOn t game card) (ok-same (problem_of number search') other (Problem number root search') also is) spent
+  made_refused root (TooManyGames games) is refused = absurd (ok-err (problem_of number search') (Problem number root search') (TooManyGames games) is refused)
 
   pub made_run_refused : (status : Status) → IsTaskRefusal (problem_of number search') status → IsMadeRun number search' status
   made_run_refused status refused = let made = made-problem number search' in (made.0, made.1, made_refused made.0 status made.1 refused)
@@ -124,3 +125,6 @@ module _ (number : ℕ) (search' : Search) where
   made_complete task (BadLog line) is fits refused = absurd (ok-err (problem_of number search') task (BadLog line) is refused)
   made_complete task (Unproved line) is fits (other, also, unproved) =
       absurd (not_unproved task line fits (subst (λ t. IsUnprovedOn t line) (ok-same (problem_of number search') other task also is) unproved))
+  made_complete task (GameSpent game card) is fits (other, also, spent) =
+      absurd (not_game_spent task game card fits (subst (λ t. IsGameSpentOn t game card) (ok-same (problem_of number search') other task also is) spent))
+  made_complete task (TooManyGames games) is fits refused = absurd (ok-err (problem_of number search') task (TooManyGames games) is refused)

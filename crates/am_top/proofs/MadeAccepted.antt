@@ -7,14 +7,14 @@ use Rattle.job_words.specs.Words.{words_read}
 use Rattle.layout_maker.specs.MadeProblem.{made_deal, made_layouts, IsAcceptedProblem}
 use Rattle.layout_maker.proofs.MadeAccepted.{accepted}
 use Rattle.am_answer.specs.declared.root.Root.{Root}
-use Rattle.am_answer.specs.Answers.{Problem, answer, task_in, problem_of, root_in, board_in, kept_in}
+use Rattle.am_answer.specs.Answers.{Problem, answer, task_in, problem_of, root_in, root_on, board_in, kept_in}
 use Rattle.am_answer.specs.Files.{inputs_read, named_read}
 
 abbrev root_made : (number : ℕ) → IsAcceptedProblem number → Root
 root_made number is = record { board = is.board; kept = is.kept }
 
 root-made : (number : ℕ) (is : IsAcceptedProblem number) → root_in (made_deal number) (made_layouts number) ≡ Ok (root_made number is)
-unfolding root_in board_in kept_in
+unfolding root_in root_on board_in kept_in
 root-made number is = rw (is.one_game, is.its_board, is.its_layouts, is.is_on, is.own_turn) refl
 
 answer-made : (words : List (List ℕ)) (files : Files) (number : ℕ) (search : Search) → words_read words ≡ Some (Made number search) → answer words files ≡ problem_of number search

@@ -1,5 +1,6 @@
 -- What a report says, and that it is the only one.
-use Rattle.std.proofs.Common.{◌≡◌, ◌≤◌, ℕ, zero, suc, List, [], ◌∷◌, length, map, All, Contains, refl, sym, ap, ap₂, subst, ◌∙◌}
+use Rattle.std.proofs.Common.{◌≡◌, ◌≤◌, ℕ, zero, suc, List, [], ◌∷◌, Result, Ok, Err, length, map, All, Contains, refl, sym, ap, ap₂, subst, ◌∙◌}
+use Rattle.std.specs.List.{AllZip}
 use Rattle.std.proofs.lemmas.List.Elements.{All-contains, All-tail}
 use Rattle.std.proofs.lemmas.List.Sorted.{Contains-permutation, IsPermutation-sym}
 use Rattle.win_vectors.specs.Weights.{weight_of}
@@ -22,9 +23,13 @@ use Rattle.am_report.specs.Answers.{SolveAnswerValue, EntryValue}
 use Rattle.am_report.specs.Solve.{solve_text}
 use Rattle.am_report.specs.Card.{card_text}
 use Rattle.am_report.specs.Made.{made_text}
+use Rattle.am_report.specs.declared.boards.GameText.{GameText}
+use Rattle.am_report.specs.declared.boards.GameText.TheVariants.{Solved, Refused}
+use Rattle.am_report.specs.Boards.{boards_text}
 use Rattle.am_answer.specs.declared.root.Root.{Root}
-use Rattle.am_answer.specs.Answers.{Report, NamedCard, Proof, Problem}
-use Rattle.am_answer.specs.Reports.{IsSolveAnswer, IsText, made_moves}
+use Rattle.am_answer.specs.declared.status.Status.{Status}
+use Rattle.am_answer.specs.Answers.{Report, NamedCard, Proof, Problem, Boards}
+use Rattle.am_answer.specs.Reports.{IsSolveAnswer, IsSolveText, IsGameText, IsText, made_moves}
 use Rattle.am_top.proofs.OneOrder.{one_reported_front}
 
 -- ---- what is printed
@@ -104,10 +109,13 @@ answer-same n weights moves found other is also =
     let weight = weight-same weights n moves found.weight other.weight is.weight also.weight in
     ap (λ e. answer_of e found.card found.weight) entries ∙ ap₂ (λ c k. answer_of other.entries c k) card weight
 
+one-solved : (root : Root) (moves : ℕ) (text more : List ℕ) → IsSolveText root moves text → IsSolveText root moves more → text ≡ more
+one-solved root moves text more (found, is, written) (also, same, again) =
+    written ∙ ap (solve_text root.board root.kept moves) (answer-same root.kept.node root.kept.weights moves found also is same) ∙ sym again
+
 module _ (root : Root) (moves : ℕ) (search other : Search) (text more : List ℕ) where
   pub one-report : IsText (Report root moves search) text → IsText (Report root moves other) more → text ≡ more
-  one-report (found, is, written) (also, same, again) =
-      written ∙ ap (solve_text root.board root.kept moves) (answer-same root.kept.node root.kept.weights moves found also is same) ∙ sym again
+  one-report is same = one-solved root moves text more is same
 
   pub one-card : IsText (NamedCard root moves search) text → IsText (NamedCard root moves other) more → text ≡ more
   one-card (card, weight, is, best, written) (named, most, also, same, again) =
@@ -128,3 +136,24 @@ one-summary number root search other text more (vectors, card, count, front, is,
     let counts = laws.best_count.unique root.kept.node made_moves count most best same in
     written ∙ ap (λ f. made_text (summary_of number root (length f) count card)) fronts ∙ ap (λ k. made_text (summary_of number root (length others) k card)) counts
     ∙ ap (λ c. made_text (summary_of number root (length others) most c)) cards ∙ sym again
+
+one-outcome : (moves : ℕ) (found : Result Root Status) (game other : GameText) → IsGameText moves found game → IsGameText moves found other → game ≡ other
+one-outcome moves (Ok root) (Solved text) (Solved more) is also = ap (λ t. Solved t) (one-solved root moves text more is also)
+one-outcome moves (Ok root) (Solved text) (Refused said) is also = absurd also
+one-outcome moves (Ok root) (Refused said) other is also = absurd is
+one-outcome moves (Err status) (Refused said) (Refused more) is also = ap (λ t. Refused t) (is ∙ sym also)
+one-outcome moves (Err status) (Refused said) (Solved text) is also = absurd also
+one-outcome moves (Err status) (Solved text) other is also = absurd is
+
+one-by-game : (moves : ℕ) (roots : List (Result Root Status)) (games others : List GameText) → AllZip (IsGameText moves) roots games → AllZip (IsGameText moves) roots others → games ≡ others
+one-by-game moves [] [] [] is also = refl
+one-by-game moves [] [] (other ∷ others) is also = absurd also
+one-by-game moves [] (game ∷ games) others is also = absurd is
+one-by-game moves (found ∷ roots) [] others is also = absurd is
+one-by-game moves (found ∷ roots) (game ∷ games) [] is also = absurd also
+one-by-game moves (found ∷ roots) (game ∷ games) (other ∷ others) is also =
+    ap₂ (λ (g : GameText) gs. g ∷ gs) (one-outcome moves found game other is.0 also.0) (one-by-game moves roots games others is.1 also.1)
+
+pub one-boards : (roots : List (Result Root Status)) (moves : ℕ) (search other : Search) (text more : List ℕ) → IsText (Boards roots moves search) text → IsText (Boards roots moves other) more → text ≡ more
+one-boards roots moves search other text more (games, is, written) (others, also, again) =
+    written ∙ ap boards_text (one-by-game moves roots games others is also) ∙ sym again

@@ -5,7 +5,7 @@ use Rattle.am_outside.specs.Shelf.{Files}
 use Rattle.am_answer.specs.declared.inputs.Inputs.{Inputs}
 use Rattle.am_answer.specs.declared.inputs.Inputs.TheVariants.{Made}
 use Rattle.am_answer.specs.declared.status.Status.{Status}
-use Rattle.am_answer.specs.declared.status.Status.TheVariants.{Done, Refuted, BadWords, Unread, BadPbn, BadLayouts, NoTurn, Spent, Unwritten, Memory, TooLong, BadReport, BadMake, NoLayout, BadLog, Unproved}
+use Rattle.am_answer.specs.declared.status.Status.TheVariants.{Done, Refuted, BadWords, Unread, BadPbn, BadLayouts, NoTurn, Spent, Unwritten, Memory, TooLong, BadReport, BadMake, NoLayout, BadLog, Unproved, GameSpent, TooManyGames}
 use Rattle.job_words.specs.declared.asks.Search.{Search}
 use Rattle.layout_maker.specs.MadeProblem.{made_deal, made_layouts}
 use Rattle.am_answer.specs.declared.root.Root.{Root}
@@ -36,7 +36,7 @@ refused_inputs words files Done is = absurd is
 refused_inputs words files (Refuted plan place) is = absurd is
 refused_inputs words files BadWords is = answer-refused words files BadWords is
 refused_inputs words files (Unread file) is = tt
-refused_inputs words files (BadPbn line kind) is = absurd is
+refused_inputs words files (BadPbn line kind) is = answer-refused words files (BadPbn line kind) is
 refused_inputs words files (BadLayouts fault) is = absurd is
 refused_inputs words files NoTurn is = absurd is
 refused_inputs words files (Spent card) is = absurd is
@@ -48,6 +48,8 @@ refused_inputs words files (BadMake fault) is = absurd is
 refused_inputs words files (NoLayout layout) is = absurd is
 refused_inputs words files (BadLog line) is = absurd is
 refused_inputs words files (Unproved number) is = absurd is
+refused_inputs words files (GameSpent game card) is = absurd is
+refused_inputs words files (TooManyGames games) is = answer-refused words files (TooManyGames games) is
 
 -- a task that is refused
 refused_task : (found : Result TaskValue Status) (status : Status) → IsTaskRefusal found status → IsRefusal found status
@@ -67,6 +69,8 @@ refused_task found (BadMake fault) is = is
 refused_task found (NoLayout layout) is = is
 refused_task found (BadLog line) is = is
 refused_task found (Unproved number) is = is
+refused_task found (GameSpent game card) is = is
+refused_task found (TooManyGames games) is = is
 
 -- where the shelf tells its files
 

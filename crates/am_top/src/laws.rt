@@ -1,5 +1,5 @@
 //! What a report says, in the words of the game. A call does nothing: its contract is the law.
-ghost use Rattle.std.specs.Prelude.{◌≡◌, ◌≤◌, ◌<◌, ◌^◌, ℕ, Bool, true, List, Some, Ok};
+ghost use Rattle.std.specs.Prelude.{◌≡◌, ◌≤◌, ◌<◌, ◌^◌, ℕ, Bool, true, List, Some, Ok, Result};
 ghost use Rattle.std.specs.Prelude.{length, map, All, Contains};
 ghost use Rattle.win_vectors.specs.Weights.{weight_of, IsWeight};
 ghost use Rattle.win_vectors.specs.Fronts.{Covers};
@@ -14,7 +14,9 @@ ghost use Rattle.layout_list.specs.Lines.{most_listed};
 ghost use Rattle.am_report.specs.Answers.{SolveAnswerValue, EntryValue};
 ghost use Rattle.am_report.specs.Solve.{solve_text};
 ghost use Rattle.am_answer.specs.declared.root.Root.{Root};
-ghost use Rattle.am_answer.specs.Answers.{Playing, Report, NamedCard, Proof, Problem, answer};
+ghost use Rattle.am_answer.specs.declared.status.Status.{Status};
+ghost use Rattle.am_answer.specs.Answers.{Playing, Report, NamedCard, Proof, Problem, Boards};
+ghost use Rattle.am_answer.specs.Answers.{answer};
 ghost use Rattle.am_answer.specs.Judging.{plans_in};
 ghost use Rattle.am_answer.specs.Matches.{IsPlayed};
 ghost use Rattle.am_match.specs.Defences.{Sitter};
@@ -51,8 +53,8 @@ pub fn a_bit_of_1_is_made()
         → IsPlayed n weights moves playing table later true cards made → made ≡ true }
 {}
 
-/// A root and a number of moves have one report, one card and one log, and a number one summary of
-/// its problem: no number of workers, size of the table, rule of cuts or number of nodes changes a
+/// A root and a number of moves have one report, one card and one log, a number has one summary of
+/// its problem, and all games of a deal file have one text of their reports: no number of workers, size of the table, rule of cuts or number of nodes changes a
 /// byte.
 pub fn one_text()
     ensures report { (root : Root) (moves : ℕ) (search other : Search) (text more : List ℕ)
@@ -67,6 +69,9 @@ pub fn one_text()
     ensures problem { (number : ℕ) (root : Root) (search other : Search) (text more : List ℕ)
         → IsText (Problem number root search) text → IsText (Problem number root other) more
         → text ≡ more }
+    ensures boards { (roots : List (Result Root Status)) (moves : ℕ) (search other : Search)
+        (text more : List ℕ) → IsText (Boards roots moves search) text
+        → IsText (Boards roots moves other) more → text ≡ more }
 {}
 
 /// Words that ask for the problem of a number are never refused: its texts are read as files are,

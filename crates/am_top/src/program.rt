@@ -11,7 +11,8 @@ ghost use Rattle.am_answer.specs.Answers.{TaskValue, answer, problem_of};
 ghost use Rattle.am_answer.specs.Files.{asks_match};
 ghost use Rattle.am_answer.specs.Stages.{IsRefusal, IsTaskRefusal, IsTextForAt};
 ghost use Rattle.am_match.specs.Defences.{sitter};
-ghost use Rattle.am_line.specs.Lines.{status_line, IsSaid};
+ghost use Rattle.am_answer.specs.Lines.{status_line};
+ghost use Rattle.am_line.specs.Said.{IsSaid};
 ghost use Rattle.am_answer.specs.Refusals.{IsUnread};
 ghost use Rattle.am_answer.specs.Endings.{IsStatusFor, IsReported, IsReportedInPart, HasText};
 ghost use Rattle.am_answer.specs.Endings.{IsDoneOrMemory, IsKeptInFront, IsMadeRun, HasNoFault};
@@ -95,6 +96,10 @@ fn deliver<O: Sink, E: Sink>(text: &Text, out: &mut O, err: &mut E) -> Status
 /// order: words, the deal file, the layout file, the report, the log, the board, the layouts, whose
 /// turn it is, the report's grammar, the log's grammar, the work of the job, the output. A step
 /// that the job doesn't need is left out.
+///
+/// Where all games of a deal file are solved, its games come before the layout files, which are read
+/// in the order of the games. A game's board, layouts and turn then refuse that game alone, on a
+/// line of the text.
 ///
 /// A match is played at the table of three defenders: the first sits at Left, the second at Right,
 /// and with `--switch` the third is taken from the table and comes to Left's seat before the card

@@ -1,4 +1,4 @@
-use Rattle.am_top.proofs.Reporting.{one-report, one-card, one-proof, one-summary}
+use Rattle.am_top.proofs.Reporting.{one-report, one-card, one-proof, one-summary, one-boards}
 use Rattle.am_top.proofs.laws.one_text.Goals as goal
 
 pub returns-clause-report : goal.returns-clause-report
@@ -12,3 +12,6 @@ returns-clause-proof c = one-proof
 
 pub returns-clause-problem : goal.returns-clause-problem
 returns-clause-problem c = one-summary
+
+pub returns-clause-boards : goal.returns-clause-boards
+returns-clause-boards c = one-boards
