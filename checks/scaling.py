@@ -1,11 +1,14 @@
 #!/usr/bin/env python3
-"""Runs what docs/SCALING.md shows, with the evening of examples/evening: its boards one after another, four at a time, over two
-hosts, and over two hosts of which one is lost in the middle; and compares every answer, every line and every status, byte by byte.
+"""Runs what docs/SCALING.md shows, with the evening of examples/evening: all boards in one run with one worker and with four; each
+board by the job `solve`; parts of three boards, four parts at a time; the same with too few nodes, and then those that failed again;
+over two hosts; and over two hosts of which one is lost in the middle. What is gathered must be the bytes of the first run each time.
 
-Usage: checks/scaling.py [MOVES], how many moves each board is planned (default 4). It wants the proved program, GNU parallel, and
-for the hosts root, iproute2 and openssh-server; without those it says so and leaves the hosts out."""
+Usage: checks/scaling.py [MOVES [PROGRAM]], how many moves each board is planned (default 4). Where no program is named it is the
+proved one, which ./build makes. It wants GNU parallel, and for the hosts root, iproute2, rsync and openssh-server; without those
+it says so and leaves the hosts out."""
 import os
 import pathlib
+import re
 import shutil
 import subprocess
 import sys
@@ -13,100 +16,142 @@ import tempfile
 import time
 
 TOP = pathlib.Path(__file__).resolve().parent.parent
-PROGRAM = TOP / "crates" / "alphamu" / "out" / "alphamu"
-BOARDS = range(1, 25)
-ASK = "%s --job card --deal {}.pbn --layouts evening.lay.{} --moves %s > {}.card 2> {}.line"
-CUT = 'awk -v RS= \'{ file = NR ".pbn"; print > file; close(file) }\' evening.pbn'
+PROVED = TOP / "crates" / "alphamu" / "out" / "alphamu"
+EVENING = TOP / "examples" / "evening"
+SIZE = 3
+LOST = 255
+# More positions than so few follow some card of each part, where neither table nor cuts spare any.
+FEW_NODES = ["--nodes", "50", "--no-table", "--no-cuts"]
 
 
-def run(words, folder):
-    return subprocess.run(words, cwd=folder, stdin=subprocess.DEVNULL, capture_output=True, text=True)
+def run(words, folder, **more):
+    return subprocess.run([str(word) for word in words], cwd=folder, stdin=subprocess.DEVNULL, capture_output=True, text=True, **more)
 
 
-def parallel(folder, words, moves):
-    """The seconds that an evening takes, run with these further words of parallel."""
+def timed(words, folder):
     began = time.monotonic()
-    run(["parallel", "--will-cite", "--joblog", "log", *words, ASK % (PROGRAM, moves), ":::", *map(str, BOARDS)], folder)
-    return time.monotonic() - began
+    done = run(words, folder)
+    return done, time.monotonic() - began
 
 
-def statuses(folder):
-    """The last status of each board in the job log, whose jobs are numbered as the boards are."""
-    rows = (line.split("\t") for line in (folder / "log").read_text().splitlines()[1:])
-    return {int(row[0]): int(row[6]) for row in rows}
+class Evening:
+    """The evening in a folder of its own, cut into parts, and how it is asked."""
+
+    def __init__(self, parent, name, program, moves):
+        self.folder, self.program, self.moves = parent / name, program, moves
+        self.folder.mkdir()
+        run([EVENING / "make.py", self.folder], TOP, check=True)
+        self.cut(SIZE)
+
+    def cut(self, size):
+        run([EVENING / "parts.py", "cut", self.folder, size], TOP, check=True)
+        self.parts = sorted((it.name for it in self.folder.glob("part.*")), key=lambda name: int(name.split(".")[1]))
+
+    def words(self, job, folder, layouts="evening.lay"):
+        return [self.program, "--job", job, "--deal", f"{folder}/evening.pbn", "--layouts", f"{folder}/{layouts}", "--moves", self.moves]
+
+    def ask(self, *more):
+        """What one run over all boards wrote, and its seconds."""
+        done, took = timed([*self.words("boards", "."), *more], self.folder)
+        if done.returncode:
+            sys.exit(f"scaling: status {done.returncode}, {done.stderr}")
+        return done.stdout, took
+
+    def parallel(self, *more, words=()):
+        """The seconds that all parts take, run with these further words of parallel and of the program."""
+        command = " ".join(map(str, [*self.words("boards", "{}"), *words]))
+        command += " > {}/evening.boards.part 2> {}/evening.line && mv {}/evening.boards.part {}/evening.boards"
+        _, took = timed(["parallel", "--will-cite", "--joblog", "log", *more, command, ":::", *self.parts], self.folder)
+        return took
+
+    def failed(self, status):
+        """The parts whose last status in the job log is this."""
+        rows = (line.split("\t") for line in (self.folder / "log").read_text().splitlines()[1:])
+        last = {int(row[0]): int(row[6]) for row in rows}
+        return [self.parts[number - 1] for number in sorted(last) if last[number] == status]
+
+    def gathered(self):
+        done = run([EVENING / "parts.py", "gather", self.folder], TOP)
+        return done.stdout or done.stderr
 
 
-def answers(folder):
-    """What each board has written, with its status."""
-    found = statuses(folder)
-    return [(board, found.get(board), *((folder / f"{board}.{kind}").read_text() for kind in ("card", "line"))) for board in BOARDS]
+def by_solve(evening):
+    """What the job `solve` says of each board by itself, in the lines of `boards`."""
+    evening.cut(1)
+    answers = []
+    for number, part in enumerate(evening.parts, 1):
+        done = run(evening.words("solve", part, "evening.lay.1"), evening.folder)
+        answers.append("game %d\n%s" % (number, re.sub("^alphamu:", "refused", done.stderr) if done.returncode else done.stdout))
+    return "alphamu boards 1\n" + "".join(answers) + "end boards\n"
 
 
-def evening(parent, name):
-    folder = parent / name
-    folder.mkdir()
-    subprocess.run([TOP / "examples" / "evening" / "make.py", folder], check=True)
-    subprocess.run(CUT, shell=True, cwd=folder, check=True)
-    return folder
+def over_hosts(evening, hosts, names, *more):
+    """The same over hosts, two parts a host at a time; each gets the folder of a part and hands back its answer."""
+    return evening.parallel("--ssh", f"ssh -F {hosts / 'ssh_config'}", "--sshlogin", names, "--jobs", "2", "--workdir", evening.folder / "there",
+                            "--transferfile", "{}", "--return", "{}/evening.boards", "--return", "{}/evening.line", "--cleanup", *more)
 
 
-def over_hosts(folder, hosts, moves, names="one,two", extra=()):
-    """The same over hosts, two boards a host at a time; each gets the files of a board and hands back its answer."""
-    there = ["--ssh", f"ssh -F {hosts / 'ssh_config'}", "--sshlogin", names, "--jobs", "2", "--workdir", str(folder / "there"),
-             "--transferfile", "{}.pbn", "--transferfile", "evening.lay.{}", "--return", "{}.card", "--return", "{}.line", "--cleanup"]
-    return parallel(folder, there + list(extra), moves)
-
-
-def lose_one(folder, hosts, moves):
-    """The same, where host two is cut off in the middle; then the boards that failed are run again on host one."""
-    slow = subprocess.Popen(["bash", "-c", "sleep 0.5; exec %s lose two" % (TOP / "examples" / "evening" / "hosts")],
-                            stdout=subprocess.DEVNULL, stderr=subprocess.DEVNULL)
-    over_hosts(folder, hosts, moves)
+def lose_one(evening, hosts):
+    """The same, where host two is cut off in the middle; then the parts that failed are run again on host one."""
+    slow = subprocess.Popen(["bash", "-c", "sleep 0.5; exec %s lose two" % (EVENING / "hosts")], stdout=subprocess.DEVNULL,
+                            stderr=subprocess.DEVNULL)
+    over_hosts(evening, hosts, "one,two")
     slow.wait()
-    lost = sorted(board for board, status in statuses(folder).items() if status == 255)
-    over_hosts(folder, hosts, moves, "one", ["--resume-failed"])
+    lost = evening.failed(LOST)
+    over_hosts(evening, hosts, "one", "--resume-failed")
     return lost
+
+
+def on_hosts(start, hosts, alone, report):
+    """The evening over two hosts, and over two of which one is lost."""
+    run([EVENING / "hosts", "up", hosts], TOP, check=True)
+    try:
+        two = start("two-hosts")
+        took = over_hosts(two, hosts, "one,two")
+        report("two hosts, two parts each: %.2f s, %.2f times as fast" % (took, alone / took), two.gathered())
+        lost = start("one-lost")
+        again = lose_one(lost, hosts)
+        report("host two cut off in the middle, and %s run again" % " ".join(again), lost.gathered())
+    finally:
+        run([EVENING / "hosts", "down", hosts], TOP)
 
 
 def main():
     moves = sys.argv[1] if len(sys.argv) > 1 else "4"
-    if subprocess.run([TOP / "checks" / "program_state"]).returncode != 0:
+    program = pathlib.Path(sys.argv[2]).resolve() if len(sys.argv) > 2 else PROVED
+    if program == PROVED and subprocess.run([TOP / "checks" / "program_state"]).returncode != 0:
         sys.exit("scaling: the proved program isn't there or isn't current: run ./build")
     if not shutil.which("parallel"):
         sys.exit("scaling: GNU parallel isn't there")
-    differ = 0
+    differ = []
     with tempfile.TemporaryDirectory() as name:
+        def start(name):
+            return Evening(parent, name, program, moves)
+
+        def report(line, found):
+            differ.extend([line] if found != wanted else [])
+            print("%s; %s" % (line, "the same bytes" if found == wanted else "OTHER BYTES"), flush=True)
+
         parent = pathlib.Path(name)
-        first = evening(parent, "one-by-one")
-        alone = parallel(first, ["--jobs", "1"], moves)
-        wanted = answers(first)
-        print("%d boards one after another: %.1f s; refused: %s" % (len(wanted), alone,
-              ", ".join("%d by %s" % (board, line.strip()) for board, status, _, line in wanted if status)))
-        four = evening(parent, "four")
-        took = parallel(four, ["--jobs", "4"], moves)
-        differ += answers(four) != wanted
-        print("four at a time: %.1f s, %.1f times as fast; %s" % (took, alone / took, same(answers(four), wanted)))
-        if os.geteuid() or not shutil.which("ip") or not pathlib.Path("/usr/sbin/sshd").exists():
+        wanted, alone = start("first").ask("--workers", 1)
+        print("all boards in one run with one worker: %.2f s; %d answered, refused: %s" % (
+            alone, wanted.count("\nend\n"), re.findall(r"(?m)^game (\d+)\nrefused (.*)$", wanted)), flush=True)
+        found, took = start("workers").ask("--workers", 4)
+        report("with four workers: %.2f s, %.2f times as fast" % (took, alone / took), found)
+        report("each board by itself", by_solve(start("by-solve")))
+        four = start("four")
+        took = four.parallel("--jobs", "4")
+        report("parts of three boards, four at a time: %.2f s, %.2f times as fast" % (took, alone / took), four.gathered())
+        spent = start("spent")
+        spent.parallel("--jobs", "4", words=FEW_NODES)
+        failed = spent.failed(17)
+        spent.parallel("--jobs", "4", "--resume-failed")
+        report("with few nodes, and then the %d parts that failed again" % len(failed), spent.gathered())
+        if os.geteuid() or not all(map(shutil.which, ("ip", "rsync", "ssh"))) or not pathlib.Path("/usr/sbin/sshd").exists():
             print("the hosts are left out")
         else:
-            hosts = parent / "hosts"
-            subprocess.run([TOP / "examples" / "evening" / "hosts", "up", hosts], check=True)
-            try:
-                two = evening(parent, "two-hosts")
-                took = over_hosts(two, hosts, moves)
-                differ += answers(two) != wanted
-                print("two hosts, two boards each: %.1f s, %.1f times as fast; %s" % (took, alone / took, same(answers(two), wanted)))
-                lost = evening(parent, "one-lost")
-                again = lose_one(lost, hosts, moves)
-                differ += answers(lost) != wanted
-                print("host two cut off in the middle: boards %s run again; %s" % (again, same(answers(lost), wanted)))
-            finally:
-                subprocess.run([TOP / "examples" / "evening" / "hosts", "down", hosts])
+            on_hosts(start, parent / "hosts", alone, report)
     sys.exit(1 if differ else 0)
-
-
-def same(found, wanted):
-    return "the same bytes" if found == wanted else "DIFFERENT: %s" % [a[0] for a, b in zip(found, wanted) if a != b]
 
 
 if __name__ == "__main__":

@@ -12,9 +12,9 @@ defenders have left, and none gives a suit to a defender who has shown out of it
 import pathlib
 import sys
 
-# The seed and the level of each board, in their order; board 17 has none.
+# The seed and the level of each board, in their order; level 0 was passed out.
 BOARDS = [(16, 2), (23, 4), (36, 3), (47, 1), (53, 4), (31, 3), (102, 4), (80, 3), (91, 3), (94, 1), (113, 2), (119, 3), (144, 4), (152, 4),
-          (138, 5), (239, 4), None, (188, 5), (222, 3), (235, 4), (256, 3), (4, 3), (206, 2), (177, 3)]
+          (138, 5), (239, 4), (1, 0), (188, 5), (222, 3), (235, 4), (256, 3), (4, 3), (206, 2), (177, 3)]
 LAYOUTS, TRICKS = 20, 6
 SEATS, SUITS, RANKS = "NESW", "SHDC", "23456789TJQKA"
 PACK = [suit + rank for suit in SUITS for rank in RANKS]
@@ -183,16 +183,26 @@ def write(path, lines):
     path.write_text("".join(line + "\n" for line in lines))
 
 
+def with_empty_lines(games):
+    """The lines of all games, with an empty one between two."""
+    return [line for lines in games for line in lines + [""]][:-1]
+
+
+def evening(folder):
+    """Writes the evening."""
+    games = []
+    for number, (seed, level) in enumerate(BOARDS, 1):
+        chance = Chance(seed)
+        table = board(chance, TRICKS)
+        games.append(game(number, table, level) if level else head(number, table.dealt) + ['[Contract "Pass"]'])
+        write(folder / ("evening.lay.%d" % number), layouts(table, chance, LAYOUTS) if level else [])
+    write(folder / "evening.pbn", with_empty_lines(games))
+
+
 def main():
     if len(sys.argv) != 2:
         sys.exit(__doc__)
-    folder, games = pathlib.Path(sys.argv[1]), []
-    for number, chosen in enumerate(BOARDS, 1):
-        chance = Chance(chosen[0] if chosen else number)
-        table = board(chance, TRICKS) if chosen else Table(chance)
-        games.append(game(number, table, chosen[1]) if chosen else head(number, table.dealt) + ['[Contract "Pass"]'])
-        write(folder / ("evening.lay.%d" % number), layouts(table, chance, LAYOUTS) if chosen else [])
-    write(folder / "evening.pbn", [line for game in games for line in game + [""]][:-1])
+    evening(pathlib.Path(sys.argv[1]))
 
 
 if __name__ == "__main__":
