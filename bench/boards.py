@@ -37,16 +37,21 @@ def chosen(folder):
     make.evening(folder)
 
 
+def needing_half(seed, played, layouts):
+    """A board after so many tricks, its layouts, and the level at which half of the tricks that are left are needed, or the nearest."""
+    chance = make.Chance(seed)
+    table = make.board(chance, played)
+    return table, make.layouts(table, chance, layouts), min(7, max(1, table.taken() + (13 - played) // 2 - 6))
+
+
 def by_chance(played, first):
-    """Writes an evening whose boards need half of the tricks that are left, as far as there is such a contract."""
+    """Writes an evening of such boards."""
     def write(folder):
         games = []
         for number in range(1, BOARDS + 1):
-            chance = make.Chance(first + number)
-            table = make.board(chance, played)
-            level = min(7, max(1, table.taken() + (13 - played) // 2 - 6))
+            table, layouts, level = needing_half(first + number, played, make.LAYOUTS)
             games.append(make.game(number, table, level))
-            make.write(folder / f"evening.lay.{number}", make.layouts(table, chance, make.LAYOUTS))
+            make.write(folder / f"evening.lay.{number}", layouts)
         make.write(folder / "evening.pbn", make.with_empty_lines(games))
     return write
 
