@@ -19,7 +19,8 @@ TOP = pathlib.Path(__file__).resolve().parent.parent
 PROVED = TOP / "crates" / "alphamu" / "out" / "alphamu"
 EVENING = TOP / "examples" / "evening"
 SIZE = 3
-LOST = 255
+# What a run of parallel ends with where a host is lost, and alphamu where nodes are spent.
+LOST, SPENT = 255, 17
 # More positions than so few follow some card of each part, where neither table nor cuts spare any.
 FEW_NODES = ["--nodes", "50", "--no-table", "--no-cuts"]
 
@@ -85,35 +86,69 @@ def by_solve(evening):
     return "alphamu boards 1\n" + "".join(answers) + "end boards\n"
 
 
-def over_hosts(evening, hosts, names, *more):
+def over_hosts(evening, folder, hosts, *more, there="..."):
     """The same over hosts, two parts a host at a time; each gets the folder of a part and hands back its answer."""
-    return evening.parallel("--ssh", f"ssh -F {hosts / 'ssh_config'}", "--sshlogin", names, "--jobs", "2", "--workdir", evening.folder / "there",
-                            "--transferfile", "{}", "--return", "{}/evening.boards", "--return", "{}/evening.line", "--cleanup", *more)
+    words = ["--ssh", f"ssh -F {folder / 'ssh_config'}", *hosts, "--jobs", "2", "--workdir", there, "--transferfile", "{}"]
+    return evening.parallel(*words, "--return", "{}/evening.boards", "--return", "{}/evening.line", "--cleanup", *more)
 
 
-def lose_one(evening, hosts):
+def lose_one(evening, folder):
     """The same, where host two is cut off in the middle; then the parts that failed are run again on host one."""
     slow = subprocess.Popen(["bash", "-c", "sleep 0.5; exec %s lose two" % (EVENING / "hosts")], stdout=subprocess.DEVNULL,
                             stderr=subprocess.DEVNULL)
-    over_hosts(evening, hosts, "one,two")
+    # What a lost host has left goes with the evening.
+    over_hosts(evening, folder, ["--sshloginfile", folder / "hosts"], there=evening.folder / "there")
     slow.wait()
     lost = evening.failed(LOST)
-    over_hosts(evening, hosts, "one", "--resume-failed")
+    over_hosts(evening, folder, ["--sshlogin", "one"], "--resume-failed", there=evening.folder / "there")
     return lost
 
 
-def on_hosts(start, hosts, alone, report):
-    """The evening over two hosts, and over two of which one is lost."""
-    run([EVENING / "hosts", "up", hosts], TOP, check=True)
-    try:
-        two = start("two-hosts")
-        took = over_hosts(two, hosts, "one,two")
-        report("two hosts, two parts each: %.2f s, %.2f times as fast" % (took, alone / took), two.gathered())
-        lost = start("one-lost")
-        again = lose_one(lost, hosts)
-        report("host two cut off in the middle, and %s run again" % " ".join(again), lost.gathered())
-    finally:
-        run([EVENING / "hosts", "down", hosts], TOP)
+class Trials:
+    """What each trial is made with, and whether one has come to other bytes than one run with one worker."""
+
+    def __init__(self, parent, program, moves):
+        self.parent, self.program, self.moves, self.is_wrong = parent, program, moves, False
+        self.wanted, self.alone = self.start("first").ask("--workers", 1)
+        refused = re.findall(r"(?m)^game (\d+)\nrefused (.*)$", self.wanted)
+        print("all boards in one run with one worker: %.2f s; %d answered, refused: %s" % (
+            self.alone, self.wanted.count("\nend\n"), ", ".join("%s by %s" % it for it in refused)), flush=True)
+
+    def start(self, name):
+        return Evening(self.parent, name, self.program, self.moves)
+
+    def report(self, name, found, took=None):
+        same = found == self.wanted
+        self.is_wrong |= not same
+        times = "" if took is None else ": %.2f s, %.2f times as fast" % (took, self.alone / took)
+        print("%s%s; %s" % (name, times, "the same bytes" if same else "OTHER BYTES"), flush=True)
+
+    def on_this_machine(self):
+        found, took = self.start("workers").ask("--workers", 4)
+        self.report("with four workers", found, took)
+        self.report("each board by itself", by_solve(self.start("by-solve")))
+        four = self.start("four")
+        took = four.parallel("--jobs", "4")
+        self.report("parts of three boards, four at a time", four.gathered(), took)
+        spent = self.start("spent")
+        spent.parallel("--jobs", "4", words=FEW_NODES)
+        failed = spent.failed(SPENT)
+        spent.parallel("--jobs", "4", "--resume-failed")
+        self.report("with few nodes, and then %s again" % " ".join(failed), spent.gathered())
+
+    def on_hosts(self):
+        """The evening over two hosts, and over two of which one is lost."""
+        folder = self.parent / "hosts"
+        run([EVENING / "hosts", "up", folder], TOP, check=True)
+        try:
+            two = self.start("two-hosts")
+            took = over_hosts(two, folder, ["--sshloginfile", folder / "hosts"])
+            self.report("two hosts, two parts each", two.gathered(), took)
+            lost = self.start("one-lost")
+            again = lose_one(lost, folder)
+            self.report("host two cut off in the middle, and %s run again" % " ".join(again), lost.gathered())
+        finally:
+            run([EVENING / "hosts", "down", folder], TOP)
 
 
 def main():
@@ -123,35 +158,14 @@ def main():
         sys.exit("scaling: the proved program isn't there or isn't current: run ./build")
     if not shutil.which("parallel"):
         sys.exit("scaling: GNU parallel isn't there")
-    differ = []
     with tempfile.TemporaryDirectory() as name:
-        def start(name):
-            return Evening(parent, name, program, moves)
-
-        def report(line, found):
-            differ.extend([line] if found != wanted else [])
-            print("%s; %s" % (line, "the same bytes" if found == wanted else "OTHER BYTES"), flush=True)
-
-        parent = pathlib.Path(name)
-        wanted, alone = start("first").ask("--workers", 1)
-        print("all boards in one run with one worker: %.2f s; %d answered, refused: %s" % (
-            alone, wanted.count("\nend\n"), re.findall(r"(?m)^game (\d+)\nrefused (.*)$", wanted)), flush=True)
-        found, took = start("workers").ask("--workers", 4)
-        report("with four workers: %.2f s, %.2f times as fast" % (took, alone / took), found)
-        report("each board by itself", by_solve(start("by-solve")))
-        four = start("four")
-        took = four.parallel("--jobs", "4")
-        report("parts of three boards, four at a time: %.2f s, %.2f times as fast" % (took, alone / took), four.gathered())
-        spent = start("spent")
-        spent.parallel("--jobs", "4", words=FEW_NODES)
-        failed = spent.failed(17)
-        spent.parallel("--jobs", "4", "--resume-failed")
-        report("with few nodes, and then the %d parts that failed again" % len(failed), spent.gathered())
+        trials = Trials(pathlib.Path(name), program, moves)
+        trials.on_this_machine()
         if os.geteuid() or not all(map(shutil.which, ("ip", "rsync", "ssh"))) or not pathlib.Path("/usr/sbin/sshd").exists():
             print("the hosts are left out")
         else:
-            on_hosts(start, parent / "hosts", alone, report)
-    sys.exit(1 if differ else 0)
+            trials.on_hosts()
+    sys.exit(1 if trials.is_wrong else 0)
 
 
 if __name__ == "__main__":
