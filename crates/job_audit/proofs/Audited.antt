@@ -16,7 +16,7 @@ use Rattle.am_answer.specs.declared.inputs.Work.TheVariants as works
 use Rattle.am_answer.specs.declared.root.Root.{Root}
 use Rattle.am_answer.specs.declared.status.Place.TheVariants.{Head, Width}
 use Rattle.am_answer.specs.declared.status.Status.{Status}
-use Rattle.am_answer.specs.declared.status.Status.TheVariants.{Done, Refuted, BadWords, Unread, BadPbn, BadLayouts, NoTurn, Spent, Unwritten, Memory, TooLong, BadReport, BadMake, NoLayout, BadLog, Unproved}
+use Rattle.am_answer.specs.declared.status.Status.TheVariants.{Done, Refuted, BadWords, Unread, BadPbn, BadLayouts, NoTurn, Spent, Unwritten, Memory, TooLong, BadReport, BadMake, NoLayout, BadLog, Unproved, GameSpent, TooManyGames}
 use Rattle.am_answer.specs.Answers.{TaskValue, Audit, task_at}
 use Rattle.am_answer.specs.Auditing.{AuditValue, vectors_of, first_other_width, audit_of, audit_in}
 use Rattle.am_answer.specs.Refusals.{report_status, log_status}
@@ -75,6 +75,8 @@ refused_first asked task (BadMake fault) is = rw is refl
 refused_first asked task (NoLayout layout) is = rw is refl
 refused_first asked task (BadLog line) is = rw is refl
 refused_first asked task (Unproved number) is = absurd is
+refused_first asked task (GameSpent game card) is = absurd is
+refused_first asked task (TooManyGames games) is = rw is refl
 
 module _ (root : Root) (report log : List ℕ) where
   -- a report that isn't read
