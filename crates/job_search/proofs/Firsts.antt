@@ -1,54 +1,36 @@
 -- The first vector that is printed of a front.
-use Rattle.std.proofs.Common.{◌≡◌, ◌∙◌, ℕ, ◌≤◌, Some, Result, Ok, Err, List, [], ◌∷◌, length, get_or, All, refl, sym, subst, arith, slice_get, rules}
-use Rattle.std.specs.Prelude.{IfOk}
-use Rattle.std.specs.List.{AllPairs}
-use Rattle.std.specs.List.Sorted.{IsPermutation}
-use Rattle.std.proofs.lemmas.List.Elements.{Contains-get_or}
-use Rattle.std.proofs.lemmas.List.Sorted.{Contains-permutation, IsPermutation-sym, length_permutation}
-use Rattle.trick_rules.specs.Nodes.{NodeValue, IsNode}
+use Rattle.std.proofs.Common.{◌≡◌, ◌≤◌, ℕ, zero, suc, Some, List, [], ◌∷◌, All, length, take, arith, slice_get, sym, subst, rules}
+use Rattle.trick_rules.specs.Nodes.{NodeValue}
 use Rattle.win_vectors.specs.Fronts.{Vector}
-use Rattle.win_vectors.specs.Weights.{IsReportedBefore}
-use Rattle.strategy_games.specs.Plans.{Plan, IsFront}
-use Rattle.strategy_games.specs.Choosing.{IsChosenPlan}
-use Rattle.strategy_tree.specs.Bridge.{bridge}
-use Rattle.strategy_tree.proofs.BridgeLaws as laws
-use Rattle.strategy_tree.proofs.BridgeNodes.{length-states}
-use Rattle.plan_finder.specs.Targets.{IsOfFront}
+use Rattle.am_report.specs.Answers.{EntryValue}
 use Rattle.am_answer.specs.Matches.{IsFirstStrategy}
 use Rattle.am_answer.specs.ReportOrder.{IsReportedFront}
+use Rattle.root_answers.specs.Planned.{ArePlanned}
 
-some_vectors : (vectors : List Vector) → (vectors ≡ [] → ⊥) → 1 ≤ length vectors
-some_vectors [] filled = absurd (filled refl)
-some_vectors (vector ∷ vectors) filled = omega arith
+-- what all of a list have has its first one
+pub first_one : {X : Type 0} (P : X → Type 0) (xs : List X) → All P xs → All P (take 1 xs)
+first_one P [] all k d inside = absurd (omega (arith, inside))
+first_one P (x ∷ xs) all zero d inside = all zero d (omega arith)
+first_one P (x ∷ xs) all (suc k) d inside = absurd (omega (arith, inside))
 
-module _ (n : NodeValue) (weights : List ℕ) (moves : ℕ) where
-  -- each vector of a front has a bit for each weight
-  pub front_wide : (vectors : List Vector) → length weights ≡ length n.lefts → IsFront bridge n moves vectors → All (λ v. length v ≡ length weights) vectors
-  front_wide vectors weighed is = λ k d inside. laws.one_front.wide n moves vectors is k d inside ∙ length-states n ∙ sym weighed
+-- it has a plan
+pub one_planned : (n : NodeValue) (moves : ℕ) (vectors : List Vector) (entries : List EntryValue) → 1 ≤ length vectors → ArePlanned n moves (take 1 vectors) entries → 1 ≤ length entries
+one_planned n moves [] entries filled planned = absurd (omega (arith, filled))
+one_planned n moves (first ∷ others) [] filled planned = absurd (let no : [] ≡ first ∷ [] = planned.listed in cc)
+one_planned n moves (first ∷ others) (e ∷ rest) filled planned = omega arith
 
-  -- the vectors of a front in report order
-  pub reported_from : {A E : Type 0} (items : A → List Vector) (front ordered : List Vector) (result : Result A E) → ordered ≡ front → IsFront bridge n moves front
-      → IfOk result (λ a. IsPermutation ordered (items a)) → IfOk result (λ a. AllPairs (IsReportedBefore weights) (items a)) → IfOk result (λ a. IsReportedFront n weights moves (items a))
-  reported_from items front ordered (Ok a) whole is same reported = record { front = ordered; is_front = subst (IsFront bridge n moves) (sym whole) is; same = same; ordered = reported }
-  reported_from items front ordered (Err e) whole is same reported = tt
-
-  -- a front has a vector
-  pub reported_filled : (vectors : List Vector) → IsNode n → IsReportedFront n weights moves vectors → 1 ≤ length vectors
-  reported_filled vectors node is =
-      let some = some_vectors is.front (laws.one_front.filled n moves is.front node is.is_front) in
-      omega (arith, some, length_permutation is.front vectors is.same)
-
-  -- each vector is one of the front
-  pub reported_of_front : (vectors : List Vector) → IsReportedFront n weights moves vectors → All (λ v. IsOfFront n moves v) vectors
-  reported_of_front vectors is = λ k d inside. (
-    is.front,
-    is.is_front,
-    Contains-permutation vectors is.front (get_or vectors k d) (IsPermutation-sym is.front vectors is.same) (Contains-get_or vectors k d inside),
-  )
-
-  pub first_strategy : (vectors : List Vector) (vector : Vector) (plan : Plan ℕ) → IsReportedFront n weights moves vectors → slice_get vectors 0 ≡ Some vector → IsChosenPlan bridge plan n moves vector
-      → IsFirstStrategy n weights moves vector plan
-  first_strategy [] vector plan is here chosen = absurd (search (rules, here))
-  first_strategy (first ∷ others) vector plan is here chosen =
-      let same : first ≡ vector = search (rules, here) in
-      record { others = others; reported = subst (λ (v : Vector). IsReportedFront n weights moves (v ∷ others)) same is; chosen = chosen }
+-- the first vector, with its plan
+pub first_planned : (n : NodeValue) (weights : List ℕ) (moves : ℕ) (vectors : List Vector) (entries : List EntryValue) (entry : EntryValue) → IsReportedFront n weights moves vectors → 1 ≤ length vectors
+    → ArePlanned n moves (take 1 vectors) entries → slice_get entries 0 ≡ Some entry → IsFirstStrategy n weights moves entry.vector entry.plan
+first_planned n weights moves [] entries entry is filled planned here = absurd (omega (arith, filled))
+first_planned n weights moves (first ∷ others) [] entry is filled planned here = absurd (search (rules, here))
+first_planned n weights moves (first ∷ others) (e ∷ rest) entry is filled planned here =
+    let same : e ≡ entry = search (rules, here) in
+    let listed : e.vector ∷ _ ≡ first ∷ [] = planned.listed in
+    let vector : e.vector ≡ first = cc in
+    subst (λ (x : EntryValue). IsFirstStrategy n weights moves x.vector x.plan) same
+    (record {
+      others = others;
+      reported = subst (λ (v : Vector). IsReportedFront n weights moves (v ∷ others)) (sym vector) is;
+      chosen = planned.plans 0 e (omega arith);
+    })

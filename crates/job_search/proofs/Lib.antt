@@ -1,5 +1,4 @@
 pub mod Answered
-pub mod ReportOrder
 pub mod Firsts
 pub mod Spent
 pub mod Counts

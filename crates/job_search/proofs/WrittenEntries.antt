@@ -1,25 +1,23 @@
 -- A report whose vectors are written with their plans.
-use Rattle.std.proofs.Common.{◌≡◌, ◌∙◌, ◌+◌, ◌<◌, ◌++◌, ℕ, List, [], ◌∷◌, length, take, get_or, All, refl, sym, ap, subst, append_assoc}
+use Rattle.std.proofs.Common.{◌≡◌, ◌∙◌, ◌+◌, ◌<◌, ◌++◌, ℕ, List, [], ◌∷◌, length, take, get_or, refl, sym, ap, subst, append_assoc}
 use Rattle.std.specs.List.{flat_map}
 use Rattle.std.proofs.lemmas.Grind.{flat_map-append}
-use Rattle.std.proofs.lemmas.List.{append-nil, length-map, map-append, take_more}
+use Rattle.std.proofs.lemmas.List.{append-nil, length-map}
 use Rattle.std.proofs.lemmas.List.Concat.{flat_map-cons}
-use Rattle.std.proofs.lemmas.List.Elements.{All-nil, All-push, All-get_or}
 use Rattle.win_vectors.specs.Fronts.{Vector}
 use Rattle.trick_rules.specs.Nodes.{NodeValue}
 use Rattle.strategy_games.specs.Plans.{Plan}
-use Rattle.strategy_games.specs.Choosing.{IsChosenPlan, IsBestWeight, IsNamedByWeight}
+use Rattle.strategy_games.specs.Choosing.{IsBestWeight, IsNamedByWeight}
 use Rattle.strategy_tree.specs.Bridge.{bridge}
 use Rattle.strategy_tree.specs.PlanText.{plan_text}
-use Rattle.plan_finder.specs.Targets.{IsOfFront}
 use Rattle.plan_finder.specs.Written.{IsPlanWritten}
 use Rattle.am_report.specs.Answers.{EntryValue, SolveAnswerValue}
 use Rattle.am_report.specs.Solve.{vector_line, entry_text, solve_start, solve_end, solve_text}
 use Rattle.am_answer.specs.declared.root.Root.{Root}
 use Rattle.am_answer.specs.ReportOrder.{IsReportedFront}
 use Rattle.am_answer.specs.Reports.{IsSolveText}
+use Rattle.root_answers.proofs.PlannedVectors.{none_planned, one_more_planned}
 use Rattle.job_search.specs.EntryTexts.{AreEntriesWritten}
-use Rattle.job_search.proofs.Firsts.{reported_of_front}
 
 -- ---- one vector more
 
@@ -32,7 +30,7 @@ regroup a b c d = simp append_assoc
 
 module _ (n : NodeValue) (weights : List ℕ) (moves : ℕ) (vectors : List Vector) where
   pub none_written : (text : List ℕ) → AreEntriesWritten n weights moves (take 0 vectors) text text
-  none_written text = record { entries = []; listed = refl; plans = All-nil (λ (e : EntryValue). IsChosenPlan bridge e.plan n moves e.vector); lines = sym (append-nil text) }
+  none_written text = record { entries = []; planned = none_planned n moves vectors [] refl; lines = sym (append-nil text) }
 
   pub one_more_written : (i : ℕ) (vector : Vector) (before now lined after : List ℕ) → AreEntriesWritten n weights moves (take i vectors) before now → i < length vectors → vector ≡ get_or vectors i vector
       → lined ≡ now ++ vector_line weights vector → IsPlanWritten n moves vector lined after → AreEntriesWritten n weights moves (take (i + 1) vectors) before after
@@ -45,8 +43,7 @@ module _ (n : NodeValue) (weights : List ℕ) (moves : ℕ) (vectors : List Vect
       flat_map-append (entry_text weights) w.entries (entry ∷ []) ∙ ap (λ text. texts ++ text) single in
       record {
         entries = w.entries ++ entry ∷ [];
-        listed = map-append (λ (e : EntryValue). e.vector) w.entries (entry ∷ []) ∙ ap (λ (front : List Vector). front ++ vector ∷ []) w.listed ∙ ap (λ (last : Vector). take i vectors ++ last ∷ []) is ∙ sym (take_more vectors i vector inside);
-        plans = All-push (λ (e : EntryValue). IsChosenPlan bridge e.plan n moves e.vector) w.entries entry w.plans plan.chosen;
+        planned = one_more_planned n moves vectors i vector plan.plan w.entries (w.entries ++ entry ∷ []) w.planned inside is plan.chosen refl;
         lines = plan.lines ∙ ap (λ text. text ++ plan_text plan.plan) (line ∙ ap (λ text. text ++ vector_line weights vector) w.lines) ∙ regroup before texts (vector_line weights vector) (plan_text plan.plan) ∙ ap (λ text. before ++ text) (sym more);
       }
 
@@ -59,10 +56,10 @@ report_written : (root : Root) (moves : ℕ) (vectors : List Vector) (card weigh
 unfolding solve_text
 report_written root moves vectors card weight started after text reported named best start w end =
     let answer : SolveAnswerValue = record { entries = w.entries; card = card; weight = weight } in
-    let counted : length vectors ≡ length w.entries = ap (λ (vs : List Vector). length vs) (sym w.listed) ∙ length-map w.entries (λ (e : EntryValue). e.vector) in
+    let counted : length vectors ≡ length w.entries = ap (λ (vs : List Vector). length vs) (sym w.planned.listed) ∙ length-map w.entries (λ (e : EntryValue). e.vector) in
     let started_with = start ∙ ap (λ k. solve_start root.board root.kept moves k) counted in (
       answer,
-      record { vectors = subst (IsReportedFront root.kept.node root.kept.weights moves) (sym w.listed) reported; plans = w.plans; card = named; weight = best },
+      record { vectors = subst (IsReportedFront root.kept.node root.kept.weights moves) (sym w.planned.listed) reported; plans = w.planned.plans; card = named; weight = best },
       end ∙ ap (λ front. front ++ solve_end root.kept.weights card weight) (w.lines ∙ ap (λ front. front ++ flat_map (entry_text root.kept.weights) w.entries) started_with),
     )
 
@@ -79,11 +76,3 @@ report-text opened root moves vectors slice count card weight empty start begun 
     (pushed ∙ ap (λ text. text ++ start) none ∙ started ∙ ap (λ (r : Root). solve_start opened.board r.kept moves count) (sym same) ∙ ap (λ k. solve_start opened.board opened.kept moves k) counted)
     (subst (λ (vs : List Vector). AreEntriesWritten opened.kept.node opened.kept.weights moves vs begun after) all w)
     (whole ∙ ap (λ text. after ++ text) ended))
-
--- ---- what is asked of each plan
-
-pub target_here : (n : NodeValue) (moves : ℕ) (vectors : List Vector) (i : ℕ) (vector : Vector) → All (λ v. IsOfFront n moves v) vectors → i < length vectors → vector ≡ get_or vectors i vector → IsOfFront n moves vector
-target_here n moves vectors i vector all inside is = subst (λ (v : Vector). IsOfFront n moves v) (sym is) (All-get_or (λ v. IsOfFront n moves v) vectors i vector inside all)
-
-pub targets : (n : NodeValue) (weights : List ℕ) (moves : ℕ) (vectors slice : List Vector) → slice ≡ vectors → IsReportedFront n weights moves vectors → All (λ v. IsOfFront n moves v) slice
-targets n weights moves vectors slice same is = subst (λ (vs : List Vector). All (λ v. IsOfFront n moves v) vs) (sym same) (reported_of_front n weights moves vectors is)

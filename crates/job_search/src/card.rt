@@ -4,12 +4,12 @@ ghost use Rattle.job_words.specs.Asks.{IsMoves, IsSearchWithinLimits};
 ghost use Rattle.am_answer.specs.Answers.{has_choice, NamedCard};
 ghost use Rattle.am_answer.specs.Stages.{IsTaskRefusal, IsTextFor};
 
-use crate::table::{options_of, table_of};
 use am_answer::{Root, Status, root_status};
 use am_outside::Gate;
 use am_report::card_text;
 use byte_text::Text;
 use job_words::Search;
+use root_answers::{options_of, table_of};
 use root_workers::root_card;
 use std::alloc::Global;
 use std::thread::Threads;

@@ -10,71 +10,29 @@ ghost use Rattle.am_answer.specs.Endings.{IsPlain};
 ghost use Rattle.am_answer.specs.Matches.{IsFirstStrategy};
 ghost use Rattle.am_answer.specs.Stages.{IsTaskRefusal};
 
-use crate::order::reported;
-use crate::table::{options_of, table_of};
 use alphamu_core::RootFault;
 use am_answer::{Root, Status, root_status};
 use am_outside::Gate;
 use am_report::Entry;
-use dd_solver::Solver;
-use front_table::{FrontStore, NoStore};
 use job_words::Search;
 use pareto_fronts::Front;
-use plan_finder::plan_for;
-use root_workers::root_front;
-use shared_table::{Pass, SharedStore, SharedTable};
+use root_answers::{options_of, planned_over, reported, table_of};
+use root_workers::{Options, root_front};
+use shared_table::{Pass, SharedTable};
 use std::alloc::Global;
 use std::thread::Threads;
 use trick_rules::Node;
-use wide_store::WideStore;
 use win_vectors::Weights;
 
 // The first vector of a front in report order, with the plan for it.
-fn first_entry<S: FrontStore>(
-    alloc: Global,
-    store: &mut S,
-    solver: &mut Solver,
-    node: &Node,
-    weights: &Weights,
-    moves: u8,
-    search: &Search,
-    front: &Front,
-) -> Result<Entry, RootFault>
-    requires turn { has_choice node.now ≡ true }
-    requires weighed { length weights.now ≡ length node.now.lefts }
-    requires moves { IsMoves moves }
-    requires front { IsFrontAt node.now moves front.now }
-    ensures first { IfOk result (λ entry.
-        IsFirstStrategy node.now weights.now moves entry.vector entry.plan) }
-    ensures spent { (card : ℕ) → IsErrOf result (RootFault.Spent card)
-        → IsSpentAt node.now moves search.now.nodes card }
-{
-    prove!(node.width() > 0);
-    let vectors = reported(alloc, node, moves, weights, front)?;
-    let vector = vectors[0];
-    let plan = plan_for(
-        alloc,
-        store,
-        solver,
-        node,
-        moves,
-        &vector,
-        search.nodes,
-        search.cuts,
-    )?;
-    Ok(Entry { vector, plan })
-}
-
-// The same, where the plan is found over the table that the search had, if it had one, and beside
-// it the fronts that are too wide for a table.
-fn first_over(
+fn first_entry(
     alloc: Global,
     table: &SharedTable,
     pass: &mut Pass,
     node: &Node,
     weights: &Weights,
     moves: u8,
-    search: &Search,
+    options: &Options,
     front: &Front,
 ) -> Result<Entry, RootFault>
     requires pass { IsPassOf table.now pass.old }
@@ -85,33 +43,12 @@ fn first_over(
     ensures first { IfOk result (λ entry.
         IsFirstStrategy node.now weights.now moves entry.vector entry.plan) }
     ensures spent { (card : ℕ) → IsErrOf result (RootFault.Spent card)
-        → IsSpentAt node.now moves search.now.nodes card }
+        → IsSpentAt node.now moves options.now.nodes card }
 {
-    let mut solver = Solver::new(alloc);
-    if search.table {
-        let mut store = WideStore::new(alloc, SharedStore::new(table, pass));
-        first_entry(
-            alloc,
-            &mut store,
-            &mut solver,
-            node,
-            weights,
-            moves,
-            search,
-            front,
-        )
-    } else {
-        first_entry(
-            alloc,
-            &mut NoStore,
-            &mut solver,
-            node,
-            weights,
-            moves,
-            search,
-            front,
-        )
-    }
+    prove!(node.width() > 0);
+    let vectors = reported(alloc, node, moves, weights, front)?;
+    let mut entries = planned_over(alloc, table, pass, node, moves, options, &vectors[..1])?;
+    Ok(entries.swap_remove(0))
 }
 
 /// The first vector that is printed for a root, by so many moves of declarer's side, with its plan.
@@ -147,8 +84,8 @@ pub fn first_strategy<R: Threads + Sync, G: Gate>(
         Err(fault) => return Err(root_status(fault)),
     };
     let front = &found.front;
-    match first_over(
-        alloc, &table, &mut pass, node, weights, moves, search, front,
+    match first_entry(
+        alloc, &table, &mut pass, node, weights, moves, &options, front,
     ) {
         Ok(entry) => Ok(entry),
         Err(fault) => Err(root_status(fault)),

@@ -1,6 +1,6 @@
 //! The jobs that search: a root's report, its card alone, the summary of a made problem, and the
 //! first strategy that is printed.
-//! It stands on `root_workers` for fronts, on `plan_finder` for plans, on `am_report` for texts.
+//! It stands on `root_answers` for what is found at a root, and on `am_report` for its texts.
 //! Its contract promises each text by its definition, or the first root card with too large a tree.
 #![tactic(auto)]
 
@@ -8,9 +8,7 @@ mod card;
 mod counted;
 mod first;
 mod made;
-mod order;
 mod report;
-mod table;
 
 pub use card::name_card;
 pub use first::first_strategy;

@@ -6,12 +6,12 @@ ghost use Rattle.am_answer.specs.Reports.{made_moves};
 ghost use Rattle.am_answer.specs.Stages.{IsTaskRefusal, IsTextFor};
 
 use crate::counted::counted_front;
-use crate::table::{options_of, table_of};
 use am_answer::{Root, Status, root_status};
 use am_outside::Gate;
 use am_report::{MadeSummary, made_text};
 use byte_text::Text;
 use job_words::Search;
+use root_answers::{options_of, table_of};
 use std::alloc::Global;
 use std::thread::Threads;
 

@@ -13,8 +13,6 @@ ghost use Rattle.am_answer.specs.Reports.{IsSolveText};
 ghost use Rattle.am_answer.specs.Stages.{IsTaskRefusal, IsTextFor};
 ghost use Rattle.job_search.specs.EntryTexts.{AreEntriesWritten};
 
-use crate::order::reported;
-use crate::table::{options_of, table_of};
 use alphamu_core::RootFault;
 use am_answer::{Root, Status, root_status};
 use am_outside::Gate;
@@ -24,6 +22,7 @@ use dd_solver::Solver;
 use front_table::{FrontStore, NoStore};
 use job_words::Search;
 use plan_finder::PlanWriter;
+use root_answers::{options_of, reported, table_of};
 use root_workers::{RootFront, root_front};
 use shared_table::{Pass, SharedStore, SharedTable};
 use std::alloc::Global;

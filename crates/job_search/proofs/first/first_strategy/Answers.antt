@@ -1,6 +1,4 @@
-use Rattle.std.proofs.Common.{Err, ap, subst, ◌∙◌}
-use Rattle.root_workers.specs.Roots.{IsSpentAt}
-use Rattle.am_answer.specs.declared.root.Root.{Root}
+use Rattle.std.proofs.Common.{Err, ap, ◌∙◌}
 use Rattle.am_answer.specs.Answers.{PlayedOut}
 use Rattle.job_search.proofs.Spent.{workers_as, spent_task, spent_by, spent_later, spent_as, first_as, fits_as}
 use Rattle.job_search.proofs.first.first_strategy.Goals as goal
@@ -18,8 +16,8 @@ returns-in-Err-clause-refused g c = λ playing.
 
 pub returns-clause-refused : goal.returns-clause-refused
 returns-clause-refused g c = λ playing.
-    rw (c.root_status-in-Err-first_over.ensures)
-    (spent_task (PlayedOut c.args.root.now c.args.moves c.args.search.now playing) c.in-Err-first_over.fault
+    rw (c.root_status-in-Err-first_entry.ensures)
+    (spent_task (PlayedOut c.args.root.now c.args.moves c.args.search.now playing) c.in-Err-first_entry.fault
     (λ card is. spent_later c.args.root.now.kept.node c.args.moves c.args.search.now card
-    (subst (λ (root : Root). IsSpentAt root.kept.node c.args.moves c.args.search.now.nodes card) c.root.view_is (c.in-Err-first_over.ensures.spent card (ap Err is)))
+    (spent_as _ c.args.root.now c.root.view_is c.options_of-options.result c.args.search.now c.options_of-options.ensures c.args.moves card (c.in-Err-first_entry.ensures.spent card (ap Err is)))
     (fits_as _ c.args.root.now c.root.view_is c.options_of-options.result c.args.search.now c.options_of-options.ensures c.args.moves c.in-Ok.ensures.fits)))

@@ -3,7 +3,8 @@ use Rattle.root_workers.specs.Roots.{IsSpentAt}
 use Rattle.alphamu_core.specs.declared.answers.RootFault.TheVariants.{Spent}
 use Rattle.am_answer.specs.declared.root.Root.{Root}
 use Rattle.job_search.proofs.Spent.{passed_on}
-use Rattle.job_search.proofs.WrittenEntries.{report-text, targets}
+use Rattle.root_answers.proofs.ReportedFronts.{targets}
+use Rattle.job_search.proofs.WrittenEntries.{report-text}
 use Rattle.job_search.proofs.report.report.Goals as goal
 
 pub write_entries-requires-clause-targets : goal.write_entries-requires-clause-targets

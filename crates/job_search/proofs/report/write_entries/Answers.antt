@@ -2,7 +2,8 @@ use Rattle.std.proofs.Common.{◌∙◌, ◌++◌, ℕ, List, Err, sym, ap}
 use Rattle.alphamu_core.specs.declared.answers.RootFault.TheVariants.{Spent}
 use Rattle.plan_finder.proofs.Picks.{length-of_front}
 use Rattle.job_search.proofs.Spent.{passed_on}
-use Rattle.job_search.proofs.WrittenEntries.{one_more_written, target_here}
+use Rattle.root_answers.proofs.ReportedFronts.{target_here}
+use Rattle.job_search.proofs.WrittenEntries.{one_more_written}
 use Rattle.job_search.proofs.report.write_entries.Goals as goal
 
 pub vector_text-requires : goal.vector_text-requires

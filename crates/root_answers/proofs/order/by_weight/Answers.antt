@@ -3,8 +3,8 @@ use Rattle.std.specs.List.{AllPairs}
 use Rattle.std.proofs.lemmas.Fn.{always_returns_same}
 use Rattle.std.proofs.lemmas.List.{take_all}
 use Rattle.win_vectors.specs.Fronts.{Vector, Precedes}
-use Rattle.job_search.proofs.ReportOrder.{weight_in, in_report_order}
-use Rattle.job_search.proofs.order.by_weight.Goals as goal
+use Rattle.root_answers.proofs.ReportOrder.{weight_in, in_report_order}
+use Rattle.root_answers.proofs.order.by_weight.Goals as goal
 
 pub returns-clause-reported : goal.returns-clause-reported
 returns-clause-reported c =

@@ -1,8 +1,8 @@
 use Rattle.std.proofs.Common.{◌≡◌, List, length, sym, subst, All}
 use Rattle.std.specs.List.{AllPairs}
 use Rattle.win_vectors.specs.Fronts.{Vector, Precedes}
-use Rattle.job_search.proofs.Firsts.{front_wide, reported_from}
-use Rattle.job_search.proofs.order.reported.Goals as goal
+use Rattle.root_answers.proofs.ReportedFronts.{front_wide, reported_from}
+use Rattle.root_answers.proofs.order.reported.Goals as goal
 
 pub by_weight-requires-clause-wide : goal.by_weight-requires-clause-wide
 by_weight-requires-clause-wide c =

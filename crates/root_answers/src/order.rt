@@ -14,7 +14,7 @@ use win_vectors::{Weights, WinVector};
 
 /// The vectors of a node's front in report order: the heavier first, and equally heavy ones in the
 /// front's order.
-pub(crate) fn reported(
+pub fn reported(
     alloc: Global,
     node: &Node,
     moves: u8,

@@ -1,0 +1,3 @@
+pub mod ReportOrder
+pub mod ReportedFronts
+pub mod PlannedVectors

@@ -1,0 +1,16 @@
+//! What is found at a root, before any text: the front in report order with a plan for each vector,
+//! the named card and the best weight.
+//! It stands on `root_workers` for the front, and on `plan_finder` for the plans.
+//! Its contract promises the definition's answer, whatever the workers, the table and the gate do,
+//! or a root card with too large a tree.
+#![tactic(auto)]
+
+mod answer;
+mod entries;
+mod order;
+mod table;
+
+pub use answer::answer_root;
+pub use entries::planned_over;
+pub use order::reported;
+pub use table::{options_of, table_of};
