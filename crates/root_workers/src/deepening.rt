@@ -10,12 +10,14 @@ ghost use Rattle.root_workers.specs.Plain.{IsPlain, HasWorkers};
 ghost use Rattle.root_workers.specs.Founds.{AreFound};
 ghost use Rattle.root_workers.specs.Rounds.{HasSeenMore};
 
+use crate::ahead::next_ahead;
 use crate::merge::run_round;
 use crate::root::Options;
 use crate::rounds::{Round, RoundFront};
 use crate::searches::double_dummy;
 use alphamu_core::RootFault;
 use am_outside::Gate;
+use card_sets::CardSet;
 use cut_rules::{CutRules, Stop};
 use dd_solver::Solver;
 use front_table::NoStore;
@@ -25,6 +27,18 @@ use std::alloc::{AllocError, Global};
 use std::thread::Threads;
 use trick_rules::Node;
 use win_vectors::Weights;
+
+// How many workers may share a round. With cuts two at most: what is won after one root card spares
+// most of the search after another, which workers beside each other do again.
+fn most_workers(options: &Options) -> u32
+    ensures { result ≤ options.now.workers }
+{
+    if options.cuts {
+        options.workers.min(2)
+    } else {
+        options.workers
+    }
+}
 
 // So many solvers, or as many as there are root cards, but at least one.
 fn solvers_for(alloc: Global, workers: u32, node: &Node) -> Result<Vec<Solver>, AllocError>
@@ -40,7 +54,15 @@ fn solvers_for(alloc: Global, workers: u32, node: &Node) -> Result<Vec<Solver>, 
     Ok(solvers)
 }
 
-// The front by rounds: with no moves it is double dummy, and each round has a move more.
+// What the rounds so far leave to the next one: the front, and the root cards for its workers.
+#[derive(Drop)]
+struct Before {
+    front: Front,
+    ahead: CardSet,
+}
+
+// The front by rounds: with no moves it is double dummy, and each round has a move more. With it the
+// cards for the workers of a round that stops as said.
 fn deepened<R: Threads + Sync, G: Gate>(
     rt: &R,
     alloc: Global,
@@ -52,7 +74,8 @@ fn deepened<R: Threads + Sync, G: Gate>(
     pass: &mut Pass,
     gate: &G,
     solvers: &mut [Solver],
-) -> Result<Front, RootFault>
+    stop: Stop,
+) -> Result<Before, RootFault>
     requires ours { bridge.is_ours node.now ≡ true }
     requires goes_on { bridge.is_over node.now ≡ false }
     requires few_moves { moves ≤ most_moves }
@@ -60,13 +83,14 @@ fn deepened<R: Threads + Sync, G: Gate>(
     requires some { 1 ≤ length solvers.old }
     requires few { length solvers.old ≤ 64 }
     requires pass { IsPassOf table.now pass.old }
-    ensures front { IfOk result (IsFrontAt node.now moves) }
+    ensures front { IfOk result (λ before. IsFrontAt node.now moves before.front) }
     ensures spent { (card : ℕ) → IsErrOf result (RootFault.Spent card)
         → IsSpentAt node.now moves options.now.nodes card }
     ensures pass { IsPassOf table.now pass.new }
     ensures grown { HasSeenMore pass.old pass.new }
 {
     let mut front = double_dummy(alloc, &mut NoStore, &mut solvers[0], node)?;
+    let mut ahead = CardSet::empty();
     for fewer in 0..moves {
         let round = Round {
             alloc,
@@ -78,11 +102,18 @@ fn deepened<R: Threads + Sync, G: Gate>(
             less: &front,
             table,
             looks: options.table,
+            ahead,
         };
-        let next = run_round(rt, &round, gate, solvers, pass)?.front;
-        front = next;
+        let next = run_round(rt, &round, gate, solvers, pass)?;
+        let next_stop = if fewer + 1 < moves {
+            Stop::SameFront
+        } else {
+            stop
+        };
+        ahead = next_ahead(node, &next, next_stop);
+        front = next.front;
     }
-    Ok(front)
+    Ok(Before { front, ahead })
 }
 
 // The last round with cuts, after those with fewer moves.
@@ -132,6 +163,7 @@ fn cut_rounds<R: Threads + Sync, G: Gate>(
         pass,
         gate,
         solvers,
+        stop,
     )?;
     let round = Round {
         alloc,
@@ -140,9 +172,10 @@ fn cut_rounds<R: Threads + Sync, G: Gate>(
         moves,
         nodes: options.nodes,
         rules: CutRules::all(stop),
-        less: &less,
+        less: &less.front,
         table,
         looks: options.table,
+        ahead: less.ahead,
     };
     run_round(rt, &round, gate, solvers, pass)
 }
@@ -195,6 +228,7 @@ fn whole_round<R: Threads + Sync, G: Gate>(
         less: &less,
         table,
         looks: options.table,
+        ahead: node.choices(),
     };
     run_round(rt, &round, gate, solvers, pass)
 }
@@ -238,7 +272,7 @@ pub fn rounds<R: Threads + Sync, G: Gate>(
     ensures pass { IsPassOf table.now pass.new }
     ensures grown { HasSeenMore pass.old pass.new }
 {
-    let mut solvers = solvers_for(alloc, options.workers, node)?;
+    let mut solvers = solvers_for(alloc, most_workers(options), node)?;
     let solvers = solvers.as_mut_slice();
     if options.cuts {
         cut_rounds(

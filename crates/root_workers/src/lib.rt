@@ -3,6 +3,7 @@
 //! Its contract promises the definition's front, named card and best weight for any number of workers, every table and with cuts or none, or a root card whose tree is too large.
 #![tactic(auto)]
 
+mod ahead;
 mod alpha;
 mod cards;
 mod deepening;

@@ -166,7 +166,8 @@ pub fn run_round<R: Threads + Sync, G: Gate>(
     best_over(round, gate, &mut solvers[0], pass, places)
 }
 
-// What the workers know when all tickets are drawn.
+// What the workers know when all tickets are drawn: nothing, where there is no work for two. No
+// more workers begin than there are cards for them.
 fn searched_by_all<R: Threads + Sync, G: Gate>(
     rt: &R,
     round: &Round,
@@ -183,10 +184,15 @@ fn searched_by_all<R: Threads + Sync, G: Gate>(
     ensures pass { IsPassOf round.now.table.now pass.new }
     ensures grown { HasSeenMore pass.old pass.new }
 {
+    let workers = solvers.len().min(usize::from(round.ahead.count()));
+    if workers < 2 {
+        return Ok(Vec::new(round.alloc));
+    }
     let count = round.node.choices().count();
     let (tickets, drawn) = Tickets::new(round.alloc, u32::from(count))?;
     let first = round.table.split(pass);
-    let done = share(rt, round, gate, 0, solvers, &tickets, first, drawn);
+    let workers = &mut solvers[..workers];
+    let done = share(rt, round, gate, 0, workers, &tickets, first, drawn);
     let Done {
         pass: other,
         drawn: _,

@@ -28,7 +28,7 @@ use win_vectors::Weights;
 pub struct Options {
     /// How many nodes the search of each root card may enter.
     pub nodes: u64,
-    /// How many workers share the root cards: 1 to 64.
+    /// How many workers share the root cards: 1 to 64. With cuts no more than two are at work.
     pub workers: u32,
     /// Whether the searches look into the table.
     pub table: bool,
@@ -58,9 +58,10 @@ pub struct RootCard {
 /// workers, the gate, the table and the cuts change none of them.
 ///
 /// Each search of a root card has a budget of so many nodes for itself, and stands between the
-/// gate's `enter` and `leave`. With cuts the workers go over the cards in rounds with 1, 2, ..
-/// moves, and a card that the cards before it cover is left. Without them each card is searched to
-/// its end. The workers are joined, so it may wait.
+/// gate's `enter` and `leave`. With cuts the cards are gone over in rounds with 1, 2, .. moves, a
+/// card that the cards before it cover is left, and two workers share those after which the round
+/// before found fronts. Without them each card is searched to its end. The workers are joined, so
+/// it may wait.
 ///
 /// `Spent` names a root card whose tree has more nodes; with neither table nor cuts the first such
 /// card, and exactly where there is one.

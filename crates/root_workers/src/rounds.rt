@@ -1,6 +1,6 @@
 //! What a round asks of each worker, and what it finds.
 use alphamu_core::Found;
-use card_sets::Card;
+use card_sets::{Card, CardSet};
 use cut_rules::CutRules;
 use pareto_fronts::Front;
 use shared_table::SharedTable;
@@ -22,6 +22,9 @@ pub struct Round<'a> {
     pub table: &'a SharedTable,
     /// Whether the searches look into the table.
     pub looks: bool,
+    /// The root cards that workers search beside each other, if there are two or more. The others the
+    /// calling thread searches, in card order.
+    pub ahead: CardSet,
 }
 
 /// What a round finds: the front, the card that leads with its weight, and what was found after each

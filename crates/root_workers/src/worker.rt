@@ -81,7 +81,7 @@ fn add_own(round: &Round, own: &mut Own, place: u32, known: &Known) -> Result<()
     Ok(())
 }
 
-// Searches the root card at a place, and adds what is known of it.
+// Searches the root card at a place, if it is one for the workers, and adds what is known of it.
 fn work_at<G: Gate>(
     round: &Round,
     gate: &G,
@@ -104,6 +104,9 @@ fn work_at<G: Gate>(
     let Some(card) = card_at(round.node, place) else {
         return Ok(());
     };
+    if !round.ahead.has(card) {
+        return Ok(());
+    }
     if let Some(known) = known_of(round, gate, worker, solver, pass, place, card, own)? {
         add_own(round, own, place, &known)?;
         places.push(Place { place, known })?;
