@@ -1,61 +1,68 @@
 //! Gates that see where workers are.
 use am_outside::Gate;
 use card_sets::Card;
-use std::sync::atomic::{AtomicBool, Ordering};
+use std::sync::atomic::{AtomicBool, AtomicU32, Ordering};
 use std::thread;
 
 /// How often a gate looks before it gives up.
 const TURNS: u32 = 20_000_000;
 
-/// Holds each of two cards at its first `enter` until one for the other was seen. It notes where it
-/// gave up.
+/// Lets each of two cards enter so many times, and holds it at the next `enter` until one for the
+/// other was seen as often. It notes where it gave up.
 #[derive(Drop)]
 pub struct Meeting {
     one: Card,
     other: Card,
-    one_entered: AtomicBool,
-    other_entered: AtomicBool,
+    free: u32,
+    one_entered: AtomicU32,
+    other_entered: AtomicU32,
     failed: AtomicBool,
 }
 
 impl Meeting {
-    pub fn new(one: Card, other: Card) -> Meeting {
+    pub fn new(one: Card, other: Card, free: u32) -> Meeting {
         Meeting {
             one,
             other,
-            one_entered: AtomicBool::new(false),
-            other_entered: AtomicBool::new(false),
+            free,
+            one_entered: AtomicU32::new(0),
+            other_entered: AtomicU32::new(0),
             failed: AtomicBool::new(false),
         }
     }
 
-    /// Whether both cards were entered, and no worker waited in vain.
+    /// Whether both cards were entered once more than freely, and no worker waited in vain.
     pub fn took_place(&self) -> bool {
-        self.one_entered.load(Ordering::SeqCst)
-            && self.other_entered.load(Ordering::SeqCst)
+        self.one_entered.load(Ordering::SeqCst) > self.free
+            && self.other_entered.load(Ordering::SeqCst) > self.free
             && !self.failed.load(Ordering::SeqCst)
     }
 
-    fn wait_for(&self, seen: &AtomicBool) {
+    fn wait_for(&self, entered: &AtomicU32) {
         for _ in 0..TURNS {
-            if seen.load(Ordering::SeqCst) {
+            if entered.load(Ordering::SeqCst) > self.free {
                 return;
             }
             thread::yield_now();
         }
         self.failed.store(true, Ordering::SeqCst);
     }
+
+    // An `enter` for a card, which may have to wait for the other card.
+    fn meet(&self, entered: &AtomicU32, other_entered: &AtomicU32) {
+        if entered.fetch_add(1, Ordering::SeqCst) >= self.free {
+            self.wait_for(other_entered);
+        }
+    }
 }
 
 impl Gate for Meeting {
     fn enter(&self, _worker: u32, card: Card) {
         if card == self.one {
-            self.one_entered.store(true, Ordering::SeqCst);
-            self.wait_for(&self.other_entered);
+            self.meet(&self.one_entered, &self.other_entered);
         }
         if card == self.other {
-            self.other_entered.store(true, Ordering::SeqCst);
-            self.wait_for(&self.one_entered);
+            self.meet(&self.other_entered, &self.one_entered);
         }
     }
 

@@ -218,16 +218,34 @@ fn the_heavier_layout_decides(rt: HostRuntime) -> Result<(), Fail> {
 
 #[test]
 fn two_workers_are_beside_each_other(rt: HostRuntime) -> Result<(), Fail> {
-    let gate = Meeting::new(spade(2), spade(3));
+    let gate = Meeting::new(spade(2), spade(3), 0);
     let node = guess(&rt, rt.alloc())?;
     let options = Options {
         nodes: 1000,
         workers: 2,
         table: true,
-        cuts: true,
+        cuts: false,
     };
     let root = front_of(&rt, rt.alloc(), &node, 2, &options, &gate)??;
     assert!(rt; gate.took_place());
     assert!(rt; root.card == spade(2) && root.weight == 1 && root.front.len() == 2);
+    Ok(())
+}
+
+// With one move one worker finds that the jack wins one layout and the king the other. So with two
+// moves two workers search them.
+#[test]
+fn two_workers_share_what_won_with_a_move_less(rt: HostRuntime) -> Result<(), Fail> {
+    let gate = Meeting::new(spade(11), spade(13), 1);
+    let node = after_seven(&rt, rt.alloc())?;
+    let options = Options {
+        nodes: 1000,
+        workers: 4,
+        table: true,
+        cuts: true,
+    };
+    let root = front_of(&rt, rt.alloc(), &node, 2, &options, &gate)??;
+    assert!(rt; gate.took_place());
+    assert!(rt; root.card == spade(11) && root.weight == 1 && root.front.len() == 2);
     Ok(())
 }

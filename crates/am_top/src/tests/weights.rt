@@ -28,7 +28,7 @@ fn a_report_goes_by_weight(rt: HostRuntime) -> Result<(), Fail> {
 }
 
 // South chooses after the seven: the king wins the first layout.
-const AFTER_TWO_CARDS: &str =
+pub(super) const AFTER_TWO_CARDS: &str =
     "[Deal \"N:32... - KJ... -\"]\n[Declarer \"S\"]\n[Contract \"1NT\"]\n[EndNeed \"1\"]\n[EndLead \"N\"]\n[Play \"N\"]\nS2 S7 - -\n*\n";
 
 #[test]

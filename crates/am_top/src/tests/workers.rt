@@ -1,49 +1,51 @@
 //! Workers beside each other, as a gate sees them.
-use super::{QUEEN, QUEEN_LAYOUTS, QUEEN_REPORT, ran, ran_at, shelf_of};
+ghost use Rattle.std.specs.Prelude.{◌≤◌};
+
+use super::weights::AFTER_TWO_CARDS;
+use super::{QUEEN, QUEEN_LAYOUTS, ran, ran_at, shelf_of};
 use crate::Status;
 use am_outside::Gate;
 use card_sets::{Card, Rank, Suit};
-use std::sync::atomic::{AtomicBool, Ordering};
+use std::alloc::Global;
+use std::process::Abort;
+use std::sync::atomic::{AtomicBool, AtomicU32, Ordering};
 use std::test::Fail;
-use std::thread;
+use std::thread::{self, Threads};
 
 // How often a gate looks before it gives up.
 const TURNS: u32 = 20_000_000;
 
-// The cards at the root.
-fn two() -> Card {
-    Card::new(Suit::Spades, Rank::new(2))
-}
-
-fn three() -> Card {
-    Card::new(Suit::Spades, Rank::new(3))
-}
-
-// Holds the two until the three was left; or holds each until the other was entered. It notes where
-// it gave up.
+// Lets each of two cards enter so many times. Then it holds the first until the second was left once
+// more; or each until the other was entered. It notes where it gave up.
 #[derive(Drop)]
 struct Holding {
+    first: Card,
+    second: Card,
+    free: u32,
     until_left: bool,
-    two_entered: AtomicBool,
-    three_entered: AtomicBool,
-    three_left: AtomicBool,
+    first_entered: AtomicU32,
+    second_entered: AtomicU32,
+    second_left: AtomicU32,
     failed: AtomicBool,
 }
 
 impl Holding {
-    fn new(until_left: bool) -> Holding {
+    fn new(first: Card, second: Card, free: u32, until_left: bool) -> Holding {
         Holding {
+            first,
+            second,
+            free,
             until_left,
-            two_entered: AtomicBool::new(false),
-            three_entered: AtomicBool::new(false),
-            three_left: AtomicBool::new(false),
+            first_entered: AtomicU32::new(0),
+            second_entered: AtomicU32::new(0),
+            second_left: AtomicU32::new(0),
             failed: AtomicBool::new(false),
         }
     }
 
-    fn wait_for(&self, seen: &AtomicBool) {
+    fn wait_for(&self, seen: &AtomicU32) {
         for _ in 0..TURNS {
-            if seen.load(Ordering::SeqCst) {
+            if seen.load(Ordering::SeqCst) > self.free {
                 return;
             }
             thread::yield_now();
@@ -51,70 +53,112 @@ impl Holding {
         self.failed.store(true, Ordering::SeqCst);
     }
 
-    // Whether both cards were entered, and nobody waited in vain.
+    // Whether both cards were entered once more than freely, the second was left, and nobody waited
+    // in vain.
     fn saw_both(&self) -> bool {
-        self.two_entered.load(Ordering::SeqCst)
-            && self.three_entered.load(Ordering::SeqCst)
+        self.first_entered.load(Ordering::SeqCst) > self.free
+            && self.second_entered.load(Ordering::SeqCst) > self.free
+            && self.second_left.load(Ordering::SeqCst) > self.free
             && !self.failed.load(Ordering::SeqCst)
     }
 }
 
 impl Gate for Holding {
     fn enter(&self, _worker: u32, card: Card) {
-        if card == two() {
-            self.two_entered.store(true, Ordering::SeqCst);
+        if card == self.first && self.first_entered.fetch_add(1, Ordering::SeqCst) >= self.free {
             if self.until_left {
-                self.wait_for(&self.three_left);
+                self.wait_for(&self.second_left);
             } else {
-                self.wait_for(&self.three_entered);
+                self.wait_for(&self.second_entered);
             }
         }
-        if card == three() {
-            self.three_entered.store(true, Ordering::SeqCst);
+        if card == self.second && self.second_entered.fetch_add(1, Ordering::SeqCst) >= self.free {
             if !self.until_left {
-                self.wait_for(&self.two_entered);
+                self.wait_for(&self.first_entered);
             }
         }
     }
 
     fn leave(&self, _worker: u32, card: Card) {
-        if card == three() {
-            self.three_left.store(true, Ordering::SeqCst);
+        if card == self.second {
+            self.second_left.fetch_add(1, Ordering::SeqCst);
         }
     }
 }
 
-const FOUR_WORKERS: [&str; 3] = [
-    "--job solve --deal deal --layouts layouts --moves 2 --workers 4",
-    "--job solve --deal deal --layouts layouts --moves 2 --workers 4 --no-table",
-    "--job solve --deal deal --layouts layouts --moves 2 --workers 4 --no-cuts",
+fn spade(rank: u8) -> Card
+    requires low { 2 ≤ rank }
+    requires high { rank ≤ 14 }
+{
+    Card::new(Suit::Spades, Rank::new(rank))
+}
+
+const PLAIN_WORDS: &str =
+    "--job solve --deal deal --layouts layouts --moves 2 --no-cuts --workers ";
+
+// With cuts, over a table and over none.
+const CUT_WORDS: [&str; 2] = [
+    "--job solve --deal deal --layouts layouts --moves 2 --workers ",
+    "--job solve --deal deal --layouts layouts --moves 2 --no-table --workers ",
 ];
+
+// So many workers at a gate write what one writes, and the gate sees both cards.
+fn assert_same<R: Threads + Sync + Abort>(
+    rt: &R,
+    alloc: Global,
+    words: &str,
+    workers: &str,
+    deal: &str,
+    gate: &Holding,
+) -> Result<(), Fail> {
+    let one = ran(
+        rt,
+        alloc,
+        &format!(in alloc; "{words}1")?,
+        deal,
+        QUEEN_LAYOUTS,
+    )?;
+    let mut shelf = shelf_of(alloc, deal, QUEEN_LAYOUTS)?;
+    let many = ran_at(
+        rt,
+        alloc,
+        &format!(in alloc; "{words}{workers}")?,
+        &mut shelf,
+        gate,
+    )?;
+    assert!(rt;
+        one.status == Status::Done && many.status == Status::Done,
+        "{}",
+        words
+    );
+    assert_eq!(rt; many.out.bytes(), one.out.bytes());
+    assert!(rt; gate.saw_both(), "{}", words);
+    Ok(())
+}
 
 #[test]
 fn the_card_that_ends_first_is_not_the_first(rt: HostRuntime) -> Result<(), Fail> {
-    for words in &FOUR_WORKERS {
-        let gate = Holding::new(true);
-        let mut shelf = shelf_of(rt.alloc(), QUEEN, QUEEN_LAYOUTS)?;
-        let run = ran_at(&rt, rt.alloc(), words, &mut shelf, &gate)?;
-        assert!(rt; run.ends_with(Status::Done, QUEEN_REPORT, ""), "{}", words);
-        assert!(rt;
-            gate.saw_both() && gate.three_left.load(Ordering::SeqCst),
-            "{}",
-            words
-        );
+    let gate = Holding::new(spade(2), spade(3), 0, true);
+    assert_same(&rt, rt.alloc(), PLAIN_WORDS, "4", QUEEN, &gate)
+}
+
+// With one move one worker finds that the jack wins one layout and the king the other. So with two
+// moves two workers search them.
+#[test]
+fn with_cuts_they_share_what_won_with_a_move_less(rt: HostRuntime) -> Result<(), Fail> {
+    for words in &CUT_WORDS {
+        let gate = Holding::new(spade(11), spade(13), 1, true);
+        assert_same(&rt, rt.alloc(), words, "4", AFTER_TWO_CARDS, &gate)?;
     }
     Ok(())
 }
 
 #[test]
 fn two_workers_are_beside_each_other(rt: HostRuntime) -> Result<(), Fail> {
-    let words = "--job solve --deal deal --layouts layouts --moves 2 --workers 2";
-    let gate = Holding::new(false);
-    let mut shelf = shelf_of(rt.alloc(), QUEEN, QUEEN_LAYOUTS)?;
-    let run = ran_at(&rt, rt.alloc(), words, &mut shelf, &gate)?;
-    assert!(rt; run.ends_with(Status::Done, QUEEN_REPORT, ""));
-    assert!(rt; gate.saw_both());
-    Ok(())
+    let gate = Holding::new(spade(2), spade(3), 0, false);
+    assert_same(&rt, rt.alloc(), PLAIN_WORDS, "2", QUEEN, &gate)?;
+    let gate = Holding::new(spade(11), spade(13), 1, false);
+    assert_same(&rt, rt.alloc(), CUT_WORDS[0], "2", AFTER_TWO_CARDS, &gate)
 }
 
 #[test]
