@@ -3,10 +3,10 @@
 
 Times alphamu's job `card` with 1, 2 and 4 workers, in one run on one machine, and prints ratios: the best of RUNS runs (default 3).
 
-- Without cuts, on an ending with eight root cards of like size: two in each suit, and the suits alike. Wall clock with one worker to that
-  with 2 and 4.
+- Without cuts, on an ending with eight root cards of like size: two low cards in each suit, and with each layout those in which the suits
+  have changed places, so that no suit has a larger tree than another. Wall clock with one worker to that with 2 and 4.
 - With cuts, on random endings: the same, and the time of all processors with 4 workers to that with one. Cuts spare later cards by what
-  earlier ones have shown, so workers side by side do more in all.
+  earlier ones have shown, so no more than two workers share cards, and only those after which the round before found fronts.
 
 Beside them stands what four runs with one worker each, side by side, do in the time of one alone: four workers can hardly do better than
 four runs that share nothing, and on processors that share a core, or with other work, these stay below 4.
@@ -36,13 +36,20 @@ def hand(cards):
     return ".".join("".join(sorted((card[1] for card in cards if card[0] == suit), key=RANKS.index)) for suit in "SHDC")
 
 
+def turned(cards, places):
+    """The cards with each suit so many places further on."""
+    return ["SHDC"[("SHDC".index(card[0]) + places) % 4] + card[1] for card in cards]
+
+
 def eight_cards(moves):
-    """Eight tricks at no trump: dummy leads from A5 in each suit, South has K4, and the defenders' sixteen cards are drawn."""
+    """Eight tricks at no trump: dummy leads from 42 in each suit, South has K5, and the defenders' sixteen cards are drawn sixteen times."""
     draws, unseen, layouts = random.Random(7), [suit + rank for suit in "SHDC" for rank in "QJ97"], set()
-    while len(layouts) < 20:
+    north, south = ".".join(["42"] * 4), ".".join(["K5"] * 4)
+    while len(layouts) < 64:
         draws.shuffle(unseen)
-        layouts.add(f"N:{'.'.join(['A5'] * 4)} {hand(unseen[:8])} {'.'.join(['K4'] * 4)} {hand(unseen[8:])}\n")
-    deal = f'[Deal "N:{".".join(["A5"] * 4)} - {".".join(["K4"] * 4)} -"]\n[Declarer "S"]\n[Contract "1NT"]\n[EndNeed "7"]\n[EndLead "N"]\n'
+        sides = [(hand(turned(unseen[:8], places)), hand(turned(unseen[8:], places))) for places in range(4)]
+        layouts |= {f"N:{north} {east} {south} {west}\n" for east, west in sides}
+    deal = f'[Deal "N:{north} - {south} -"]\n[Declarer "S"]\n[Contract "1NT"]\n[EndNeed "4"]\n[EndLead "N"]\n'
     return "eight like cards", deal, "".join(sorted(layouts)), moves
 
 
@@ -87,7 +94,7 @@ def main():
     runs = int(sys.argv[1]) if len(sys.argv) > 1 else 3
     print(f"{os.cpu_count()} processors, {os.getloadavg()[0]:.1f} processes at work or waiting before the run")
     print("ending                cuts  moves  one worker  2 workers 4 workers  four runs  user, 4 to 1")
-    row(*eight_cards(6), ["--no-cuts"], runs)
+    row(*eight_cards(5), ["--no-cuts"], runs)
     for tricks, layouts, moves, seed in RANDOM:
         ending = random_ending(tricks, layouts, moves, seed)
         row(ending.name, ending.deal, ending.layouts, moves, [], runs)
