@@ -1,0 +1,4 @@
+pub mod Zips
+pub mod Roots
+pub mod Batched
+pub mod Told
