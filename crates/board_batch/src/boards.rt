@@ -7,15 +7,162 @@ ghost use Rattle.root_workers.specs.Plain.{IsPlain, HasWorkers};
 ghost use Rattle.root_workers.specs.Rounds.{HasSeenMore};
 ghost use Rattle.board_batch.specs.Problems.{IsProblem, AreAnswers, AllProblemsFit};
 ghost use Rattle.board_batch.specs.Problems.{IsSpentIn, IsFirstSpentIn};
+ghost use Rattle.board_batch.specs.Batches.{IsBatch, IsSolved, IsSpentOf, IsKnown, IsRight};
 
-use crate::batch::Problem;
+use crate::batch::{Batch, Problem};
 use crate::fault::BatchFault;
+use crate::places::{Place, taken};
+use crate::share::{Done, share};
+use crate::worker::solved;
+use alphamu_core::RootFault;
 use am_outside::Gate;
 use am_report::SolveAnswer;
 use root_workers::Options;
 use shared_table::{Pass, SharedTable};
-use std::alloc::Global;
+use std::alloc::{AllocError, Global};
 use std::thread::Threads;
+use work_tickets::Tickets;
+
+// The numbers of so many workers, but of at least one.
+fn numbers_of(alloc: Global, workers: u32) -> Result<Vec<u32>, AllocError>
+    ensures { IfOk result (λ numbers. 1 ≤ length numbers.items) }
+{
+    let mut numbers = vec![in alloc; 0]?;
+    for number in 1..workers {
+        numbers.push(number)?;
+    }
+    Ok(numbers)
+}
+
+// What the workers know when all tickets are drawn. There are no more workers than problems.
+fn solved_by_all<R: Threads + Sync, G: Gate>(
+    rt: &R,
+    batch: &Batch,
+    gate: &G,
+    workers: u32,
+    pass: &mut Pass,
+) -> Result<Vec<Place>, BatchFault>
+    requires batch { IsBatch batch.now }
+    requires few { length batch.now.problems.now ≤ 64 }
+    requires pass { IsPassOf batch.now.table.now pass.old }
+    ensures right { IfOk result (λ places. All (IsRight batch.now) places.items) }
+    ensures never_spent { (number card : ℕ) → IsErrOf result (BatchFault.Spent number card) → ⊥ }
+    ensures pass { IsPassOf batch.now.table.now pass.new }
+    ensures grown { HasSeenMore pass.old pass.new }
+{
+    let count = batch.problems.len() as u32;
+    let mut numbers = numbers_of(batch.alloc, workers.min(count))?;
+    let (tickets, drawn) = Tickets::new(batch.alloc, count)?;
+    let first = batch.table.split(pass);
+    let numbers = numbers.as_mut_slice();
+    let done = share(rt, batch, gate, numbers, &tickets, first, drawn);
+    let Done {
+        pass: other,
+        drawn: _,
+        places,
+    } = done;
+    batch.table.join(pass, other);
+    Ok(places)
+}
+
+// The fault of the problem at a place.
+fn fault_at(place: u32, fault: RootFault) -> BatchFault
+    requires few { place < 64 }
+    ensures spent { (number card : ℕ) → result ≡ BatchFault.Spent number card
+        → (number ≡ place + 1) × (fault ≡ RootFault.Spent card) }
+{
+    match fault {
+        RootFault::Spent(card) => BatchFault::Spent(place as u16 + 1, card),
+        RootFault::Memory => BatchFault::Memory,
+    }
+}
+
+// What is known of the problem at a place by a worker, or else by solving it now.
+fn known_at<R: Threads + Sync, G: Gate>(
+    rt: &R,
+    batch: &Batch,
+    gate: &G,
+    pass: &mut Pass,
+    places: &mut Vec<Place>,
+    place: u32,
+    problem: &Problem,
+) -> Result<SolveAnswer, RootFault>
+    requires batch { IsBatch batch.now }
+    requires pass { IsPassOf batch.now.table.now pass.old }
+    requires right { All (IsRight batch.now) places.old.items }
+    requires problem { slice_get batch.now.problems.now place ≡ Some problem.now }
+    ensures known { IsKnown batch.now problem.now result }
+    ensures right { All (IsRight batch.now) places.new.items }
+    ensures pass { IsPassOf batch.now.table.now pass.new }
+    ensures grown { HasSeenMore pass.old pass.new }
+{
+    match taken(batch, places, place) {
+        Some(known) => known,
+        None => solved(rt, batch, gate, 0, pass, problem),
+    }
+}
+
+// The answer of the problem at a place.
+fn answer_at<R: Threads + Sync, G: Gate>(
+    rt: &R,
+    batch: &Batch,
+    gate: &G,
+    pass: &mut Pass,
+    places: &mut Vec<Place>,
+    place: u32,
+    problem: &Problem,
+) -> Result<SolveAnswer, BatchFault>
+    requires batch { IsBatch batch.now }
+    requires pass { IsPassOf batch.now.table.now pass.old }
+    requires right { All (IsRight batch.now) places.old.items }
+    requires few { place < 64 }
+    requires problem { slice_get batch.now.problems.now place ≡ Some problem.now }
+    ensures answer { IfOk result (IsSolved batch.now problem.now) }
+    ensures spent { (number card : ℕ) → IsErrOf result (BatchFault.Spent number card)
+        → (number ≡ place + 1) × IsSpentOf batch.now problem.now card }
+    ensures right { All (IsRight batch.now) places.new.items }
+    ensures pass { IsPassOf batch.now.table.now pass.new }
+    ensures grown { HasSeenMore pass.old pass.new }
+{
+    match known_at(rt, batch, gate, pass, places, place, problem) {
+        Ok(answer) => Ok(answer),
+        Err(fault) => Err(fault_at(place, fault)),
+    }
+}
+
+// The answers of all problems in order, or the first problem that has none.
+fn in_order<R: Threads + Sync, G: Gate>(
+    rt: &R,
+    batch: &Batch,
+    gate: &G,
+    pass: &mut Pass,
+    mut places: Vec<Place>,
+) -> Result<Vec<SolveAnswer>, BatchFault>
+    requires batch { IsBatch batch.now }
+    requires few { length batch.now.problems.now ≤ 64 }
+    requires pass { IsPassOf batch.now.table.now pass.old }
+    requires right { All (IsRight batch.now) places.items }
+    ensures answers { IfOk result (λ answers.
+        AreAnswers batch.now.problems.now batch.now.moves answers.items) }
+    ensures fits { IsPlain batch.now.options → IfOk result (λ _.
+        AllProblemsFit batch.now.problems.now batch.now.moves batch.now.options.nodes) }
+    ensures spent { (number card : ℕ) → IsErrOf result (BatchFault.Spent number card)
+        → IsSpentIn batch.now.problems.now batch.now.moves batch.now.options.nodes number card }
+    ensures first_spent { IsPlain batch.now.options → (number card : ℕ)
+        → IsErrOf result (BatchFault.Spent number card)
+        → IsFirstSpentIn batch.now.problems.now batch.now.moves batch.now.options.nodes
+        number card }
+    ensures pass { IsPassOf batch.now.table.now pass.new }
+    ensures grown { HasSeenMore pass.old pass.new }
+{
+    let mut answers = Vec::new(batch.alloc);
+    for problem in batch.problems {
+        let place = answers.len() as u32;
+        let answer = answer_at(rt, batch, gate, pass, &mut places, place, problem)?;
+        answers.push(answer)?;
+    }
+    Ok(answers)
+}
 
 /// The answer of each of at most 64 problems, in order, by 1 to 26 moves of declarer's side: what
 /// `answer_root` says of it. The workers, the gate, the table and the cuts change none of them.
@@ -55,5 +202,16 @@ pub fn run_boards<R: Threads + Sync, G: Gate>(
     ensures pass { IsPassOf table.now pass.new }
     ensures grown { HasSeenMore pass.old pass.new }
 {
-    Err(BatchFault::Memory)
+    let batch = Batch {
+        alloc,
+        problems,
+        moves,
+        options: Options {
+            workers: 1,
+            ..*options
+        },
+        table,
+    };
+    let places = solved_by_all(rt, &batch, gate, options.workers, pass)?;
+    in_order(rt, &batch, gate, pass, places)
 }

@@ -8,6 +8,9 @@
 mod batch;
 mod boards;
 mod fault;
+mod places;
+mod share;
+mod worker;
 
 pub use batch::Problem;
 pub use boards::run_boards;

@@ -1,0 +1,46 @@
+-- What a batch asks, and what a worker may know of a problem.
+use Rattle.std.specs.Prelude.{◌≡◌, ◌≤◌, ⊤, ℕ, Some, Result, Ok, Err, All, slice_get}
+use Rattle.trick_rules.specs.Nodes.{most_moves}
+use Rattle.alphamu_core.specs.declared.answers.RootFault.{RootFault}
+use Rattle.alphamu_core.specs.declared.answers.RootFault.TheVariants.{Spent, Memory}
+use Rattle.am_report.specs.Answers.{SolveAnswerValue}
+use Rattle.am_answer.specs.Reports.{IsSolveAnswer}
+use Rattle.root_workers.specs.Roots.{IsSpentAt, IsFirstSpentAt, AllFit}
+use Rattle.root_workers.specs.Plain.{IsPlain, HasWorkers}
+use Rattle.board_batch.specs.declared.batch.Problem.{Problem}
+use Rattle.board_batch.specs.declared.batch.Batch.{Batch}
+use Rattle.board_batch.specs.declared.places.Place.{Place}
+use Rattle.board_batch.specs.Problems.{IsProblem}
+
+-- problems that can be solved by so many moves
+pub record IsBatch (b : Batch) : Type 0 where
+  pub problems : All IsProblem b.problems.now
+  pub some_moves : 1 ≤ b.moves
+  pub few_moves : b.moves ≤ most_moves
+  pub workers : HasWorkers b.options
+
+-- the answer of a problem; a plain search has met no tree that is too large
+abbrev pub IsSolved : Batch → Problem → SolveAnswerValue → Type 0
+IsSolved b p answer = IsSolveAnswer p.node.now p.weights.now b.moves answer
+    × (IsPlain b.options → AllFit p.node.now b.moves b.options.nodes)
+
+-- a root card of a problem whose tree is too large, in a plain search the first one
+abbrev pub IsSpentOf : Batch → Problem → ℕ → Type 0
+IsSpentOf b p card = IsSpentAt p.node.now b.moves b.options.nodes card
+    × (IsPlain b.options → IsFirstSpentAt p.node.now b.moves b.options.nodes card)
+
+-- what the search of a problem may end with, whoever makes it
+abbrev pub IsKnown : Batch → Problem → Result SolveAnswerValue RootFault → Type 0
+IsKnown b p (Ok answer) = IsSolved b p answer
+IsKnown b p (Err (Spent card)) = IsSpentOf b p card
+IsKnown b p (Err Memory) = ⊤
+
+-- what is known of the problem at a place, counted from 0
+pub record IsKnownAt (b : Batch) (place : ℕ) (known : Result SolveAnswerValue RootFault) : Type 0 where
+  pub problem : Problem
+  pub here : slice_get b.problems.now place ≡ Some problem
+  pub known_is : IsKnown b problem known
+
+-- what is said at each place is so
+abbrev pub IsRight : Batch → Place → Type 0
+IsRight b p = IsKnownAt b p.place p.known
