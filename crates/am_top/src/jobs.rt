@@ -1,8 +1,7 @@
 //! The work of each job, by what was read.
 ghost use Rattle.std.specs.Prelude.{◌≡◌, ◌≢◌, ◌<◌, ◌-◌, ◌^◌, true, false, length, map, IfOk, IfErr};
 ghost use Rattle.job_words.specs.Asks.{IsSearchWithinLimits};
-ghost use Rattle.am_answer.specs.Answers.{boards_in, has_choice, listed_in, problem_of, task_at};
-ghost use Rattle.am_answer.specs.Answers.{task_in};
+ghost use Rattle.am_answer.specs.Answers.{has_choice, listed_in, problem_of, task_at, task_in};
 ghost use Rattle.am_answer.specs.Files.{AreWithin, IsWithin, is_match, is_match_work};
 ghost use Rattle.am_match.specs.Defences.{sitter};
 ghost use Rattle.am_answer.specs.Stages.{IsFileRefusal, IsTaskRefusal, IsTextFor, IsTextForAt};
@@ -13,6 +12,7 @@ use am_match::Defender;
 use am_outside::Gate;
 use byte_text::Text;
 use job_audit::audit_report;
+use job_boards::solve_boards;
 use job_check::check_report;
 use job_fusion::sample_text;
 use job_list::list_layouts;
@@ -125,6 +125,11 @@ pub fn text_in<R: Threads + Sync, G: Gate>(
         }
         Inputs::List { deal } => list(alloc, deal),
         Inputs::Made { number, search } => solve_made(rt, alloc, *number, search, gate),
-        Inputs::Boards { .. } => Err(Status::Memory),
+        Inputs::Boards {
+            deal,
+            layouts,
+            moves,
+            search,
+        } => solve_boards(rt, alloc, deal, layouts.as_slice(), *moves, search, gate),
     }
 }

@@ -6,6 +6,7 @@ use am_outside::{Gate, MemoryShelf, MemorySink, OpenGate};
 use std::alloc::{AllocError, Global};
 use std::thread::Threads;
 
+mod boards;
 mod jobs;
 mod matches;
 mod options;
