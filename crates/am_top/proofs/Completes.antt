@@ -1,7 +1,6 @@
 -- A run that is accepted, and meets no fault, is done or out of memory.
 use Rattle.std.proofs.Common.{◌≡◌, ◌⊎◌, inr, ⊎_elim, ℕ, List, Option, Some, None, Result, Ok, Err, refl, sym, subst, ◌∙◌, rules}
 use Rattle.std.specs.Prelude.{IfSome}
-use Rattle.am_outside.specs.Faults.{Rose}
 use Rattle.am_outside.specs.Shelf.{Files}
 use Rattle.job_words.specs.declared.asks.Search.{Search}
 use Rattle.job_words.specs.Asks.{AskValue}

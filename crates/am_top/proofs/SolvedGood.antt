@@ -1,5 +1,5 @@
 -- A report that was written for a root is found good.
-use Rattle.std.proofs.Common.{◌≡◌, ◌≤◌, ◌<◌, ◌+◌, ◌^◌, ℕ, zero, suc, true, false, None, Ok, List, [], ◌∷◌, length, map, sum, All, Contains, bytes_eq, refl, sym, ap, ◌∙◌, arith}
+use Rattle.std.proofs.Common.{◌≡◌, ◌≤◌, ◌<◌, ◌+◌, ◌^◌, ℕ, zero, suc, true, None, Ok, List, [], ◌∷◌, length, map, sum, All, Contains, bytes_eq, refl, sym, ap, ◌∙◌, arith}
 use Rattle.std.proofs.lemmas.List.{length-map}
 use Rattle.std.proofs.lemmas.List.Sorted.{length_permutation}
 use Rattle.std.proofs.lemmas.Slice.Eq.{bytes_eq-Decides}
