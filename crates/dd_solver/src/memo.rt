@@ -219,7 +219,11 @@ impl Memo {
     // Puts the entries into a wider table. Where there is no memory for it, the old one stays.
     fn grow(&mut self) {
         self.stored = 0;
-        if let Ok(mut wider) = Vec::from_elem(self.alloc, None, wider_size(self.slots.len(), self.most)) {
+        if let Ok(mut wider) = Vec::from_elem(
+            self.alloc,
+            None,
+            wider_size(self.slots.len(), self.most),
+        ) {
             put_all(wider.as_mut_slice(), self.slots.as_slice());
             self.slots = wider;
         }
