@@ -1,7 +1,7 @@
 //! The table of fronts that a search looks into.
-ghost use Rattle.std.specs.Prelude.{◌≡◌, IfOk};
+ghost use Rattle.std.specs.Prelude.{◌≡◌, IfOk, if◌then◌else◌};
 ghost use Rattle.job_words.specs.Asks.{IsSearchWithinLimits};
-ghost use Rattle.shared_table.specs.Passes.{IsPassOf};
+ghost use Rattle.shared_table.specs.Passes.{IsPassOf, table_plan};
 
 use job_words::Search;
 use root_workers::Options;
@@ -12,7 +12,10 @@ use std::alloc::{AllocError, Global};
 /// they ask for none it has one shard with room for one entry, and no search looks into it.
 pub fn table_of(alloc: Global, search: &Search) -> Result<(SharedTable, Pass), AllocError>
     requires limits { IsSearchWithinLimits search.now }
-    ensures { IfOk result (λ made. IsPassOf made.0 made.1) }
+    ensures pass { IfOk result (λ made. IsPassOf made.0 made.1) }
+    ensures plan { IfOk result (λ made. table_plan made.0 ≡ (if search.now.table
+        then record { shards = search.now.shards; room = search.now.room }
+        else record { shards = 1; room = 1 })) }
 {
     if search.table {
         SharedTable::new(alloc, search.shards, search.room)
