@@ -21,10 +21,9 @@ fn two_spades(one: u8, other: u8) -> CardSet
     CardSet::empty().with(spade(one)).with(spade(other))
 }
 
-/// Declarer holds SK SJ, and dummy is to lead S3 or S2 with no trumps. One trick is needed. Left
-/// has SQ S5 or SA S5.
-pub fn guess(rt: &impl Abort, alloc: Global) -> Result<Node, AllocError> {
-    let position = Position::between_tricks(
+// Declarer holds SK SJ, and dummy is to lead S3 or S2 with no trumps. One trick is needed.
+fn lead_to_the_king(rt: &impl Abort) -> Position {
+    Position::between_tricks(
         two_spades(11, 13),
         two_spades(2, 3),
         two_spades(5, 7).either(two_spades(12, 14)),
@@ -32,9 +31,23 @@ pub fn guess(rt: &impl Abort, alloc: Global) -> Result<Node, AllocError> {
         1,
         Trump::NoTrump,
     )
-    .expect(rt, "the ending is sound");
+    .expect(rt, "the ending is sound")
+}
+
+/// Declarer holds SK SJ, and dummy is to lead S3 or S2 with no trumps. One trick is needed. Left
+/// has SQ S5 or SA S5.
+pub fn guess(rt: &impl Abort, alloc: Global) -> Result<Node, AllocError> {
+    let position = lead_to_the_king(rt);
     let lefts = [two_spades(12, 5), two_spades(14, 5)];
     assert!(rt; position.fits(lefts[0]) && position.fits(lefts[1]));
+    Node::new(alloc, position, &lefts)
+}
+
+/// The same, where Left is known to have SQ S5.
+pub fn no_guess(rt: &impl Abort, alloc: Global) -> Result<Node, AllocError> {
+    let position = lead_to_the_king(rt);
+    let lefts = [two_spades(12, 5)];
+    assert!(rt; position.fits(lefts[0]));
     Node::new(alloc, position, &lefts)
 }
 

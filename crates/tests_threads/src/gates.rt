@@ -1,7 +1,7 @@
 //! Gates that see where workers are.
 use am_outside::Gate;
 use card_sets::Card;
-use std::sync::atomic::{AtomicBool, AtomicU32, Ordering};
+use std::sync::atomic::{AtomicBool, AtomicU32, AtomicU64, Ordering};
 use std::thread;
 
 /// How often a gate looks before it gives up.
@@ -63,6 +63,56 @@ impl Gate for Meeting {
         }
         if card == self.other {
             self.meet(&self.other_entered, &self.one_entered);
+        }
+    }
+
+    fn leave(&self, _worker: u32, _card: Card) {}
+}
+
+/// Holds the first `enter` of all until one by another worker was seen. It notes where it gave up.
+#[derive(Drop)]
+pub struct Company {
+    /// The number of the worker that came first, counted from 1, or 0 before it came.
+    first: AtomicU64,
+    other_entered: AtomicBool,
+    failed: AtomicBool,
+}
+
+impl Company {
+    pub fn new() -> Company {
+        Company {
+            first: AtomicU64::new(0),
+            other_entered: AtomicBool::new(false),
+            failed: AtomicBool::new(false),
+        }
+    }
+
+    /// Whether two workers entered, and the first one didn't wait in vain.
+    pub fn came(&self) -> bool {
+        self.other_entered.load(Ordering::SeqCst) && !self.failed.load(Ordering::SeqCst)
+    }
+
+    fn wait_for_other(&self) {
+        for _ in 0..TURNS {
+            if self.other_entered.load(Ordering::SeqCst) {
+                return;
+            }
+            thread::yield_now();
+        }
+        self.failed.store(true, Ordering::SeqCst);
+    }
+}
+
+impl Gate for Company {
+    fn enter(&self, worker: u32, _card: Card) {
+        let number = u64::from(worker) + 1;
+        match self
+            .first
+            .compare_exchange(0, number, Ordering::SeqCst, Ordering::SeqCst)
+        {
+            Ok(_) => self.wait_for_other(),
+            Err(first) if first == number => {}
+            Err(_) => self.other_entered.store(true, Ordering::SeqCst),
         }
     }
 
