@@ -30,7 +30,7 @@ import make
 
 BOARDS = 24
 # Name, the tricks played, moves and the first seed of the evenings that were not chosen.
-EVENINGS = [("after five tricks", 5, 4, 1001), ("after five tricks", 5, 6, 2001)]
+EVENINGS = [("after five tricks", 5, 4, first) for first in (1001, 2001, 3001)]
 
 
 def chosen(folder):
