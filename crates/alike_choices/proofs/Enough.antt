@@ -12,8 +12,8 @@ use Rattle.trick_rules.proofs.States.{legal_can_play}
 use Rattle.trick_rules.proofs.Soundness.{held_low}
 use Rattle.card_sets.proofs.Suits.{same_suit-true, card_of-suit_of}
 use Rattle.sure_tricks.proofs.Hands.{by_each}
-use Rattle.dd_solver.specs.Equals.{in_play, AreEqual}
-use Rattle.dd_solver.proofs.EqualCards.{equal_cards_win_the_same}
+use Rattle.double_dummy.specs.Equals.{in_play, AreEqual}
+use Rattle.double_dummy.proofs.EqualCards.{equal_cards_win_the_same}
 use Rattle.alike_states.specs.Alike.{IsClosedUp, IsLike, AreAlike, HasAnswer, GivesAnswer}
 use Rattle.alike_states.proofs.Likes.{like_back, like_suit, like_counts, alike_back, alike_over, alike_turn}
 use Rattle.alike_states.proofs.Cards.{legal_held, legal_alike, a_like_card_is_legal}

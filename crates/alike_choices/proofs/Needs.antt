@@ -2,9 +2,9 @@
 use Rattle.std.proofs.Common.{◌≡◌, ℕ, Bool, List, refl, subst}
 use Rattle.trick_rules.specs.Positions.{State, IsState}
 use Rattle.trick_rules.specs.Play.{makes}
-use Rattle.dd_solver.specs.Keys.{IsSettled}
-use Rattle.dd_solver.specs.Needs.{with_need}
-use Rattle.dd_solver.proofs.Thresholds.{with_need-IsState, settled}
+use Rattle.double_dummy.specs.Needs.{IsSettled}
+use Rattle.double_dummy.specs.Needs.{with_need}
+use Rattle.double_dummy.proofs.Thresholds.{with_need-IsState, settled}
 use Rattle.alike_states.specs.Alike.{AreAlike, HasAnswer}
 
 pub another_need_keeps_states_alike : (counting : List ℕ) (s t : State) (need : ℕ) → AreAlike counting s t → AreAlike counting (with_need s need) (with_need t need)

@@ -3,7 +3,7 @@ use Rattle.std.specs.Prelude.{◌≡◌, ◌⊎◌, ℕ, true, List}
 use Rattle.card_sets.specs.SetWords.{has_card}
 use Rattle.trick_rules.specs.Positions.{State}
 use Rattle.trick_rules.specs.Play.{legal_in}
-use Rattle.dd_solver.specs.Equals.{AreEqual}
+use Rattle.double_dummy.specs.Equals.{AreEqual}
 
 -- a lower card is equal to this one, and counts if this one does
 pub record HasLowerEqual (counting : List ℕ) (s : State) (card : ℕ) : Type 0 where

@@ -4,7 +4,7 @@ ghost use Rattle.std.specs.Prelude.{◌≡◌, ℕ, ◌≤◌, Bool, true, false
 ghost use Rattle.card_sets.specs.SetWords.{has_card};
 ghost use Rattle.trick_rules.specs.Positions.{State, IsState};
 ghost use Rattle.trick_rules.specs.Play.{is_over, legal_in};
-ghost use Rattle.dd_solver.specs.Needs.{with_need};
+ghost use Rattle.double_dummy.specs.Needs.{with_need};
 ghost use Rattle.alike_states.specs.Alike.{IsClosedUp, AreAlike, HasAnswer, GivesAnswer};
 ghost use Rattle.alike_choices.specs.Enough.{AreEnough};
 

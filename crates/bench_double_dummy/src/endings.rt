@@ -1,6 +1,7 @@
 //! Random endings, the same as those of the program in C++.
 use card_sets::{Card, CardSet, Seat, Suit};
-use dd_solver::{Solver, makes_plain};
+use dd_solver::Solver;
+use double_dummy::makes_plain;
 use std::alloc::Global;
 use trick_rules::{Position, Trump, play};
 

@@ -1,6 +1,6 @@
 //! A workload to be timed: double dummy on random endings, of as many tricks and as often as the
 //! arguments say.
-//! It stands on `dd_solver`.
+//! It stands on `dd_solver` and `double_dummy`.
 //! It promises nothing: what it prints doesn't depend on time, and is compared with what a program
 //! in C++ prints.
 #![tactic(auto)]

@@ -1,7 +1,9 @@
-pub mod Minimax
-pub mod Swap
-pub mod Mirror
-pub mod EqualCards
-pub mod Kept
-pub mod Thresholds
+pub mod SureCards
+pub mod Winner
+pub mod EqualsDown
+pub mod Tried
+pub mod Keyed
+pub mod Highest
+pub mod MovedUp
+pub mod CarriedBack
 pub mod Squeezing

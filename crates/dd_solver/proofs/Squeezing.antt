@@ -1,275 +1,143 @@
--- Cards moved down to places that nobody holds: ranks are relative.
-use Rattle.std.proofs.Common.{◌≡◌, ◌≢◌, ℕ, suc, ◌+◌, ◌<◌, ◌≤◌, Bool, true, false, not, ◌&&◌, ◌||◌, eqb, List, [], ◌∷◌, length, refl, sym, ap, subst, ◌∙◌, inl, inr, arith}
-use Rattle.std.proofs.lemmas.Bool.{false≢true, eq-eqb, ne_eqb, cases_eq, cases_lt, cases_Bool, or_parts, false_from_ne_true}
-use Rattle.card_sets.specs.declared.seat.Seat.{Seat}
-use Rattle.card_sets.specs.declared.seat.Seat.TheVariants.{Declarer, Left, Dummy, Right}
+-- The cards in play move up, from the highest down.
+use Rattle.std.proofs.Common.{◌≡◌, ◌≢◌, ℕ, ◌+◌, ◌*◌, ◌<◌, ◌≤◌, Bool, true, false, ◌||◌, List, [], ◌∷◌, ◌++◌, length, refl, sym, ap, subst, ◌∙◌, inl, inr, arith}
+use Rattle.std.proofs.lemmas.Bool.{both_ways, cases_eq, cases_Bool}
+use Rattle.std.proofs.lemmas.List.{length_push}
+use Rattle.card_sets.specs.declared.card.Suit.TheVariants.{Spades, Hearts, Diamonds, Clubs}
+use Rattle.card_sets.specs.declared.seat.Seat.TheVariants.{Left}
 use Rattle.card_sets.specs.Cards.{suit_of}
-use Rattle.card_sets.specs.SetWords.{has_card, cards_where, IsCardSet, IsSubset, Apart}
-use Rattle.card_sets.proofs.Sets.{has_card-cards_where, has_card-below, IsCardSet-cards_where, IsCardSet-filter, tail-after}
-use Rattle.card_sets.proofs.SetCounts.{length-take_out, length-put_in}
-use Rattle.trick_rules.specs.Positions.{IsState}
-use Rattle.trick_rules.specs.Play.{take_out, hand_of, cards_left, makes}
-use Rattle.trick_rules.proofs.CardLists.{has_card-take_out, first_has}
-use Rattle.trick_rules.proofs.States.{right_of-low}
-use Rattle.dd_solver.specs.Equals.{in_play}
-use Rattle.dd_solver.specs.Keys.{key_state, move_card, move_in}
+use Rattle.card_sets.specs.SetWords.{has_card, cards_where, IsCardSet}
+use Rattle.card_sets.proofs.Sets.{has_card-cards_where}
+use Rattle.trick_rules.specs.Positions.{State, IsState}
+use Rattle.double_dummy.specs.Equals.{in_play}
+use Rattle.double_dummy.proofs.Swap.{swap, swap-second, swap-first, swap-other}
 use Rattle.dd_solver.specs.declared.key.Key.{Key}
-use Rattle.dd_solver.proofs.Swap.{swap, swap-first, swap-second, swap-other, each_card}
-use Rattle.dd_solver.proofs.Mirror.{Renamed, Mirrored, Follows}
-use Rattle.dd_solver.proofs.EqualCards.{makes-mirrored}
+use Rattle.dd_solver.specs.declared.squeeze.Move.{Move}
+use Rattle.dd_solver.specs.declared.squeeze.Squeezed.{Squeezed}
+use Rattle.dd_solver.specs.Keys.{key_state, lengths_of, HasShape}
+use Rattle.dd_solver.specs.Squeezing.{move_card, with_moved, IsMovedUp, AreMovedUp}
+use Rattle.dd_solver.proofs.MovedUp.{up-IsCardSet, up-renamed, suit-renamed, parts, nobody, moved-IsState, in_play-moved}
+use Rattle.dd_solver.proofs.CarriedBack.{one-more-step}
 
--- ---- one set
+-- the shape of a hand stays
+up-lengths : (low high : ℕ) → suit_of low ≡ suit_of high → low < high → high < 52 → (xs : List ℕ) → IsCardSet xs → has_card xs high ≡ false → lengths_of (move_card low high xs) ≡ lengths_of xs
+up-lengths low high suit order fits xs set free =
+    let same = suit-renamed low high suit order fits xs (move_card low high xs) set (up-IsCardSet low high order fits xs set free) free (up-renamed low high order fits xs set free) in
+    omega (arith, same Spades, same Hearts, same Diamonds, same Clubs)
 
--- a set with the card: the card is out, and its new place is in
-abbrev put_at : ℕ → ℕ → List ℕ → List ℕ
-put_at card place xs = cards_where (λ c. has_card (take_out card xs) c || eqb c place)
+-- below `end` the cards in play are those of the first key below `n`, which are still to be moved
+pub record Squeezing (first : Key) (playing : List ℕ) (squeezed : Squeezed) (n end : ℕ) : Type 0 where
+  pub moved : AreMovedUp squeezed.moves.items (key_state first) (key_state squeezed.key)
+  pub state : IsState (key_state squeezed.key)
+  pub shape : HasShape squeezed.key
+  pub room : length squeezed.moves.items + n ≤ 52
+  pub before : n ≤ end
+  pub fits : end ≤ 52
+  pub packed : (c : ℕ) → c < end → in_play (key_state squeezed.key).position c ≡ true → (c < n) × (has_card playing c ≡ true)
 
-move-held : (card place : ℕ) (xs : List ℕ) → has_card xs card ≡ true → move_card card place xs ≡ put_at card place xs
-move-held card place xs h = rw h refl
-
-move-not_held : (card place : ℕ) (xs : List ℕ) → has_card xs card ≡ false → move_card card place xs ≡ xs
-move-not_held card place xs h = rw h refl
-
-has_put : (card place : ℕ) (xs : List ℕ) (c : ℕ) → c < 52 → has_card (put_at card place xs) c ≡ (has_card xs c && not (eqb c card) || eqb c place)
-has_put card place xs c low = has_card-cards_where (λ d. has_card (take_out card xs) d || eqb d place) c low ∙ ap (λ b. b || eqb c place) (has_card-take_out card xs c)
-
-and_none : (b : Bool) → (b && true || false) ≡ b
-and_none true = refl
-and_none false = refl
-
--- what no card set has
-past : (xs : List ℕ) (c : ℕ) → IsCardSet xs → 52 ≤ c → has_card xs c ≡ false
-past xs c set h = false_from_ne_true (has_card xs c) (λ e. let low = has_card-below xs c set e in absurd (omega arith))
-
-module _ (place card : ℕ) (order : place < card) (low : card < 52) (xs : List ℕ) (set : IsCardSet xs) (free : has_card xs place ≡ false) where
-  pub move-IsCardSet : IsCardSet (move_card card place xs)
-  move-IsCardSet =
-      elim (cases_Bool (has_card xs card)) as (λ _. IsCardSet (move_card card place xs)) [
-        | inl h ↦ subst IsCardSet (sym (move-held card place xs h)) (IsCardSet-cards_where (λ c. has_card (take_out card xs) c || eqb c place))
-        | inr h ↦ subst IsCardSet (sym (move-not_held card place xs h)) set
-      ]
-
-  pub move-length : length (move_card card place xs) ≡ length xs
-  move-length =
-      elim (cases_Bool (has_card xs card)) as (λ _. length (move_card card place xs) ≡ length xs) [
-        | inl h ↦
-            (let gone : has_card (take_out card xs) place ≡ false = has_card-take_out card xs place ∙ rw free refl in
-            let put = length-put_in (take_out card xs) place (IsCardSet-filter (λ d. not (eqb d card)) xs set) (omega (arith, order, low)) gone in
-            let out = length-take_out xs card set h in
-            ap (length {A = ℕ}) (move-held card place xs h) ∙ omega (arith, put, out))
-        | inr h ↦ ap (length {A = ℕ}) (move-not_held card place xs h)
-      ]
-
-  held-renamed : has_card xs card ≡ true → Renamed place card xs (put_at card place xs)
-  held-renamed h = each_card place card (λ c. has_card (put_at card place xs) c ≡ has_card xs (swap place card c))
-      (has_put card place xs place (omega (arith, order, low)) ∙ here ∙ sym h ∙ ap (has_card xs) (sym (swap-first place card)))
-      (has_put card place xs card low ∙ gone ∙ sym free ∙ ap (has_card xs) (sym (swap-second place card)))
-      (λ c e f. elim (cases_lt c 52) as (λ _. has_card (put_at card place xs) c ≡ has_card xs (swap place card c)) [
-        | inl under ↦ has_put card place xs c under ∙ others c e f ∙ ap (has_card xs) (sym (swap-other place card c e f))
-        | inr over ↦
-            past (put_at card place xs) c (IsCardSet-cards_where (λ d. has_card (take_out card xs) d || eqb d place)) over
-            ∙ sym (past xs c set over) ∙ ap (has_card xs) (sym (swap-other place card c e f))
-      ])
-    where
-      here : (has_card xs place && not (eqb place card) || eqb place place) ≡ true
-      here = rw (free, eq-eqb place place refl) refl
-
-      gone : (has_card xs card && not (eqb card card) || eqb card place) ≡ false
-      gone = rw (h, eq-eqb card card refl, ne_eqb card place (λ e. omega (arith, e, order))) refl
-
-      others : (c : ℕ) → c ≢ place → c ≢ card → (has_card xs c && not (eqb c card) || eqb c place) ≡ has_card xs c
-      others c e f = rw (ne_eqb c card f, ne_eqb c place e) (and_none (has_card xs c))
-
-  not_held-renamed : has_card xs card ≡ false → Renamed place card xs xs
-  not_held-renamed h = each_card place card (λ c. has_card xs c ≡ has_card xs (swap place card c))
-      (free ∙ sym h ∙ ap (has_card xs) (sym (swap-first place card)))
-      (h ∙ sym free ∙ ap (has_card xs) (sym (swap-second place card)))
-      (λ c e f. ap (has_card xs) (sym (swap-other place card c e f)))
-
-  pub move-renamed : Renamed place card xs (move_card card place xs)
-  move-renamed =
-      elim (cases_Bool (has_card xs card)) as (λ _. Renamed place card xs (move_card card place xs)) [
-        | inl h ↦ subst (Renamed place card xs) (sym (move-held card place xs h)) (held-renamed h)
-        | inr h ↦ subst (Renamed place card xs) (sym (move-not_held card place xs h)) (not_held-renamed h)
-      ]
-
-Apart-renamed : (a b : ℕ) (xs ys new_x new_y : List ℕ) → Renamed a b xs new_x → Renamed a b ys new_y → Apart xs ys → Apart new_x new_y
-Apart-renamed a b xs ys new_x new_y x y apart c h = y c ∙ apart (swap a b c) (sym (x c) ∙ h)
-
-IsSubset-renamed : (a b : ℕ) (xs ys new_x new_y : List ℕ) → Renamed a b xs new_x → Renamed a b ys new_y → IsSubset xs ys → IsSubset new_x new_y
-IsSubset-renamed a b xs ys new_x new_y x y part c h = y c ∙ part (swap a b c) (sym (x c) ∙ h)
-
--- ---- the hands of a key
-
-module _ (key : Key) (place card : ℕ) (suit : suit_of place ≡ suit_of card) (order : place < card) (low : card < 52) (need : ℕ) (ok : IsState (key_state key need))
-    (none : (c : ℕ) → place ≤ c → c < card → in_play (key_state key need).position c ≡ false) where
-  parts : (has_card key.declarer place ≡ false) × (has_card key.dummy place ≡ false) × (has_card key.unseen place ≡ false)
-  parts =
-      let trick = or_parts (has_card key.declarer place || has_card key.dummy place || has_card key.unseen place) (has_card [] place) (none place (omega arith) order) in
-      let hands = or_parts (has_card key.declarer place || has_card key.dummy place) (has_card key.unseen place) trick.0 in
-      let ours = or_parts (has_card key.declarer place) (has_card key.dummy place) hands.0 in
-      (ours.0, ours.1, hands.1)
-
-  left_free : has_card key.left place ≡ false
-  left_free = false_from_ne_true (has_card key.left place) (λ h. false≢true (sym parts.2 ∙ ok.fits.part place h))
-
-  declarer-renamed : Renamed place card key.declarer (move_card card place key.declarer)
-  declarer-renamed = move-renamed place card order low key.declarer ok.sound.declarer_set parts.0
-
-  dummy-renamed : Renamed place card key.dummy (move_card card place key.dummy)
-  dummy-renamed = move-renamed place card order low key.dummy ok.sound.dummy_set parts.1
-
-  unseen-renamed : Renamed place card key.unseen (move_card card place key.unseen)
-  unseen-renamed = move-renamed place card order low key.unseen ok.sound.unseen_set parts.2
-
-  left-renamed : Renamed place card key.left (move_card card place key.left)
-  left-renamed = move-renamed place card order low key.left ok.fits.set left_free
-
-  declarer-length : length (move_card card place key.declarer) ≡ length key.declarer
-  declarer-length = move-length place card order low key.declarer ok.sound.declarer_set parts.0
-
-  pub moved-IsState : IsState (key_state (move_in card place key) need)
-  moved-IsState = record {
-    sound = record {
-      declarer_set = move-IsCardSet place card order low key.declarer ok.sound.declarer_set parts.0;
-      dummy_set = move-IsCardSet place card order low key.dummy ok.sound.dummy_set parts.1;
-      unseen_set = move-IsCardSet place card order low key.unseen ok.sound.unseen_set parts.2;
-      declarer_dummy = Apart-renamed place card key.declarer key.dummy (move_card card place key.declarer) (move_card card place key.dummy) declarer-renamed dummy-renamed ok.sound.declarer_dummy;
-      declarer_unseen = Apart-renamed place card key.declarer key.unseen (move_card card place key.declarer) (move_card card place key.unseen) declarer-renamed unseen-renamed ok.sound.declarer_unseen;
-      dummy_unseen = Apart-renamed place card key.dummy key.unseen (move_card card place key.dummy) (move_card card place key.unseen) dummy-renamed unseen-renamed ok.sound.dummy_unseen;
-      trick_declarer = λ c h. absurd (false≢true h);
-      trick_dummy = λ c h. absurd (false≢true h);
-      trick_unseen = λ c h. absurd (false≢true h);
-      trick_short = ok.sound.trick_short;
-      trick_cards = ok.sound.trick_cards;
-      trick_differs = ok.sound.trick_differs;
-      need_fits = ok.sound.need_fits;
-      dummy_count = omega (arith, ok.sound.dummy_count, declarer-length, move-length place card order low key.dummy ok.sound.dummy_set parts.1);
-      unseen_count = omega (arith, ok.sound.unseen_count, declarer-length, move-length place card order low key.unseen ok.sound.unseen_set parts.2);
-    };
-    fits = record {
-      set = move-IsCardSet place card order low key.left ok.fits.set left_free;
-      part = IsSubset-renamed place card key.left key.unseen (move_card card place key.left) (move_card card place key.unseen) left-renamed unseen-renamed ok.fits.part;
-      count = omega (arith, ok.fits.count, declarer-length, move-length place card order low key.left ok.fits.set left_free);
-    };
-  }
-
-  moved-mirrored : Mirrored place card (key_state key need) (key_state (move_in card place key) need)
-  moved-mirrored = record {
-    declarer = declarer-renamed;
-    dummy = dummy-renamed;
-    unseen = unseen-renamed;
-    left = left-renamed;
-    leader = refl;
-    cards = refl;
-    need = refl;
-    trump = refl;
-    tricks = omega (arith, declarer-length);
-  }
-
-  moved-follows : Follows place card (key_state key need)
-  moved-follows = record {
-    gone = nobody;
-    none = λ c after before. none c (omega arith) before;
-    one = λ h. absurd (false≢true h);
-    later = λ h. absurd (false≢true h);
-  }
-    where
-      nobody : (seat : Seat) → has_card (hand_of (key_state key need) seat) place ≡ false
-      nobody Declarer = parts.0
-      nobody Left = left_free
-      nobody Dummy = parts.1
-      nobody Right = false_from_ne_true (has_card (hand_of (key_state key need) Right) place) (λ h. false≢true (sym parts.2 ∙ right_of-low (key_state key need) place h))
-
-  pub moved-makes : makes (key_state (move_in card place key) need) ≡ makes (key_state key need)
-  moved-makes = makes-mirrored place card suit order low (suc (cards_left (key_state key need).position)) (key_state key need) (key_state (move_in card place key) need) ok moved-IsState moved-mirrored moved-follows (omega arith)
-
--- ---- one card after another
-
--- the cards of the first key that are still to be moved are in `rest`, and from `place` on nobody holds another one
-pub record Squeezing (first key : Key) (rest : List ℕ) (place : ℕ) : Type 0 where
-  pub states : (need : ℕ) → need ≤ 13 → IsState (key_state key need)
-  pub same : (need : ℕ) → need ≤ 13 → makes (key_state key need) ≡ makes (key_state first need)
-  pub ahead : (c : ℕ) → has_card rest c ≡ true → place ≤ c
-  pub packed : (c : ℕ) → place ≤ c → c < 52 → in_play (key_state key 0).position c ≡ true → has_card rest c ≡ true
-
-or_none : (b : Bool) → (b || false) ≡ b
-or_none true = refl
-or_none false = refl
-
-pub squeezing-start : (key : Key) (ours rest : List ℕ) → ((need : ℕ) → need ≤ 13 → IsState (key_state key need))
-    → ours ≡ cards_where (λ c. has_card key.declarer c || has_card key.dummy c) → rest ≡ cards_where (λ c. has_card ours c || has_card key.unseen c) → Squeezing key key rest 0
-squeezing-start key ours rest states e f = record {
-  states = states;
-  same = λ need low. refl;
-  ahead = λ c h. omega arith;
-  packed = λ c above low h.
-      (let in_ours : has_card ours c ≡ (has_card key.declarer c || has_card key.dummy c) = ap (λ x. has_card x c) e ∙ has_card-cards_where (λ d. has_card key.declarer d || has_card key.dummy d) c low in
-      let in_rest : has_card rest c ≡ (has_card ours c || has_card key.unseen c) = ap (λ x. has_card x c) f ∙ has_card-cards_where (λ d. has_card ours d || has_card key.unseen d) c low in
-      in_rest ∙ ap (λ b. b || has_card key.unseen c) in_ours ∙ sym (or_none (has_card key.declarer c || has_card key.dummy c || has_card key.unseen c)) ∙ h);
+pub squeezing-start : (first : Key) (ours playing : List ℕ) (squeezed : Squeezed) → IsState (key_state first) → HasShape first → squeezed.key ≡ first → squeezed.moves.items ≡ []
+    → ours ≡ cards_where (λ c. has_card first.declarer c || has_card first.dummy c) → playing ≡ cards_where (λ c. has_card ours c || has_card first.unseen c) → Squeezing first playing squeezed 52 52
+squeezing-start first ours playing squeezed ok shape same empty e f = record {
+  moved = subst (λ l. AreMovedUp l (key_state first) (key_state squeezed.key)) (sym empty) (ap key_state (sym same));
+  state = subst (λ k. IsState (key_state k)) (sym same) ok;
+  shape = subst HasShape (sym same) shape;
+  room = omega (arith, ap (length {A = Move}) empty);
+  before = omega arith;
+  fits = omega arith;
+  packed = λ c low h. (low, plays c low (ap (λ k. in_play (key_state k).position c) (sym same) ∙ h));
 }
+  where
+    or_none : (b : Bool) → (b || false) ≡ b
+    or_none true = refl
+    or_none false = refl
 
--- a card of a list is its first one or one of the others
-one_of : (card : ℕ) (rest : List ℕ) (c : ℕ) → has_card (card ∷ rest) c ≡ true → card ≢ c → has_card rest c ≡ true
-one_of card rest c h other = rw (ne_eqb card c other) at h
+    plays : (c : ℕ) → c < 52 → in_play (key_state first).position c ≡ true → has_card playing c ≡ true
+    plays c low h =
+        let in_ours : has_card ours c ≡ (has_card first.declarer c || has_card first.dummy c) = ap (λ (x : List ℕ). has_card x c) e ∙ has_card-cards_where (λ d. has_card first.declarer d || has_card first.dummy d) c low in
+        let in_all : has_card playing c ≡ (has_card ours c || has_card first.unseen c) = ap (λ (x : List ℕ). has_card x c) f ∙ has_card-cards_where (λ d. has_card ours d || has_card first.unseen d) c low in
+        in_all ∙ ap (λ b. b || has_card first.unseen c) in_ours ∙ sym (or_none (has_card first.declarer c || has_card first.dummy c || has_card first.unseen c)) ∙ h
 
-module _ (first key : Key) (rest : List ℕ) (place card there : ℕ) (set : IsCardSet (card ∷ rest)) (r : Squeezing first key (card ∷ rest) place) (free : place ≤ there) where
-  card_low : card < 52
-  card_low = has_card-below (card ∷ rest) card set (first_has card rest)
+-- a card that isn't in play is passed over
+pub squeezing-pass : (first : Key) (playing : List ℕ) (squeezed : Squeezed) (n end : ℕ) → Squeezing first playing squeezed (n + 1) end → has_card playing n ≡ false → Squeezing first playing squeezed n end
+squeezing-pass first playing squeezed n end r out = record {
+  moved = r.moved;
+  state = r.state;
+  shape = r.shape;
+  room = (let k = r.room in omega arith);
+  before = (let k = r.before in omega arith);
+  fits = r.fits;
+  packed = λ c low h. (let was = r.packed c low h in (omega (arith, was.0, differs c was.1), was.1));
+}
+  where
+    differs : (c : ℕ) → has_card playing c ≡ true → c ≢ n
+    differs c h e = both_ways (has_card playing n) out (subst (λ x. has_card playing x ≡ true) e h)
 
-  pub squeezing-stay : there ≡ card → Squeezing first key rest (there + 1)
-  squeezing-stay same = record {
-    states = r.states;
-    same = r.same;
-    ahead = λ c h. omega (arith, same, tail-after card rest set c h);
-    packed = λ c above low h. one_of card rest c (r.packed c (omega (arith, free, same, above)) low h) (λ e. omega (arith, e, same, above));
-  }
+module _ (first : Key) (playing : List ℕ) (old new : Squeezed) (n end place : ℕ) (r : Squeezing first playing old (n + 1) end) (above : n ≤ place) (below : place < end) (suit : suit_of n ≡ suit_of place) where
+  -- a card that is at the highest place stays
+  squeezing-stay : place ≡ n → new ≡ old → Squeezing first playing new n place
+  squeezing-stay same stays = subst (λ x. Squeezing first playing x n place) (sym stays) (record {
+    moved = r.moved;
+    state = r.state;
+    shape = r.shape;
+    room = (let k = r.room in omega arith);
+    before = above;
+    fits = (let k = r.fits in omega arith);
+    packed = λ c low h. (omega (arith, low, same), (r.packed c (omega (arith, low, below)) h).1);
+  })
 
-  module _ (order : there < card) (suit : suit_of there ≡ suit_of card) where
-    nobody_between : (c : ℕ) → there ≤ c → c < card → in_play (key_state key 0).position c ≡ false
-    nobody_between c above before =
-        false_from_ne_true (in_play (key_state key 0).position c) (λ h.
-        let held = one_of card rest c (r.packed c (omega (arith, free, above)) (omega (arith, before, card_low)) h) (λ e. omega (arith, e, before)) in
-        omega (arith, before, tail-after card rest set c held))
+  module _ (order : n < place) (shape : new.key.shape ≡ old.key.shape) (moves : new.moves.items ≡ old.moves.items ++ record { low = n; high = place } ∷ [])
+      (is : key_state new.key ≡ with_moved n place (key_state old.key)) where
+    fits : place < 52
+    fits = (let k = r.fits in omega arith)
 
-    in_play-moved : (c : ℕ) → in_play (key_state (move_in card there key) 0).position c ≡ in_play (key_state key 0).position (swap there card c)
-    in_play-moved c =
-        let ok = r.states 0 (omega arith) in
-        rw (
-          declarer-renamed key there card suit order card_low 0 ok nobody_between c,
-          dummy-renamed key there card suit order card_low 0 ok nobody_between c,
-          unseen-renamed key there card suit order card_low 0 ok nobody_between c,
-        ) refl
+    free : (c : ℕ) → n < c → c ≤ place → in_play (key_state old.key).position c ≡ false
+    free c over under = elim (cases_Bool (in_play (key_state old.key).position c)) as (λ _. in_play (key_state old.key).position c ≡ false) [
+      | inl h ↦ (let was = r.packed c (omega (arith, under, below)) h in absurd (omega (arith, was.0, over)))
+      | inr h ↦ h
+    ]
 
-    still_packed : (c : ℕ) → there + 1 ≤ c → c < 52 → in_play (key_state (move_in card there key) 0).position c ≡ true → has_card rest c ≡ true
-    still_packed c above low h =
-        elim (cases_eq c card) as (λ _. has_card rest c ≡ true) [
-          | inl e ↦ absurd (false≢true (sym (nobody_between there (omega arith) order) ∙ ap (in_play (key_state key 0).position) (sym (ap (swap there card) e ∙ swap-second there card)) ∙ sym (in_play-moved c) ∙ h))
-          | inr other ↦ one_of card rest c
-              (r.packed c (omega (arith, free, above)) low
-              (ap (in_play (key_state key 0).position) (sym (swap-other there card c (λ e. omega (arith, e, above)) other)) ∙ sym (in_play-moved c) ∙ h))
-              (λ e. other (sym e))
+    abbrev s : State
+    s = key_state old.key
+
+    one : IsMovedUp s n place (key_state new.key)
+    one = record { between_tricks = refl; suit = suit; order = order; fits = fits; free = free; moved = is }
+
+    high_free : (has_card old.key.declarer place ≡ false) × (has_card old.key.dummy place ≡ false) × (has_card old.key.unseen place ≡ false)
+    high_free = parts s n place r.state refl suit order fits free place order (omega arith)
+
+    length_of : (xs ys : List ℕ) → IsCardSet xs → has_card xs place ≡ false → ys ≡ move_card n place xs → lengths_of xs ≡ lengths_of ys
+    length_of xs ys set none e = sym (ap lengths_of e ∙ up-lengths n place suit order fits xs set none)
+
+    still_packed : (c : ℕ) → c < place → in_play (key_state new.key).position c ≡ true → (c < n) × (has_card playing c ≡ true)
+    still_packed c low h =
+        let moved : in_play s.position (swap n place c) ≡ true = sym (ap (λ (x : State). in_play x.position c) is ∙ in_play-moved s n place r.state refl suit order fits free c) ∙ h in
+        elim (cases_eq c n) as (λ _. (c < n) × (has_card playing c ≡ true)) [
+          | inl e ↦ absurd (both_ways (in_play s.position place) (free place order (omega arith)) (sym (ap (in_play s.position) (ap (swap n place) e ∙ swap-first n place)) ∙ moved))
+          | inr other ↦
+              (let was = r.packed c (omega (arith, low, below)) (sym (ap (in_play s.position) (swap-other n place c other (λ e. omega (arith, e, low)))) ∙ moved) in
+              (omega (arith, was.0, other), was.1))
         ]
 
-    pub squeezing-move : Squeezing first (move_in card there key) rest (there + 1)
+    squeezing-move : Squeezing first playing new n place
     squeezing-move = record {
-      states = λ need low. moved-IsState key there card suit order card_low need (r.states need low) nobody_between;
-      same = λ need low. moved-makes key there card suit order card_low need (r.states need low) nobody_between ∙ r.same need low;
-      ahead = λ c h. omega (arith, order, tail-after card rest set c h);
+      moved = subst (λ l. AreMovedUp l (key_state first) (key_state new.key)) (sym moves) (one-more-step old.moves.items (record { low = n; high = place }) (key_state first) s (key_state new.key) r.moved one);
+      state = subst IsState (sym is) (moved-IsState s n place r.state refl suit order fits free);
+      shape = shape ∙ r.shape ∙ rw (
+        length_of old.key.declarer new.key.declarer r.state.sound.declarer_set high_free.0 (ap (λ (x : State). x.position.declarer) is),
+        length_of old.key.dummy new.key.dummy r.state.sound.dummy_set high_free.1 (ap (λ (x : State). x.position.dummy) is),
+        length_of old.key.unseen new.key.unseen r.state.sound.unseen_set high_free.2 (ap (λ (x : State). x.position.unseen) is),
+        length_of old.key.left new.key.left r.state.fits.set (nobody s n place r.state refl suit order fits free Left place order (omega arith)) (ap (λ (x : State). x.left) is),
+      ) refl;
+      room = (let k = r.room in omega (arith, k, ap (length {A = Move}) moves, length_push old.moves.items (record { low = n; high = place })));
+      before = above;
+      fits = (let k = r.fits in omega arith);
       packed = still_packed;
     }
 
-pub squeezing-step : (first key new : Key) (rest : List ℕ) (place card there : ℕ) → IsCardSet (card ∷ rest) → Squeezing first key (card ∷ rest) place → place ≤ there → there ≤ card → suit_of there ≡ suit_of card
-    → (there ≡ card → new ≡ key) → (there ≢ card → new ≡ move_in card there key) → Squeezing first new rest (there + 1)
-squeezing-step first key new rest place card there set r free before suit stays moves =
-    elim (cases_eq there card) as (λ _. Squeezing first new rest (there + 1)) [
-      | inl e ↦ subst (λ k. Squeezing first k rest (there + 1)) (sym (stays e)) (squeezing-stay first key rest place card there set r free e)
-      | inr other ↦ subst (λ k. Squeezing first k rest (there + 1)) (sym (moves other))
-          (squeezing-move first key rest place card there set r free (le_ne_lt there card before other) suit)
-    ]
-  where
-    le_ne_lt : (m n : ℕ) → m ≤ n → m ≢ n → m < n
-    le_ne_lt m n h ne = elim (cases_lt m n) as (λ _. m < n) [
-      | inl k ↦ k
-      | inr k ↦ absurd (ne (omega arith))
+pub squeezing-step : (first : Key) (playing : List ℕ) (old new : Squeezed) (n end place : ℕ) → Squeezing first playing old (n + 1) end → n ≤ place → place < end → suit_of n ≡ suit_of place
+    → (place ≡ n → new ≡ old) → new.key.shape ≡ old.key.shape → (place ≢ n → new.moves.items ≡ old.moves.items ++ record { low = n; high = place } ∷ [])
+    → (place ≢ n → key_state new.key ≡ with_moved n place (key_state old.key)) → Squeezing first playing new n place
+squeezing-step first playing old new n end place r above below suit stays shape moves is =
+    elim (cases_eq place n) as (λ _. Squeezing first playing new n place) [
+      | inl e ↦ squeezing-stay first playing old new n end place r above below suit e (stays e)
+      | inr other ↦ squeezing-move first playing old new n end place r above below suit (omega (arith, above, other)) shape (moves other) (is other)
     ]

@@ -1,37 +1,40 @@
--- What an entry of the memo is of, and what it knows.
-use Rattle.std.specs.Prelude.{◌≡◌, ℕ, ◌≤◌, Bool, true, false, not, ◌||◌, ◌==◌, List, filter, if◌then◌else◌}
-use Rattle.card_sets.specs.SetWords.{has_card, cards_where}
+-- A position between two tricks as the memo holds it.
+use Rattle.std.specs.Prelude.{◌≡◌, ℕ, true, ◌+◌, ◌*◌, List, length}
+use Rattle.card_sets.specs.declared.card.Suit.TheVariants.{Spades, Hearts, Diamonds, Clubs}
+use Rattle.card_sets.specs.SetWords.{has_card}
 use Rattle.trick_rules.specs.Positions.{State, position_between_tricks}
-use Rattle.trick_rules.specs.Play.{makes}
-use Rattle.dd_solver.specs.Needs.{with_need}
+use Rattle.trick_rules.specs.Play.{of_suit}
 use Rattle.dd_solver.specs.declared.key.Key.{Key}
 
--- the position between two tricks with this leader, and Left's hand, where declarer's side needs this many tricks
-abbrev pub key_state : Key → ℕ → State
-key_state key need = record { position = position_between_tricks key.declarer key.dummy key.unseen key.leader need key.trump; left = key.left }
+-- the position of a key, and Left's hand
+abbrev pub key_state : Key → State
+key_state key = record { position = position_between_tricks key.declarer key.dummy key.unseen key.leader key.need key.trump; left = key.left }
 
--- the key's state makes with the needs that the other state makes with
-abbrev pub IsKeyOf : State → Key → Type 0
-IsKeyOf s key = (need : ℕ) → need ≤ 13 → makes (key_state key need) ≡ makes (with_need s need)
+-- how many cards of each suit there are, in one number: six places of two for each suit
+abbrev pub lengths_of : List ℕ → ℕ
+lengths_of cards = ((length (of_suit Spades cards) * 64 + length (of_suit Hearts cards)) * 64
+    + length (of_suit Diamonds cards)) * 64 + length (of_suit Clubs cards)
 
--- a need that the answer to another one settles: a lower one where that is made, a higher one where it fails
-abbrev pub IsSettled : Bool → ℕ → ℕ → Type 0
-IsSettled true need other = other ≤ need
-IsSettled false need other = (need ≤ other) × (other ≤ 13)
-
--- the key's state has this answer for each need that it settles
-abbrev pub IsAnswer : Key → ℕ → Bool → Type 0
-IsAnswer key need made = (other : ℕ) → IsSettled made need other → makes (key_state key other) ≡ made
-
--- a set with a card moved to another place, where the set has the card
-abbrev pub move_card : ℕ → ℕ → List ℕ → List ℕ
-move_card card place cards = if has_card cards card then cards_where (λ c. has_card (filter (λ d. not (d == card)) cards) c || (c == place)) else cards
-
--- the same key where whoever holds a card holds another one in its stead
-abbrev pub move_in : ℕ → ℕ → Key → Key
-move_in card place key = record key {
-  declarer = move_card card place key.declarer;
-  dummy = move_card card place key.dummy;
-  unseen = move_card card place key.unseen;
-  left = move_card card place key.left;
+-- the shape of a key is that of its hands
+abbrev pub HasShape : Key → Type 0
+HasShape key = key.shape ≡ record {
+  declarer = lengths_of key.declarer;
+  dummy = lengths_of key.dummy;
+  unseen = lengths_of key.unseen;
+  left = lengths_of key.left;
 }
+
+-- the cards that count are the same in both sets
+abbrev pub AreSame : List ℕ → List ℕ → List ℕ → Type 0
+AreSame counting these those = (card : ℕ) → has_card counting card ≡ true
+    → has_card these card ≡ has_card those card
+
+-- two keys of one shape, leader and trumps, whose hands have the same of the cards that count
+pub record AreLikeKeys (counting : List ℕ) (key other : Key) : Type 0 where
+  pub shape : key.shape ≡ other.shape
+  pub leader : key.leader ≡ other.leader
+  pub trump : key.trump ≡ other.trump
+  pub declarer : AreSame counting key.declarer other.declarer
+  pub dummy : AreSame counting key.dummy other.dummy
+  pub unseen : AreSame counting key.unseen other.unseen
+  pub left : AreSame counting key.left other.left

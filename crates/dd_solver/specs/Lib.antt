@@ -1,4 +1,5 @@
+pub mod Closed
+pub mod Sure
 pub mod Keys
-pub mod Choices
-pub mod Equals
-pub mod Needs
+pub mod Answers
+pub mod Squeezing

@@ -1,125 +1,158 @@
-//! By what the memo finds a position between two tricks.
-//!
-//! Ranks are relative: cards that are out of play leave no gap behind, so positions in which the
-//! same hands hold the first, second, third .. card of each suit have one key.
-ghost use Rattle.std.specs.Prelude.{◌≡◌, ◌≢◌, ℕ, ◌≤◌, [], IsTrue};
-ghost use Rattle.card_sets.specs.Cards.{suit_of};
+//! A position between two tricks as the memo holds it.
+ghost use Rattle.std.specs.Prelude.{◌≡◌, [], IsTrue};
 ghost use Rattle.trick_rules.specs.Positions.{IsState};
-ghost use Rattle.trick_rules.specs.Play.{makes};
-ghost use Rattle.dd_solver.specs.Keys.{key_state, IsKeyOf, move_card as with_card_moved, move_in as key_with_card_moved};
+ghost use Rattle.dd_solver.specs.Squeezing.{with_moved, move_card as with_card_moved};
+ghost use Rattle.dd_solver.specs.Keys.{key_state, lengths_of, HasShape, AreSame, AreLikeKeys};
 
-use card_sets::{Card, CardSet, Rank, Seat};
-use std::hash::{FoldHasher, Hash, Hasher};
-use trick_rules::{Position, Trump};
+use card_sets::{Card, CardSet, Seat, Suit};
+use trick_rules::{Position, Trick, Trump};
 
-/// A position between two tricks without its need, and Left's hand.
+/// How many cards of each suit each of four hands has, a word for each hand: six bits for a suit.
 #[derive(Clone, Copy, Debug)]
-pub(crate) struct Key {
-    declarer: CardSet,
-    dummy: CardSet,
-    unseen: CardSet,
-    left: CardSet,
-    leader: Seat,
-    trump: Trump,
+pub(crate) struct Shape {
+    declarer: u32,
+    dummy: u32,
+    unseen: u32,
+    left: u32,
 }
 
-// The set with a card moved to another place, if it has the card.
-fn move_card(cards: CardSet, card: Card, place: Card) -> CardSet
-    ensures { result ≡ with_card_moved card place cards }
+impl Shape {
+    fn equals(&self, other: &Shape) -> bool
+        ensures { IsTrue result → self.now ≡ other.now }
+    {
+        self.declarer == other.declarer
+            && self.dummy == other.dummy
+            && self.unseen == other.unseen
+            && self.left == other.left
+    }
+}
+
+// How many cards of each suit are there.
+fn lengths(cards: CardSet) -> u32
+    ensures { result ≡ lengths_of cards }
 {
-    if cards.has(card) {
-        cards.without(card).with(place)
+    let spades = u32::from(cards.of_suit(Suit::Spades).count());
+    let hearts = u32::from(cards.of_suit(Suit::Hearts).count());
+    let diamonds = u32::from(cards.of_suit(Suit::Diamonds).count());
+    let clubs = u32::from(cards.of_suit(Suit::Clubs).count());
+    ((spades * 64 + hearts) * 64 + diamonds) * 64 + clubs
+}
+
+/// A position between two tricks, and Left's hand.
+#[derive(Clone, Copy, Debug)]
+pub(crate) struct Key {
+    pub(crate) declarer: CardSet,
+    pub(crate) dummy: CardSet,
+    pub(crate) unseen: CardSet,
+    pub(crate) left: CardSet,
+    pub(crate) shape: Shape,
+    pub(crate) leader: Seat,
+    pub(crate) trump: Trump,
+    pub(crate) need: u8,
+}
+
+// The cards with one moved to another place, if they have it.
+fn move_card(cards: CardSet, low: Card, high: Card) -> CardSet
+    ensures { result ≡ with_card_moved low high cards }
+{
+    if cards.has(low) {
+        cards.without(low).with(high)
     } else {
         cards
     }
 }
 
-// The first place of the card's suit that is none of those before `place`.
-fn place_for(card: Card, place: u8) -> Card
-    requires { place ≤ card }
-    ensures before { result ≤ card }
-    ensures free { place ≤ result }
-    ensures suit { suit_of result ≡ suit_of card }
+// Whether the cards that count are the same in two sets.
+fn are_same(counting: CardSet, these: CardSet, those: CardSet) -> bool
+    ensures { IsTrue result → AreSame counting these those }
 {
-    let first = Card::new(card.suit(), Rank::new(2));
-    if place <= first.number() {
-        first
-    } else {
-        Card::from_number(place)
-    }
+    these.both(counting) == those.both(counting)
 }
 
 impl Key {
     /// The key of a position between two tricks.
     pub(crate) fn of(position: &Position, left: CardSet) -> Key
-        requires between { position.now.trick.cards ≡ [] }
-        requires state { IsState (record { position = position.now; left = left }) }
-        ensures { IsKeyOf (record { position = position.now; left = left }) result }
-    {
-        Key::as_it_lies(position, left).squeezed()
-    }
-
-    // The key with each card at its own place.
-    fn as_it_lies(position: &Position, left: CardSet) -> Key
         requires { position.now.trick.cards ≡ [] }
-        ensures { key_state result position.now.need
-            ≡ record { position = position.now; left = left } }
+        ensures state { key_state result ≡ record { position = position.now; left = left } }
+        ensures shape { HasShape result }
     {
         Key {
             declarer: position.declarer,
             dummy: position.dummy,
             unseen: position.unseen,
             left,
+            shape: Shape {
+                declarer: lengths(position.declarer),
+                dummy: lengths(position.dummy),
+                unseen: lengths(position.unseen),
+                left: lengths(left),
+            },
             leader: position.trick.leader,
             trump: position.trump,
+            need: position.need,
         }
     }
 
-    // The same with a card moved to another place.
-    fn move_in(self, card: Card, place: Card) -> Key
-        ensures stays { place ≡ card → result ≡ self }
-        ensures moves { place ≢ card → result ≡ key_with_card_moved card place self }
+    /// Its position.
+    pub(crate) fn position(&self) -> Position
+        requires { IsState (key_state self.now) }
+        ensures { result ≡ (key_state self.now).position }
     {
-        if place == card {
-            return self;
-        }
-        Key {
-            declarer: move_card(self.declarer, card, place),
-            dummy: move_card(self.dummy, card, place),
-            unseen: move_card(self.unseen, card, place),
-            left: move_card(self.left, card, place),
-            leader: self.leader,
+        Position {
+            declarer: self.declarer,
+            dummy: self.dummy,
+            unseen: self.unseen,
+            trick: Trick::led_by(self.leader),
+            need: self.need,
             trump: self.trump,
         }
     }
 
-    // The same with the cards of each suit moved down, one after another, to the suit's first
-    // places.
-    fn squeezed(self) -> Key
-        requires { (need : ℕ) → need ≤ 13 → IsState (key_state self need) }
-        ensures { (need : ℕ) → need ≤ 13
-            → makes (key_state result need) ≡ makes (key_state self need) }
+    /// The same where whoever holds a card holds another one of its suit in its stead.
+    pub(crate) fn moved(&self, low: Card, high: Card) -> Key
+        ensures state { key_state result ≡ with_moved low high (key_state self.now) }
+        ensures shape { result.shape ≡ self.now.shape }
     {
-        let mut key = self;
-        let ours = self.declarer.either(self.dummy);
-        let mut rest = ours.either(self.unseen);
-        let mut place = 0;
-        while let Some(card) = rest.pop_first() {
-            let there = place_for(card, place);
-            key = key.move_in(card, there);
-            place = there.number() + 1;
+        Key {
+            declarer: move_card(self.declarer, low, high),
+            dummy: move_card(self.dummy, low, high),
+            unseen: move_card(self.unseen, low, high),
+            left: move_card(self.left, low, high),
+            shape: self.shape,
+            leader: self.leader,
+            trump: self.trump,
+            need: self.need,
         }
-        key
     }
 
-    pub(crate) fn equals(&self, other: &Key) -> bool
-        ensures { IsTrue result → self.now ≡ other.now }
+    // Whether the two have one shape, leader and trumps.
+    fn has_table_of(&self, other: &Key) -> bool
+        ensures shape { IsTrue result → self.now.shape ≡ other.now.shape }
+        ensures leader { IsTrue result → self.now.leader ≡ other.now.leader }
+        ensures trump { IsTrue result → self.now.trump ≡ other.now.trump }
     {
-        let same_cards = self.left == other.left
-            && self.unseen == other.unseen
-            && self.declarer == other.declarer
-            && self.dummy == other.dummy;
-        same_cards && self.leader == other.leader && self.trump == other.trump
+        self.shape.equals(&other.shape) && self.leader == other.leader && self.trump == other.trump
+    }
+
+    // Whether two keys' hands have the same of the cards that count.
+    fn has_same(&self, counting: CardSet, other: &Key) -> bool
+        ensures declarer { IsTrue result
+            → AreSame counting self.now.declarer other.now.declarer }
+        ensures dummy { IsTrue result → AreSame counting self.now.dummy other.now.dummy }
+        ensures unseen { IsTrue result → AreSame counting self.now.unseen other.now.unseen }
+        ensures left { IsTrue result → AreSame counting self.now.left other.now.left }
+    {
+        are_same(counting, self.declarer, other.declarer)
+            && are_same(counting, self.dummy, other.dummy)
+            && are_same(counting, self.unseen, other.unseen)
+            && are_same(counting, self.left, other.left)
+    }
+
+    /// Whether the two are alike by the cards that count, but for the need.
+    pub(crate) fn is_like(&self, counting: CardSet, other: &Key) -> bool
+        ensures { IsTrue result → AreLikeKeys counting self.now other.now }
+    {
+        self.has_table_of(other) && self.has_same(counting, other)
     }
 
     /// How many tricks are left.
@@ -127,19 +160,22 @@ impl Key {
         self.declarer.count()
     }
 
-    /// A number that differs between most keys.
+    /// A number that differs between most keys that are not alike, and is the same for alike ones.
     pub(crate) fn code(&self) -> u64 {
-        let mut hasher = FoldHasher::default();
-        self.declarer.hash(&mut hasher);
-        self.dummy.hash(&mut hasher);
-        self.unseen.hash(&mut hasher);
-        self.left.hash(&mut hasher);
         let turn = match self.leader {
             Seat::Declarer => 0,
-            Seat::Left => 16,
-            Seat::Dummy => 32,
-            Seat::Right => 48,
+            Seat::Left => 1,
+            Seat::Dummy => 2,
+            Seat::Right => 3,
         };
-        hasher.finish() ^ turn
+        let ours = u64::from(self.shape.declarer) << 32 | u64::from(self.shape.dummy);
+        let theirs = u64::from(self.shape.unseen) << 32 | u64::from(self.shape.left);
+        let mixed = ours
+            .wrapping_mul(0x9e37_79b9_7f4a_7c15)
+            .wrapping_add(theirs)
+            .wrapping_mul(0xd6e8_feb8_6659_fd93)
+            .wrapping_add(turn)
+            .wrapping_mul(0x9e37_79b9_7f4a_7c15);
+        mixed >> 32
     }
 }

@@ -1,17 +1,17 @@
-//! Double dummy: whether declarer's side takes the need with all cards seen by all.
-//! It stands on `trick_rules`, whose `makes` says what double dummy is, and on `sure_tricks`.
-//! Each solver here is promised to answer `makes`, whatever its ways.
+//! Double dummy by sets of positions: an answer that is remembered holds for every position in
+//! which the cards that count lie alike.
+//! It stands on the laws of alike positions, `alike_states` and `alike_choices`. Its solver is
+//! promised to answer `makes` of `trick_rules`, whatever its ways.
 #![tactic(auto)]
 
-mod equals;
+mod answer;
+mod enough;
 mod key;
-pub mod laws;
 mod memo;
 mod order;
-mod plain;
 mod search;
 mod solver;
+mod squeeze;
+mod sure;
 
-pub use equals::cards_in_play;
-pub use plain::makes_plain;
 pub use solver::Solver;

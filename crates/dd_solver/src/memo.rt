@@ -1,8 +1,11 @@
 //! What is known already of positions between two tricks.
-ghost use Rattle.std.specs.Prelude.{◌≡◌, ℕ, ◌+◌, ◌<◌, ◌≤◌, IfSome, true, false, vec_len};
-ghost use Rattle.dd_solver.specs.Keys.{key_state, IsAnswer};
-ghost use Rattle.trick_rules.specs.Play.{makes};
+ghost use Rattle.std.specs.Prelude.{◌+◌, ◌<◌, ◌≤◌, IfSome, IsTrue, vec_len, length};
+ghost use Rattle.trick_rules.specs.Positions.{IsState};
+ghost use Rattle.double_dummy.specs.Needs.{IsSettled};
+ghost use Rattle.dd_solver.specs.Keys.{key_state, HasShape};
+ghost use Rattle.dd_solver.specs.Answers.{IsAnswer};
 
+use crate::answer::Answer;
 use crate::key::Key;
 use crate::order::TURNS;
 use card_sets::Card;
@@ -14,115 +17,108 @@ pub(crate) const MOST_ENTRIES: u32 = 262_144;
 /// The entries of the first table. Each later table has four times as many.
 const FIRST_ENTRIES: usize = 256;
 
-/// A position between two tricks and Left's hand, with what double dummy answers there. What makes
-/// with a need makes with each lower one, so two bounds say it of many needs.
+/// How many slots a key has.
+const WAYS: usize = 32;
+
+/// A position between two tricks and Left's hand, with its answer and the cards that count for it.
 #[derive(Clone, Copy, Debug)]
 struct Entry {
     key: Key,
-    // Each need below this one is known to make.
-    sure: u8,
-    // Each need from this one on is known to fail.
-    failed: u8,
-    ghost makes_below: { (need : ℕ) → need < sure → makes (key_state key need) ≡ true },
-    ghost fails_from: { (need : ℕ) → failed ≤ need → need ≤ 13
-        → makes (key_state key need) ≡ false },
+    answer: Answer,
+    ghost state: { IsState (key_state key) },
+    ghost shape: { HasShape key },
+    ghost known: { IsAnswer (key_state key) answer },
 }
 
 impl Entry {
-    // An entry that knows nothing.
-    fn new(key: Key) -> Entry
-        ensures { result.key ≡ key }
+    // The answer for another key, where it is alike and its need is settled.
+    fn answer_for(&self, key: &Key) -> Option<Answer>
+        requires state { IsState (key_state key.now) }
+        requires shape { HasShape key.now }
+        ensures { IfSome result (λ answer. IsAnswer (key_state key.now) answer) }
     {
-        Entry {
-            key,
-            sure: 0,
-            failed: 14,
-        }
-    }
-
-    // The answer for a need, where the entry knows it.
-    fn answer(&self, need: u8) -> Option<bool>
-        requires { need ≤ 13 }
-        ensures { IfSome result (λ made. makes (key_state self.now.key need) ≡ made) }
-    {
-        if need < self.sure {
-            Some(true)
-        } else if self.failed <= need {
-            Some(false)
+        if self.settles(key.need) && self.key.is_like(self.answer.counting, key) {
+            Some(self.answer)
         } else {
             None
         }
     }
 
-    // The entry that knows this answer too.
-    fn with(self, need: u8, made: bool) -> Entry
-        requires fits { need ≤ 13 }
-        requires known { IsAnswer self.key need made }
+    // Whether it answers all that the other one does.
+    fn covers(&self, other: &Entry) -> bool {
+        self.answer.made == other.answer.made
+            && self.settles_need_of(&other.key)
+            && self.answer.counting.is_subset(other.answer.counting)
+            && self.key.is_like(self.answer.counting, &other.key)
+    }
+
+    // Whether the answer settles the need of a key.
+    fn settles_need_of(&self, key: &Key) -> bool {
+        key.need <= 13 && self.settles(key.need)
+    }
+
+    // Whether the answer settles this need too: one that is no higher where the answer is made, and
+    // no lower where it fails.
+    fn settles(&self, need: u8) -> bool
+        requires { need ≤ 13 }
+        ensures { IsTrue result → IsSettled self.now.answer.made self.now.key.need need }
     {
-        if made && self.sure <= need {
-            Entry {
-                key: self.key,
-                sure: need + 1,
-                failed: self.failed,
-            }
-        } else if !made && need < self.failed {
-            Entry {
-                key: self.key,
-                sure: self.sure,
-                failed: need,
-            }
+        if self.answer.made {
+            need <= self.key.need
         } else {
-            self
+            self.key.need <= need
         }
     }
 }
 
-// The first of the two slots of a number, among so many.
+// The first of the slots of a number, among so many.
 #[tactic(auto, using(std::proofs::lemmas::Nat::and_le_r))]
 fn slot_of(number: u64, slots: usize) -> usize
-    requires { 2 ≤ slots }
-    ensures { result + 1 < slots }
+    requires { 32 ≤ slots }
+    ensures { result + 32 ≤ slots }
 {
-    (number & (slots / 2 - 1) as u64) as usize * 2
+    (number & (slots / WAYS - 1) as u64) as usize * WAYS
 }
 
-// What stands in a slot, where it is of this key.
-fn entry_in(slot: &Option<Entry>, key: &Key) -> Option<Entry>
-    ensures { IfSome result (λ entry. entry.key ≡ key.now) }
+// Of the slots from this one on, in turn from `turn`, the first that is empty or whose answers the
+// entry gives too, or one with the fewest tricks left.
+fn place_in(slots: &[Option<Entry>], first: usize, turn: usize, entry: &Entry) -> usize
+    requires { first + 32 ≤ length slots.now }
+    ensures { result < length slots.now }
 {
-    let entry = (*slot)?;
-    if entry.key.equals(key) {
-        Some(entry)
-    } else {
-        None
-    }
-}
-
-// Whether what stands in a slot is to stay there: another position with more tricks left, whose
-// answer took longer to find.
-fn outlasts(slot: &Option<Entry>, entry: &Entry) -> bool {
-    match slot {
-        Some(there) => entry.key.tricks() < there.key.tricks() && !there.key.equals(&entry.key),
-        None => false,
-    }
-}
-
-// Puts the entry in the first of its slots, or where what is there stays in the second.
-fn put(slots: &mut [Option<Entry>], entry: Entry) {
-    if slots.len() >= 2 {
-        let slot = slot_of(entry.key.code(), slots.len());
-        if outlasts(&slots[slot], &entry) {
-            slots[slot + 1] = Some(entry);
-        } else {
-            slots[slot] = Some(entry);
+    let mut best = first;
+    let mut fewest = 14;
+    for step in 0..WAYS {
+        let place = first + (turn % WAYS + step) % WAYS;
+        match &slots[place] {
+            Some(there) => {
+                if entry.covers(there) {
+                    return place;
+                }
+                if there.key.tricks() < fewest {
+                    best = place;
+                    fewest = there.key.tricks();
+                }
+            }
+            None => return place,
         }
+    }
+    best
+}
+
+// Puts the entry in one of its slots, in turn.
+fn put(slots: &mut [Option<Entry>], turn: usize, entry: Entry) {
+    if slots.len() >= WAYS {
+        let first = slot_of(entry.key.code(), slots.len());
+        let place = place_in(slots, first, turn, &entry);
+        slots[place] = Some(entry);
     }
 }
 
 // Puts all entries of another table in.
 fn put_all(slots: &mut [Option<Entry>], others: &[Option<Entry>]) {
-    for entry in others.iter().flatten() {
-        put(slots, *entry);
+    for (turn, entry) in others.iter().flatten().enumerate() {
+        put(slots, turn, *entry);
     }
 }
 
@@ -137,8 +133,8 @@ fn wider_size(slots: usize, most: usize) -> usize
     }
 }
 
-/// Answers between two tricks. A position has two slots, and takes the place of another one there.
-/// With them the leads that settled a result last, by the turn.
+/// Answers between two tricks. A position has 32 slots, and takes the place of another one
+/// there. With them the leads that settled a result last, by the turn.
 #[derive(Debug, Drop)]
 pub(crate) struct Memo {
     alloc: Global,
@@ -178,41 +174,40 @@ impl Memo {
         }
     }
 
-    // What stands in the slots of a key, where it is of that key.
-    fn entry(&self, key: &Key) -> Option<Entry>
-        ensures { IfSome result (λ entry. entry.key ≡ key.now) }
+    /// What double dummy answers, where the memo knows it, with the cards that count.
+    pub(crate) fn look(&self, key: &Key) -> Option<Answer>
+        requires state { IsState (key_state key.now) }
+        requires shape { HasShape key.now }
+        ensures { IfSome result (λ answer. IsAnswer (key_state key.now) answer) }
     {
-        if self.slots.len() < 2 {
+        if self.slots.len() < WAYS {
             return None;
         }
-        let slot = slot_of(key.code(), self.slots.len());
-        match entry_in(&self.slots[slot], key) {
-            Some(entry) => Some(entry),
-            None => entry_in(&self.slots[slot + 1], key),
+        let first = slot_of(key.code(), self.slots.len());
+        for place in first..first + WAYS {
+            if let Some(entry) = &self.slots[place] {
+                if let Some(answer) = entry.answer_for(key) {
+                    return Some(answer);
+                }
+            }
         }
-    }
-
-    /// What double dummy answers for a need, where the memo knows it.
-    pub(crate) fn look(&self, key: &Key, need: u8) -> Option<bool>
-        requires { need ≤ 13 }
-        ensures { IfSome result (λ made. makes (key_state key.now need) ≡ made) }
-    {
-        self.entry(key)?.answer(need)
+        None
     }
 
     /// Puts an answer in. Where there is no memory for it, nothing is put in.
-    pub(crate) fn keep(&mut self, key: &Key, need: u8, made: bool)
-        requires fits { need ≤ 13 }
-        requires known { IsAnswer key.now need made }
+    pub(crate) fn keep(&mut self, key: &Key, answer: &Answer)
+        requires state { IsState (key_state key.now) }
+        requires shape { HasShape key.now }
+        requires known { IsAnswer (key_state key.now) answer.now }
     {
         if self.stored >= self.slots.len() / 2 && self.slots.len() < self.most {
             self.grow();
         }
-        let entry = match self.entry(key) {
-            Some(entry) => entry,
-            None => Entry::new(*key),
+        let entry = Entry {
+            key: *key,
+            answer: *answer,
         };
-        put(self.slots.as_mut_slice(), entry.with(need, made));
+        put(self.slots.as_mut_slice(), self.stored, entry);
         self.stored = self.stored.saturating_add(1);
     }
 

@@ -1,5 +1,6 @@
 //! Which cards are tried first. The order changes no answer.
-ghost use Rattle.card_sets.specs.SetWords.{IsSubset};
+ghost use Rattle.std.specs.Prelude.{◌≡◌, true, [], MatchOption};
+ghost use Rattle.card_sets.specs.SetWords.{has_card, IsSubset};
 
 use card_sets::{Card, CardSet, Seat, Suit};
 use trick_rules::{Position, Trump};
@@ -120,13 +121,26 @@ fn best_so_far(position: &Position, strain: Strain) -> Option<(Card, bool)> {
     Some((best, partners))
 }
 
+// The card with which the partner takes the trick, if it does: the highest of the suit led, or the
+// highest trump where it has none of the suit.
+fn partners_best(trump: Trump, partner: CardSet, led: Suit) -> Option<Card> {
+    let following = partner.of_suit(led);
+    if !following.is_empty() {
+        return highest(following);
+    }
+    match trump {
+        Trump::Suit(suit) => highest(partner.of_suit(suit)),
+        Trump::NoTrump => None,
+    }
+}
+
 // The leads that win, or that the partner can win, against whatever the opponents play.
 fn winning_leads(trump: Trump, ahead: &Ahead, cards: CardSet) -> CardSet {
     let mut winning = CardSet::empty();
     for card in cards {
         let led = card.suit();
         let strain = Strain { led, trump };
-        let best = match highest(ahead.partner.of_suit(led)) {
+        let best = match partners_best(trump, ahead.partner, led) {
             Some(other) if strain.beats(other, card) => other,
             _ => card,
         };
@@ -153,17 +167,12 @@ fn winning_plays(strain: Strain, ahead: &Ahead, best: Card, cards: CardSet) -> C
     if winning.is_empty() { beating } else { winning }
 }
 
-/// The cards to try first: those that most often win the trick. Where the partner wins it there are
-/// none, unless there is no choice.
-pub(crate) fn likely(position: &Position, left: CardSet, cards: CardSet) -> CardSet
-    ensures { IsSubset result cards }
-{
-    if cards.count() < 2 {
-        return cards;
-    }
+// The cards to try first: those that most often win the trick. Where the partner wins it there are
+// none.
+fn likely(position: &Position, left: CardSet, cards: CardSet) -> CardSet {
     let ahead = Ahead::of(position, left);
     let Some(led) = position.trick.suit_led() else {
-        return cards.both(winning_leads(position.trump, &ahead, cards));
+        return winning_leads(position.trump, &ahead, cards);
     };
     let strain = Strain {
         led,
@@ -171,7 +180,7 @@ pub(crate) fn likely(position: &Position, left: CardSet, cards: CardSet) -> Card
     };
     match best_so_far(position, strain) {
         Some((best, partners)) if !partners || !ahead.cannot_beat(strain, best) => {
-            cards.both(winning_plays(strain, &ahead, best, cards))
+            winning_plays(strain, &ahead, best, cards)
         }
         _ => CardSet::empty(),
     }
@@ -189,13 +198,11 @@ fn longest_suit(hand: CardSet, cards: CardSet) -> CardSet {
     longest
 }
 
-/// At no trump the cards of the longest suit are tried first: of the longest of both hands at a
-/// lead, of the hand's own in a trick. With trumps none goes before the others.
-pub(crate) fn of_longest_suit(position: &Position, left: CardSet, cards: CardSet) -> CardSet
-    ensures { IsSubset result cards }
-{
-    if cards.count() < 2 || position.trump != Trump::NoTrump {
-        return cards;
+// At no trump the cards of the longest suit are tried first: of the longest of both hands at a
+// lead, of the hand's own in a trick. With trumps none goes before the others.
+fn of_longest_suit(position: &Position, left: CardSet, cards: CardSet) -> CardSet {
+    if position.trump != Trump::NoTrump {
+        return CardSet::empty();
     }
     let seat = position.to_play();
     let hand = position.hand(seat, left);
@@ -204,5 +211,80 @@ pub(crate) fn of_longest_suit(position: &Position, left: CardSet, cards: CardSet
     } else {
         hand
     };
-    cards.both(longest_suit(held, cards))
+    longest_suit(held, cards)
+}
+
+// Those of some cards that are in another set, or all where there are none.
+fn narrowed(cards: CardSet, part: CardSet) -> CardSet
+    ensures within { IsSubset result cards }
+    ensures some { result ≡ [] → cards ≡ [] }
+{
+    let both = cards.both(part);
+    if both.is_empty() { cards } else { both }
+}
+
+/// Which of some cards go before the others.
+#[derive(Clone, Copy)]
+pub(crate) struct Order {
+    favourite: Option<Card>,
+    early: CardSet,
+    long: CardSet,
+    is_whole: bool,
+}
+
+impl Order {
+    // The order without a favourite.
+    fn of(position: &Position, left: CardSet, cards: CardSet) -> Order {
+        Order {
+            favourite: None,
+            early: likely(position, left, cards),
+            long: of_longest_suit(position, left, cards),
+            is_whole: true,
+        }
+    }
+
+    /// An order for some cards. Where the one that settled the result the last time is among them,
+    /// it goes first, and of the others nothing is said yet.
+    pub(crate) fn begun(
+        position: &Position,
+        left: CardSet,
+        cards: CardSet,
+        favourite: Option<Card>,
+    ) -> Order {
+        let begins = match favourite {
+            Some(card) => cards.has(card),
+            None => false,
+        };
+        if begins || cards.count() < 2 {
+            Order {
+                favourite,
+                early: CardSet::empty(),
+                long: CardSet::empty(),
+                is_whole: false,
+            }
+        } else {
+            Order::of(position, left, cards)
+        }
+    }
+
+    /// The whole order, for the cards that are left.
+    pub(crate) fn whole(&self, position: &Position, left: CardSet, cards: CardSet) -> Order {
+        if self.is_whole || cards.count() < 2 {
+            *self
+        } else {
+            Order::of(position, left, cards)
+        }
+    }
+
+    /// The one of these cards that goes first: `None` exactly where there are none.
+    pub(crate) fn first_of(&self, cards: CardSet) -> Option<Card>
+        ensures { MatchOption result (cards ≡ []) (λ card. has_card cards card ≡ true) }
+    {
+        if let Some(card) = self.favourite {
+            if cards.has(card) {
+                return Some(card);
+            }
+        }
+        narrowed(narrowed(cards, self.early), self.long).first()
+    }
 }

@@ -1,152 +1,123 @@
-//! Double dummy with the cards that most often settle it tried first, and with a memo.
-ghost use Rattle.std.specs.Prelude.{◌≡◌, ◌≤◌, None, IfSome, []};
+//! Double dummy with the cards that most often settle it tried first, and with a memo of sets.
+ghost use Rattle.std.specs.Prelude.{◌≡◌, ◌<◌, None, not};
 ghost use Rattle.card_sets.specs.SetWords.{IsSubset};
 ghost use Rattle.trick_rules.specs.Positions.{FitsLeft, IsState, to_play};
-ghost use Rattle.trick_rules.specs.Play.{decided, is_declarers, legal_in, makes};
-ghost use Rattle.dd_solver.specs.Choices.{choice_makes};
+ghost use Rattle.trick_rules.specs.Play.{decided, is_declarers, legal_in};
+ghost use Rattle.dd_solver.specs.Keys.{key_state, HasShape};
+ghost use Rattle.dd_solver.specs.Answers.{IsAnswer, IsGiven};
 
-use crate::equals::one_of_equals;
+use crate::answer::{Answer, joined, with_winner};
+use crate::enough::{one_of_equals, with_lower_equals};
 use crate::key::Key;
 use crate::memo::Memo;
-use crate::order::{likely, of_longest_suit, turn_of};
+use crate::order::{Order, turn_of};
+use crate::squeeze::Squeezed;
+use crate::sure::sure_answer;
 use card_sets::CardSet;
-use sure_tricks::sure_tricks;
 use trick_rules::{Position, play};
 
-// The tricks that declarer's side still needs.
-fn need_of(position: &Position) -> u8
-    ensures value { result ≡ position.now.need }
-    ensures fits { result ≤ 13 }
-{
-    position.need
-}
-
-// The answer where the sure tricks of the side on lead settle it.
-fn made_by_sure_tricks(position: &Position, left: CardSet) -> Option<bool>
-    requires fits { FitsLeft position.now left }
-    requires between { position.now.trick.cards ≡ [] }
-    ensures { IfSome result
-        (λ made. makes (record { position = position.now; left = left }) ≡ made) }
-{
-    let sure = sure_tricks(position, left);
-    let need = need_of(position);
-    if position.is_ours() {
-        if need <= sure { Some(true) } else { None }
-    } else if position.tricks_left() < need.saturating_add(sure) {
-        Some(false)
-    } else {
-        None
-    }
-}
-
-// Of these leads the one that settled the result when this seat last led to as many tricks, where
-// it is among them. None to a trick that has a card.
-fn favourites(memo: &Memo, position: &Position, cards: CardSet) -> CardSet
-    ensures { IsSubset result cards }
-{
-    match memo.favourite(turn_of(position)) {
-        Some(card) if cards.has(card) => cards.both(CardSet::empty().with(card)),
-        _ => CardSet::empty(),
-    }
-}
-
-/// Whether declarer's side takes the need where Left holds these cards, with all cards seen by all.
+/// Whether declarer's side takes the need where Left holds these cards, with all cards seen by all,
+/// and the cards that count for it.
 #[cycle(search)]
-pub(crate) fn search(memo: &mut Memo, position: &Position, left: CardSet) -> bool
+pub(crate) fn search(memo: &mut Memo, position: &Position, left: CardSet) -> Answer
     requires { FitsLeft position.now left }
-    ensures { result ≡ makes (record { position = position.now; left = left }) }
+    ensures state { IsState (record { position = position.now; left = left }) }
+    ensures answer { IsAnswer (record { position = position.now; left = left }) result }
 {
     let between = position.trick.cards.is_empty();
     if let Some(made) = position.decided() {
-        return made;
+        return Answer {
+            made,
+            counting: CardSet::empty(),
+        };
     }
     // With one trick left there is no choice, and looking takes longer than playing.
     if !between || position.declarer.count() < 2 {
         return search_cards(memo, position, left);
     }
     let key = Key::of(position, left);
-    let need = need_of(position);
-    if let Some(made) = memo.look(&key, need) {
-        return made;
+    if position.declarer.count() < 4 {
+        return search_key(memo, &key);
     }
-    if let Some(made) = made_by_sure_tricks(position, left) {
-        return made;
+    let squeezed = Squeezed::of(&key);
+    let answer = search_key(memo, &squeezed.key);
+    squeezed.carried_back(&answer)
+}
+
+// The same between two tricks, where the result is open.
+#[cycle(search)]
+fn search_key(memo: &mut Memo, key: &Key) -> Answer
+    requires state { IsState (key_state key.now) }
+    requires shape { HasShape key.now }
+    requires open { decided (key_state key.now).position ≡ None }
+    ensures { IsAnswer (key_state key.now) result }
+{
+    if let Some(answer) = memo.look(key) {
+        return answer;
     }
-    let made = search_cards(memo, position, left);
-    memo.keep(&key, need, made);
-    made
+    let position = key.position();
+    if let Some(answer) = sure_answer(&position, key.left) {
+        return answer;
+    }
+    let answer = search_cards(memo, &position, key.left);
+    memo.keep(key, &answer);
+    answer
 }
 
 // The same, where the result is open.
 #[cycle(search)]
-fn search_cards(memo: &mut Memo, position: &Position, left: CardSet) -> bool
+fn search_cards(memo: &mut Memo, position: &Position, left: CardSet) -> Answer
     requires state { IsState (record { position = position.now; left = left }) }
     requires open { decided position.now ≡ None }
-    ensures { result ≡ makes (record { position = position.now; left = left }) }
+    ensures { IsAnswer (record { position = position.now; left = left }) result }
 {
     let ours = position.is_ours();
     let cards = one_of_equals(position, left);
-    let first = favourites(memo, position, cards);
-    if best_of(memo, position, left, first, ours) == ours {
-        return ours;
+    let answer = best_of(memo, position, left, cards, ours);
+    if answer.made == ours {
+        return answer;
     }
-    search_others(memo, position, left, cards.minus(first), ours)
+    Answer {
+        made: !ours,
+        counting: with_lower_equals(position, left, answer.counting),
+    }
 }
 
-// Whether declarer's side makes where the seat to play, which is `ours` or a defender, chooses
-// among these cards. The likely ones are tried first.
+// What these cards give the seat to play, which is `ours` or a defender: the answer of the first
+// that gives what it wants, or of all.
 #[cycle(search)]
-fn search_others(
+fn best_of(
     memo: &mut Memo,
     position: &Position,
     left: CardSet,
     cards: CardSet,
     ours: bool,
-) -> bool
+) -> Answer
     requires state { IsState (record { position = position.now; left = left }) }
     requires legal { IsSubset cards (legal_in (record { position = position.now; left = left })) }
-    ensures { result ≡ choice_makes ours (record { position = position.now; left = left }) cards }
+    requires turn { is_declarers (to_play position.now) ≡ ours }
+    ensures { IsGiven (record { position = position.now; left = left }) cards ours result }
 {
-    let early = likely(position, left, cards);
-    if longest_first(memo, position, left, early, ours) == ours {
-        return ours;
-    }
-    longest_first(memo, position, left, cards.minus(early), ours)
-}
-
-// The same, those of the longest suit first.
-#[cycle(search)]
-fn longest_first(
-    memo: &mut Memo,
-    position: &Position,
-    left: CardSet,
-    cards: CardSet,
-    ours: bool,
-) -> bool
-    requires state { IsState (record { position = position.now; left = left }) }
-    requires legal { IsSubset cards (legal_in (record { position = position.now; left = left })) }
-    ensures { result ≡ choice_makes ours (record { position = position.now; left = left }) cards }
-{
-    let long = of_longest_suit(position, left, cards);
-    if best_of(memo, position, left, long, ours) == ours {
-        return ours;
-    }
-    best_of(memo, position, left, cards.minus(long), ours)
-}
-
-// The same, the first of them first.
-#[cycle(search)]
-fn best_of(memo: &mut Memo, position: &Position, left: CardSet, cards: CardSet, ours: bool) -> bool
-    requires state { IsState (record { position = position.now; left = left }) }
-    requires legal { IsSubset cards (legal_in (record { position = position.now; left = left })) }
-    ensures { result ≡ choice_makes ours (record { position = position.now; left = left }) cards }
-{
+    let mut order = Order::begun(position, left, cards, memo.favourite(turn_of(position)));
     let mut rest = cards;
-    while let Some(card) = rest.pop_first() {
-        if search(memo, &play(position, card), left.without(card)) == ours {
+    let mut counting = CardSet::empty();
+    while let Some(card) = order.first_of(rest) {
+        rest = rest.without(card);
+        let after = play(position, card);
+        let there = search(memo, &after, left.without(card));
+        let part = with_winner(position, card, &after, there.counting);
+        if there.made == ours {
             memo.favour(turn_of(position), card);
-            return ours;
+            return Answer {
+                made: ours,
+                counting: part,
+            };
         }
+        counting = joined(counting, part);
+        order = order.whole(position, left, rest);
     }
-    !ours
+    Answer {
+        made: !ours,
+        counting,
+    }
 }

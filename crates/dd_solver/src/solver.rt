@@ -16,14 +16,17 @@ pub struct Solver {
 }
 
 impl Solver {
-    /// A solver that remembers nothing yet, by no memory, and at most 262,144 positions later. No
-    /// clause says so, since what it remembers changes no answer.
+    /// A solver that remembers nothing yet, by no memory, and at most 262,144 answers later.
+    ///
+    /// No clause: what it remembers changes no answer.
     pub fn new(alloc: Global) -> Solver {
         Solver::with_memo(alloc, MOST_ENTRIES)
     }
 
-    /// The same, where at most so many positions are remembered later. With fewer than two it
-    /// never takes memory.
+    /// The same, where at most so many answers are remembered later. With fewer than 32 it never
+    /// takes memory.
+    ///
+    /// No clause, as at `new`.
     pub fn with_memo(alloc: Global, limit: u32) -> Solver
         requires { limit ≤ 262144 }
     {
@@ -40,6 +43,6 @@ impl Solver {
         requires { FitsLeft position.now left }
         ensures { result ≡ makes_of (record { position = position.now; left = left }) }
     {
-        search(&mut self.memo, position, left)
+        search(&mut self.memo, position, left).made
     }
 }

@@ -5,7 +5,7 @@ use Rattle.card_sets.specs.SetWords.{has_card, IsSubset}
 use Rattle.trick_rules.specs.Play.{take_out}
 use Rattle.trick_rules.specs.Nodes.{NodeValue, IsNode, choices}
 use Rattle.trick_rules.proofs.CardLists.{has_card-take_out, take_out-low, take_out-gone}
-use Rattle.dd_solver.proofs.Minimax.{rest_legal}
+use Rattle.double_dummy.proofs.Minimax.{rest_legal}
 use Rattle.equal_cards.specs.Equals.{AreEqualAt, IsLowest, ComeToTheSame}
 use Rattle.equal_cards.proofs.OneFront.{one_front}
 

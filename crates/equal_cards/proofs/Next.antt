@@ -8,8 +8,8 @@ use Rattle.trick_rules.specs.Positions.{to_play}
 use Rattle.trick_rules.specs.Nodes.{NodeValue, IsNode, choices, child_mask}
 use Rattle.trick_rules.proofs.Soundness.{held_low}
 use Rattle.trick_rules.proofs.PlayLaws.{a_choice_can_be_played}
-use Rattle.dd_solver.specs.Equals.{in_play}
-use Rattle.dd_solver.proofs.Mirror.{in_play-held}
+use Rattle.double_dummy.specs.Equals.{in_play}
+use Rattle.double_dummy.proofs.Mirror.{in_play-held}
 use Rattle.equal_cards.specs.Equals.{AreEqualAt}
 
 module _ (n : NodeValue) (ok : IsNode n) where

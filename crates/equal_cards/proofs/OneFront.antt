@@ -4,7 +4,7 @@ use Rattle.card_sets.specs.Cards.{suit_of}
 use Rattle.win_vectors.specs.Fronts.{Vector}
 use Rattle.trick_rules.specs.Nodes.{NodeValue, IsNode, choices, child}
 use Rattle.trick_rules.proofs.PlayLaws.{a_choice_leads_to_a_node}
-use Rattle.dd_solver.proofs.Swap.{swap, swap-swap}
+use Rattle.double_dummy.proofs.Swap.{swap, swap-swap}
 use Rattle.strategy_games.specs.Games.{mask}
 use Rattle.strategy_games.specs.Plans.{IsFront}
 use Rattle.strategy_games.specs.Alike.{IsKeptByPlay}

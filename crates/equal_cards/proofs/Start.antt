@@ -7,8 +7,8 @@ use Rattle.trick_rules.specs.Play.{legal_in, after}
 use Rattle.trick_rules.specs.Nodes.{NodeValue, IsNode, states, child}
 use Rattle.trick_rules.proofs.Soundness.{held_low}
 use Rattle.trick_rules.proofs.PlayLaws.{a_child_keeps_the_states, a_choice_can_be_played, a_layout_gives_a_state}
-use Rattle.dd_solver.specs.Equals.{AreEqual}
-use Rattle.dd_solver.proofs.EqualCards.{mirrored-start, follows-start}
+use Rattle.double_dummy.specs.Equals.{AreEqual}
+use Rattle.double_dummy.proofs.EqualCards.{mirrored-start, follows-start}
 use Rattle.trick_rules.proofs.States.{after-IsState}
 use Rattle.strategy_games.proofs.Lists.{All-at, Contains-here, Contains-there}
 use Rattle.strategy_tree.proofs.BridgeNodes.{mask-bridge}

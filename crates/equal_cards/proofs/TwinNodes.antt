@@ -9,7 +9,7 @@ use Rattle.trick_rules.specs.Play.{legal_in, decided, makes, is_declarers}
 use Rattle.trick_rules.specs.Nodes.{NodeValue, IsNode, states, is_legal, choices}
 use Rattle.trick_rules.proofs.NodeLemmas.{legal_from_choices, state_of}
 use Rattle.trick_rules.proofs.PlayLaws.{what_is_legal_is_a_choice}
-use Rattle.dd_solver.proofs.Swap.{swap, swap-swap}
+use Rattle.double_dummy.proofs.Swap.{swap, swap-swap}
 use Rattle.strategy_games.proofs.Lists.{Contains-map, AllZip-at, AllZip-of}
 use Rattle.equal_cards.proofs.Zips.{zip-map_same}
 use Rattle.equal_cards.proofs.Twins.{AreTwins, twins-legal, twins-makes, twins-turn, twins-decided}

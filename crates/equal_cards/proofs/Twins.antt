@@ -8,9 +8,9 @@ use Rattle.trick_rules.specs.Play.{after, legal_in, decided, makes, cards_left, 
 use Rattle.trick_rules.specs.Nodes.{NodeValue, states, child}
 use Rattle.trick_rules.proofs.States.{legal_can_play, after-IsState}
 use Rattle.trick_rules.proofs.PlayLaws.{a_child_keeps_the_states}
-use Rattle.dd_solver.proofs.Swap.{swap}
-use Rattle.dd_solver.proofs.Mirror.{Mirrored, Follows, legal_back, turn-mirrored, mirrored-after, follows-after, follows-with_card}
-use Rattle.dd_solver.proofs.EqualCards.{makes-mirrored}
+use Rattle.double_dummy.proofs.Swap.{swap}
+use Rattle.double_dummy.proofs.Mirror.{Mirrored, Follows, legal_back, turn-mirrored, mirrored-after, follows-after, follows-with_card}
+use Rattle.double_dummy.proofs.EqualCards.{makes-mirrored}
 use Rattle.equal_cards.proofs.Zips.{zip-filter, zip-map, zip-map_same}
 
 -- the two states of a layout

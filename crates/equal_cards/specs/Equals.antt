@@ -4,7 +4,7 @@ use Rattle.card_sets.specs.Cards.{suit_of}
 use Rattle.card_sets.specs.SetWords.{has_card}
 use Rattle.win_vectors.specs.Fronts.{Vector}
 use Rattle.trick_rules.specs.Nodes.{NodeValue, choices, child, child_mask}
-use Rattle.dd_solver.specs.Equals.{in_play}
+use Rattle.double_dummy.specs.Equals.{in_play}
 use Rattle.strategy_games.specs.Plans.{IsFront}
 use Rattle.strategy_tree.specs.Bridge.{bridge}
 

@@ -2,11 +2,11 @@
 ghost use Rattle.std.specs.Prelude.{◌≡◌, ◌↔◌, ◌≤◌, ℕ, true, Some, IsTrue};
 ghost use Rattle.card_sets.specs.SetWords.{has_card, cards_where};
 ghost use Rattle.trick_rules.specs.Nodes.{IsNode, choices as choices_of, child_mask};
-ghost use Rattle.dd_solver.specs.Equals.{in_play};
+ghost use Rattle.double_dummy.specs.Equals.{in_play};
 ghost use Rattle.equal_cards.specs.Equals.{AreEqualAt, IsLowest, ComeToTheSame};
 
 use card_sets::{Card, CardSet};
-use dd_solver::cards_in_play;
+use double_dummy::cards_in_play;
 use trick_rules::Node;
 
 // Whether two cards are legal in the same layouts.

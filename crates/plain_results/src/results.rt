@@ -3,7 +3,7 @@ ghost use Rattle.std.specs.Prelude.{◌≡◌, map};
 ghost use Rattle.trick_rules.specs.Play.{makes};
 ghost use Rattle.trick_rules.specs.Nodes.{states};
 
-use dd_solver::makes_plain;
+use double_dummy::makes_plain;
 use trick_rules::Node;
 use win_vectors::WinVector;
 

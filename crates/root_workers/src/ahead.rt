@@ -25,6 +25,8 @@ fn exact_cards(node: &Node, founds: &Vec<Found>, last: Option<Card>) -> CardSet 
 ///
 /// A front is found whatever is known of other cards, so nothing is lost by searching these beside
 /// each other; any other card is likely to be covered by the cards before it, or not needed.
+///
+/// No clause: no answer depends on it.
 pub fn next_ahead(node: &Node, round: &RoundFront, stop: Stop) -> CardSet {
     let last = match stop {
         Stop::SameWeight => Some(round.card),

@@ -8,7 +8,7 @@ ghost use Rattle.strategy_tree.specs.PlanMeaning.{plan_of, replies_of};
 ghost use Rattle.strategy_check.specs.Following.{CanFollow, CanFollowEach, win_each};
 
 use card_sets::CardSet;
-use dd_solver::makes_plain;
+use double_dummy::makes_plain;
 use strategy_tree::{Plan, Reply};
 use trick_rules::{Position, play};
 

@@ -1,11 +1,10 @@
--- As many cards of the hand on lead are sure as are counted.
-use Rattle.std.proofs.Common.{◌≡◌, ◌≢◌, ℕ, zero, suc, ◌+◌, ◌<◌, ◌≤◌, Bool, true, false, not, ◌&&◌, ◌||◌, cond, nat_lt, List, [], length, min, refl, sym, ap, ap₂, ◌∙◌, subst, inl, inr, arith}
+-- As many cards are sure as are counted.
+use Rattle.std.proofs.Common.{◌≡◌, ◌≢◌, ℕ, zero, suc, ◌+◌, ◌<◌, ◌≤◌, Bool, true, false, not, ◌&&◌, ◌||◌, nat_lt, List, length, min, refl, sym, ap, ◌∙◌, subst, inl, inr, arith}
 use Rattle.std.proofs.lemmas.Bool.{cases_Bool, false≢true, ltb-false, ltb-true, and_parts}
 use Rattle.std.proofs.Math.Nat.{min-le_left, min-le_right, min-eq_left}
 use Rattle.card_sets.specs.declared.card.Suit.{Suit}
 use Rattle.card_sets.specs.declared.card.Suit.TheVariants.{Spades, Hearts, Diamonds, Clubs}
 use Rattle.card_sets.specs.declared.seat.Seat.{Seat}
-use Rattle.card_sets.specs.declared.seat.Seat.TheVariants.{Declarer, Left, Dummy, Right}
 use Rattle.card_sets.specs.Cards.{suit_of, same_suit}
 use Rattle.card_sets.specs.SetWords.{has_card}
 use Rattle.card_sets.proofs.Sets.{has_card-filter, IsCardSet-filter, IsSubset-filter}
@@ -13,14 +12,12 @@ use Rattle.card_sets.proofs.SetCounts.{some_card}
 use Rattle.card_sets.proofs.Suits.{same_suit-refl, same_suit-true}
 use Rattle.trick_rules.specs.declared.trump.Trump.{Trump}
 use Rattle.trick_rules.specs.declared.trump.Trump.TheVariants.{NoTrump, Suit as Suited}
-use Rattle.trick_rules.specs.Positions.{State, seat_after, to_play, tricks_left, IsState}
-use Rattle.trick_rules.specs.Play.{of_suit, is_trump, hand_of, is_declarers, makes}
-use Rattle.sure_tricks.specs.Sure.{trumps_of, is_suit, AreHigh, AreSafe, AreSure, high_count, taken_from, sure_against, sure_in, sure_trumps, may_ruff, sure_of, own_count, partners_of, partners_count, leads_over, joint_count, count_at, sure_count}
-use Rattle.sure_tricks.proofs.Hands.{next_three, hand_set, Suffices}
+use Rattle.trick_rules.specs.Positions.{State, seat_after, to_play, IsState}
+use Rattle.trick_rules.specs.Play.{of_suit, is_trump, hand_of}
+use Rattle.sure_tricks.specs.Sure.{trumps_of, is_suit, AreHigh, AreSafe, AreSure, high_count, taken_from, sure_against, sure_in, sure_trumps, may_ruff, sure_of, partners_of, leads_over}
+use Rattle.sure_tricks.proofs.Hands.{next_three, hand_set}
 use Rattle.sure_tricks.proofs.Picking.{picked, in_suit, picked_high, by_suits, high_count-part}
-use Rattle.sure_tricks.proofs.Cash.{sure_cards}
 use Rattle.sure_tricks.proofs.Crossing.{safe_at_no_trump}
-use Rattle.sure_tricks.proofs.Together.{together}
 
 -- ---- what is taken from a hand
 
@@ -66,13 +63,13 @@ module _ (s : State) (ok : IsState s) (x : Seat) (flags : Suit → Seat → Bool
       omega arith
 
   -- the sure cards of the hand
-  abbrev counted : List ℕ
+  abbrev pub counted : List ℕ
   counted = picked (λ suit. sure_in s x (flags suit) suit) (hand_of s x)
 
   counted_in : (suit : Suit) → length (of_suit suit counted) ≡ sure_in s x (flags suit) suit
   counted_in suit = in_suit (λ u. sure_in s x (flags u) u) (hand_of s x) (hand_set s ok x) suit ∙ min-eq_left (part_of_suit suit)
 
-  length_counted : length counted ≡ sure_in s x (flags Spades) Spades + sure_in s x (flags Hearts) Hearts + sure_in s x (flags Diamonds) Diamonds + sure_in s x (flags Clubs) Clubs
+  pub length_counted : length counted ≡ sure_in s x (flags Spades) Spades + sure_in s x (flags Hearts) Hearts + sure_in s x (flags Diamonds) Diamonds + sure_in s x (flags Clubs) Clubs
   length_counted =
       let all = by_suits counted in
       let a = counted_in Spades in
@@ -104,10 +101,10 @@ module _ (s : State) (ok : IsState s) (x : Seat) (flags : Suit → Seat → Bool
 
 module _ (s : State) (ok : IsState s) where
   -- which seats may ruff a suit
-  abbrev ruffs_in : Suit → Seat → Bool
+  abbrev pub ruffs_in : Suit → Seat → Bool
   ruffs_in suit seat = not (is_suit s.position.trump suit) && may_ruff s seat
 
-  abbrev ours : List ℕ
+  abbrev pub ours : List ℕ
   ours = counted s ok (to_play s.position) ruffs_in
 
   -- where trumps are drawn there are as many as the trumps led
@@ -141,25 +138,25 @@ module _ (s : State) (ok : IsState s) where
             inl (omega arith))
       ]
 
-  ours_sure : AreSure s (to_play s.position) ours
+  pub ours_sure : AreSure s (to_play s.position) ours
   ours_sure = counted_sure s ok (to_play s.position) ruffs_in counted_safe
 
   -- ---- and its partner
 
-  abbrev partners : List ℕ
+  abbrev pub partners : List ℕ
   partners = counted s ok (seat_after 2 (to_play s.position)) (λ suit seat. false)
 
-  partners_sure : s.position.trump ≡ NoTrump → AreSure s (seat_after 2 (to_play s.position)) partners
+  pub partners_sure : s.position.trump ≡ NoTrump → AreSure s (seat_after 2 (to_play s.position)) partners
   partners_sure e = counted_sure s ok (seat_after 2 (to_play s.position)) (λ suit seat. false)
       (λ y differ. subst (λ t. AreSafe t partners (hand_of s y)) (sym e) (safe_at_no_trump partners (hand_of s y)))
 
   -- a suit that leads over: a card of either hand
-  record IsOver : Type 0 where
-    link : ℕ
-    card : ℕ
-    linked : has_card (hand_of s (to_play s.position)) link ≡ true
-    there : has_card partners card ≡ true
-    suit : suit_of card ≡ suit_of link
+  pub record IsOver : Type 0 where
+    pub link : ℕ
+    pub card : ℕ
+    pub linked : has_card (hand_of s (to_play s.position)) link ≡ true
+    pub there : has_card partners card ≡ true
+    pub suit : suit_of card ≡ suit_of link
 
   over_in : (suit : Suit) → leads_over s suit ≡ true → IsOver
   over_in suit h =
@@ -169,93 +166,9 @@ module _ (s : State) (ok : IsState s) where
       let parts = and_parts (has_card (hand_of s (to_play s.position)) link.0) (same_suit (suit_of link.0) suit) (sym (has_card-filter (λ c. same_suit (suit_of c) suit) (hand_of s (to_play s.position)) link.0) ∙ link.1) in
       record { link = link.0; card = card.0; linked = parts.0; there = card.1; suit = card.2 ∙ sym (same_suit-true (suit_of link.0) suit parts.1) }
 
-  over : (a b c d : Bool) → a ≡ leads_over s Spades → b ≡ leads_over s Hearts → c ≡ leads_over s Diamonds → d ≡ leads_over s Clubs → (a || b || c || d) ≡ true → IsOver
+  pub over : (a b c d : Bool) → a ≡ leads_over s Spades → b ≡ leads_over s Hearts → c ≡ leads_over s Diamonds → d ≡ leads_over s Clubs → (a || b || c || d) ≡ true → IsOver
   over true b c d p q r t h = over_in Spades (sym p)
   over false true c d p q r t h = over_in Hearts (sym q)
   over false false true d p q r t h = over_in Diamonds (sym r)
   over false false false true p q r t h = over_in Clubs (sym t)
   over false false false false p q r t h = absurd (false≢true h)
-
--- ---- with any need
-
-abbrev needing : State → ℕ → State
-needing s need = record { position = record s.position { need = need }; left = s.left }
-
-hand_needing : (s : State) (need : ℕ) (seat : Seat) → hand_of (needing s need) seat ≡ hand_of s seat
-hand_needing s need Declarer = refl
-hand_needing s need Left = refl
-hand_needing s need Dummy = refl
-hand_needing s need Right = refl
-
-state_needing : (s : State) (need : ℕ) → IsState s → need ≤ 13 → IsState (needing s need)
-state_needing s need ok low = record {
-  sound = record {
-    declarer_set = ok.sound.declarer_set;
-    dummy_set = ok.sound.dummy_set;
-    unseen_set = ok.sound.unseen_set;
-    declarer_dummy = ok.sound.declarer_dummy;
-    declarer_unseen = ok.sound.declarer_unseen;
-    dummy_unseen = ok.sound.dummy_unseen;
-    trick_declarer = ok.sound.trick_declarer;
-    trick_dummy = ok.sound.trick_dummy;
-    trick_unseen = ok.sound.trick_unseen;
-    trick_short = ok.sound.trick_short;
-    trick_cards = ok.sound.trick_cards;
-    trick_differs = ok.sound.trick_differs;
-    need_fits = low;
-    dummy_count = ok.sound.dummy_count;
-    unseen_count = ok.sound.unseen_count;
-  };
-  fits = record { set = ok.fits.set; part = ok.fits.part; count = ok.fits.count };
-}
-
-sure_needing : (s : State) (need : ℕ) (x : Seat) (sure : List ℕ) → AreSure s x sure → AreSure (needing s need) x sure
-sure_needing s need x sure are = record {
-  set = are.set;
-  held = λ c h. ap (λ (l : List ℕ). has_card l c) (hand_needing s need x) ∙ are.held c h;
-  high = λ y differ. subst (AreHigh sure) (sym (hand_needing s need y)) (are.high y differ);
-  safe = λ y differ. subst (AreSafe s.position.trump sure) (sym (hand_needing s need y)) (are.safe y differ);
-}
-
--- ---- what the count promises
-
--- so many tricks for the side on lead, whatever the need
-abbrev Promises : State → ℕ → Type 0
-Promises s n = (b : Bool) (need : ℕ) → is_declarers (to_play s.position) ≡ b → need ≤ 13 → Suffices b (needing s need).position n → makes (needing s need) ≡ b
-
-own_promised : (s : State) → IsState s → s.position.trick.cards ≡ [] → Promises s (own_count s)
-own_promised s ok none b need side low h =
-    let few = length_counted s ok (to_play s.position) (ruffs_in s ok) in
-    sure_cards (needing s need) (ours s ok) b (state_needing s need ok low) none (sure_needing s need (to_play s.position) (ours s ok) (ours_sure s ok)) side
-    (subst (λ n. Suffices b (needing s need).position n) (sym few) h)
-
-joint_promised : (s : State) → IsState s → s.position.trick.cards ≡ [] → s.position.trump ≡ NoTrump → Promises s (joint_count s)
-joint_promised s ok none no_trump = go (leads_over s Spades || leads_over s Hearts || leads_over s Diamonds || leads_over s Clubs) refl
-  where
-    go : (lead : Bool) → (leads_over s Spades || leads_over s Hearts || leads_over s Diamonds || leads_over s Clubs) ≡ lead
-        → Promises s (cond lead (min (tricks_left s.position) (own_count s + partners_count s)) (own_count s))
-    go false e b need side low h = own_promised s ok none b need side low h
-    go true e b need side low h =
-        let o = over s ok (leads_over s Spades) (leads_over s Hearts) (leads_over s Diamonds) (leads_over s Clubs) refl refl refl refl e in
-        let few = length_counted s ok (to_play s.position) (ruffs_in s ok) in
-        let more = length_counted s ok (seat_after 2 (to_play s.position)) (λ suit seat. false) in
-        together (needing s need) (ours s ok) (partners s ok) o.link o.card (state_needing s need ok low) none no_trump
-        (sure_needing s need (to_play s.position) (ours s ok) (ours_sure s ok))
-        (sure_needing s need (seat_after 2 (to_play s.position)) (partners s ok) (partners_sure s ok no_trump))
-        (ap (λ (l : List ℕ). has_card l o.link) (hand_needing s need (to_play s.position)) ∙ o.linked) o.there o.suit b side
-        (subst (λ n. Suffices b (needing s need).position n) (sym (ap₂ (λ (i k : ℕ). min (tricks_left s.position) (i + k)) few more)) h)
-
-count_promised : (s : State) → IsState s → s.position.trick.cards ≡ [] → Promises s (sure_count s)
-count_promised s ok none = go s.position.trump refl
-  where
-    go : (trump : Trump) → s.position.trump ≡ trump → Promises s (count_at s trump)
-    go NoTrump e = joint_promised s ok none e
-    go (Suited suit) e = own_promised s ok none
-
-pub our_count : (s : State) → IsState s → s.position.trick.cards ≡ [] → is_declarers (to_play s.position) ≡ true
-    → (need : ℕ) → need ≤ 13 → need ≤ sure_count s → makes (record { position = record s.position { need = need }; left = s.left }) ≡ true
-our_count s ok none side need low h = count_promised s ok none true need side low h
-
-pub their_count : (s : State) → IsState s → s.position.trick.cards ≡ [] → is_declarers (to_play s.position) ≡ false
-    → (need : ℕ) → need ≤ 13 → tricks_left s.position < need + sure_count s → makes (record { position = record s.position { need = need }; left = s.left }) ≡ false
-their_count s ok none side need low h = count_promised s ok none false need side low h

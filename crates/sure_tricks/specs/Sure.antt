@@ -1,5 +1,5 @@
 -- Cards of the hand on lead that take a trick each, whatever the other hands do.
-use Rattle.std.specs.Prelude.{◌≡◌, ◌≢◌, ◌⊎◌, ℕ, ◌+◌, ◌<◌, ◌≤◌, Bool, true, false, not, ◌&&◌, ◌||◌, List, length, filter, min, nat_lt, if◌then◌else◌}
+use Rattle.std.specs.Prelude.{◌≡◌, ◌≢◌, ◌⊎◌, ℕ, ◌+◌, ◌<◌, ◌≤◌, Bool, true, false, not, ◌&&◌, List, length, filter, min, nat_lt, if◌then◌else◌}
 use Rattle.std.specs.List.{list_all}
 use Rattle.card_sets.specs.declared.card.Suit.{Suit}
 use Rattle.card_sets.specs.declared.card.Suit.TheVariants.{Spades, Hearts, Diamonds, Clubs}
@@ -8,7 +8,7 @@ use Rattle.card_sets.specs.declared.seat.Seat.{Seat}
 use Rattle.card_sets.specs.Cards.{suit_of, same_suit}
 use Rattle.card_sets.specs.SetWords.{has_card, IsCardSet, IsSubset}
 use Rattle.trick_rules.specs.declared.trump.Trump.{Trump}
-use Rattle.trick_rules.specs.Positions.{State, seat_after, to_play, tricks_left}
+use Rattle.trick_rules.specs.Positions.{State, seat_after, to_play}
 use Rattle.trick_rules.specs.Play.{of_suit, is_trump, hand_of}
 
 -- the cards of its suit that are higher than a card
@@ -105,16 +105,3 @@ module _ (s : State) where
   abbrev pub leads_over : Suit → Bool
   leads_over suit = nat_lt 0 (partners_of suit)
       && nat_lt 0 (length (of_suit suit (hand_of s (to_play s.position))))
-
-  -- both together where one leads to the other, and no more than there are tricks
-  abbrev pub joint_count : ℕ
-  joint_count = if leads_over Spades || leads_over Hearts || leads_over Diamonds || leads_over Clubs
-      then min (tricks_left s.position) (own_count + partners_count) else own_count
-
-  abbrev pub count_at : Trump → ℕ
-  count_at NoTrump = joint_count
-  count_at (Suited suit) = own_count
-
-  -- how many tricks are sure
-  abbrev pub sure_count : ℕ
-  sure_count = count_at s.position.trump

@@ -1,12 +1,12 @@
-//! How many cards of the hand on lead are sure.
-ghost use Rattle.std.specs.Prelude.{◌≡◌, ◌≤◌, ◌<◌, ◌+◌, ℕ, Bool, true, false, not, ◌&&◌, ◌||◌, List, [], length, min, nat_lt};
+//! How many cards of the side on lead are sure, suit by suit.
+ghost use Rattle.std.specs.Prelude.{◌≡◌, ◌≤◌, ◌<◌, ◌+◌, false, not, ◌&&◌, ◌||◌, length, min, nat_lt};
 ghost use Rattle.std.specs.List.{list_all};
-ghost use Rattle.trick_rules.specs.Positions.{State, seat_after, to_play, tricks_left, FitsLeft, IsState};
-ghost use Rattle.trick_rules.specs.Play.{of_suit, hand_of, is_declarers, makes};
+ghost use Rattle.trick_rules.specs.Positions.{seat_after, to_play, FitsLeft, IsState};
+ghost use Rattle.trick_rules.specs.Play.{of_suit, hand_of};
 ghost use Rattle.trick_rules.specs.declared.trump.Trump.TheVariants.{NoTrump, Suit as Suited};
 ghost use Rattle.card_sets.specs.declared.card.Suit.{Suit};
 ghost use Rattle.card_sets.specs.declared.card.Suit.TheVariants.{Spades, Hearts, Diamonds, Clubs};
-ghost use Rattle.sure_tricks.specs.Sure.{top_count as count_above, high_count as count_of_high, taken_from, trumps_of, is_suit, sure_of, own_count, partners_of, partners_count, joint_count, sure_count};
+ghost use Rattle.sure_tricks.specs.Sure.{top_count as count_above, high_count as count_of_high, taken_from, trumps_of, is_suit, sure_of, own_count, partners_of, partners_count};
 
 use card_sets::{Card, CardSet, Seat, Suit};
 use trick_rules::{Position, Trump};
@@ -177,18 +177,18 @@ fn trumps(hand: CardSet, trump: Trump) -> u8
     }
 }
 
-// Sure cards, suit by suit.
+/// Sure cards, suit by suit.
 #[derive(Clone, Copy)]
-struct Counts {
-    spades: u8,
-    hearts: u8,
-    diamonds: u8,
-    clubs: u8,
+pub struct Counts {
+    pub spades: u8,
+    pub hearts: u8,
+    pub diamonds: u8,
+    pub clubs: u8,
 }
 
 impl Counts {
-    // The sure cards of the four suits together.
-    fn total(&self) -> u8
+    /// The sure cards of the four suits together.
+    pub fn total(&self) -> u8
         requires { self.now.spades + self.now.hearts + self.now.diamonds + self.now.clubs ≤ 52 }
         ensures { result
             ≡ self.now.spades + self.now.hearts + self.now.diamonds + self.now.clubs }
@@ -197,8 +197,8 @@ impl Counts {
     }
 }
 
-// The sure cards of the hand on lead.
-fn own_counts(position: &Position, left: CardSet) -> Counts
+/// The sure cards of the hand on lead.
+pub fn own_counts(position: &Position, left: CardSet) -> Counts
     requires { FitsLeft position.now left }
     ensures spades { result.spades
         ≡ sure_of (record { position = position.now; left = left }) Spades }
@@ -222,8 +222,9 @@ fn own_counts(position: &Position, left: CardSet) -> Counts
         clubs: hands.sure_of(&ruffs.in_suit(trump, Suit::Clubs), Suit::Clubs),
     }
 }
-// At no trump, those of its partner.
-fn partners_counts(position: &Position, left: CardSet) -> Counts
+
+/// At no trump, those of its partner.
+pub fn partners_counts(position: &Position, left: CardSet) -> Counts
     requires { FitsLeft position.now left }
     ensures spades { result.spades
         ≡ partners_of (record { position = position.now; left = left }) Spades }
@@ -252,8 +253,8 @@ fn leads_over(hand: CardSet, suit: Suit, sure: u8) -> bool
     sure > 0 && hand.of_suit(suit).count() > 0
 }
 
-// Whether the hand on lead can lead over to a sure card of its partner.
-fn can_lead_over(position: &Position, left: CardSet, partners: &Counts) -> bool
+/// Whether the hand on lead can lead over to a sure card of its partner.
+pub fn can_lead_over(position: &Position, left: CardSet, partners: &Counts) -> bool
     ensures { result ≡ ((nat_lt 0 partners.now.spades && nat_lt 0 (length (of_suit Spades
         (hand_of (record { position = position.now; left = left }) (to_play position.now)))))
         || (nat_lt 0 partners.now.hearts && nat_lt 0 (length (of_suit Hearts
@@ -268,50 +269,4 @@ fn can_lead_over(position: &Position, left: CardSet, partners: &Counts) -> bool
         || leads_over(hand, Suit::Hearts, partners.hearts)
         || leads_over(hand, Suit::Diamonds, partners.diamonds)
         || leads_over(hand, Suit::Clubs, partners.clubs)
-}
-
-// At no trump, how many cards of both hands are sure, where this many of the hand on lead are.
-fn joint_sure(position: &Position, left: CardSet, own: u8) -> u8
-    requires fits { FitsLeft position.now left }
-    requires own { own ≡ own_count (record { position = position.now; left = left }) }
-    requires few { own ≤ 52 }
-    ensures { result ≡ joint_count (record { position = position.now; left = left }) }
-{
-    let partners = partners_counts(position, left);
-    if can_lead_over(position, left, &partners) {
-        position.tricks_left().min(own + partners.total())
-    } else {
-        own
-    }
-}
-
-// How many tricks are sure.
-fn count_sure(position: &Position, left: CardSet) -> u8
-    requires { FitsLeft position.now left }
-    ensures value { result ≡ sure_count (record { position = position.now; left = left }) }
-    ensures state { IsState (record { position = position.now; left = left }) }
-{
-    let own = own_counts(position, left).total();
-    match position.trump {
-        Trump::NoTrump => joint_sure(position, left, own),
-        Trump::Suit(_) => own,
-    }
-}
-
-/// How many tricks the side on lead takes whatever the others do: one with each sure card of the
-/// hand on lead and, at no trump, of its partner, where a card leads over to them.
-///
-/// It looks at the cards of each suit alone, and takes no memory.
-pub fn sure_tricks(position: &Position, left: CardSet) -> u8
-    requires fits { FitsLeft position.now left }
-    requires between { position.now.trick.cards ≡ [] }
-    ensures value { result ≡ sure_count (record { position = position.now; left = left }) }
-    ensures ours { is_declarers (to_play position.now) ≡ true → (need : ℕ) → need ≤ 13
-        → need ≤ result
-        → makes (record { position = record position.now { need = need }; left = left }) ≡ true }
-    ensures theirs { is_declarers (to_play position.now) ≡ false → (need : ℕ) → need ≤ 13
-        → tricks_left position.now < need + result
-        → makes (record { position = record position.now { need = need }; left = left }) ≡ false }
-{
-    count_sure(position, left)
 }

@@ -6,4 +6,4 @@
 mod count;
 pub mod laws;
 
-pub use count::sure_tricks;
+pub use count::{Counts, can_lead_over, own_counts, partners_counts};

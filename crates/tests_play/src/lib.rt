@@ -12,8 +12,6 @@ mod cuts;
 #[cfg(test)]
 mod deals;
 #[cfg(test)]
-mod double_dummy;
-#[cfg(test)]
 mod endings;
 #[cfg(test)]
 mod equals;
@@ -37,6 +35,8 @@ mod play_outs;
 mod sampling;
 #[cfg(test)]
 mod search;
+#[cfg(test)]
+mod solver;
 #[cfg(test)]
 mod stores;
 #[cfg(test)]

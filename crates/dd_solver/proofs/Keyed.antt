@@ -1,0 +1,102 @@
+-- Keys that are alike, and what an entry says of another key.
+use Rattle.std.proofs.Common.{◌≡◌, ℕ, ◌+◌, ◌*◌, ◌<◌, Bool, true, false, ◌&&◌, List, [], length, filter, refl, sym, ap, ◌∙◌, arith}
+use Rattle.card_sets.specs.declared.card.Suit.{Suit}
+use Rattle.card_sets.specs.declared.card.Suit.TheVariants.{Spades, Hearts, Diamonds, Clubs}
+use Rattle.card_sets.specs.declared.seat.Seat.{Seat}
+use Rattle.card_sets.specs.SetWords.{has_card, IsCardSet}
+use Rattle.card_sets.proofs.Sets.{has_card-filter}
+use Rattle.card_sets.proofs.SetCounts.{length-le_52}
+use Rattle.trick_rules.specs.Positions.{TrickValue, IsState}
+use Rattle.trick_rules.specs.Play.{of_suit}
+use Rattle.double_dummy.specs.Needs.{IsSettled}
+use Rattle.double_dummy.specs.Needs.{with_need}
+use Rattle.double_dummy.proofs.Thresholds.{with_need-IsState}
+use Rattle.sure_tricks.proofs.Picking.{by_suits}
+use Rattle.alike_states.specs.Alike.{IsLikeHand, AreAlike}
+use Rattle.alike_states.proofs.Counting.{like_hands_make_alike_states}
+use Rattle.alike_states.proofs.Answers.{an_alike_state_answers}
+use Rattle.alike_choices.proofs.Needs.{an_answer_settles_other_needs}
+use Rattle.dd_solver.specs.declared.key.Key.{Key}
+use Rattle.dd_solver.specs.declared.key.Shape.{Shape}
+use Rattle.dd_solver.specs.declared.answer.Answer.{Answer}
+use Rattle.dd_solver.specs.Keys.{key_state, lengths_of, HasShape, AreLikeKeys}
+use Rattle.dd_solver.specs.Answers.{IsAnswer}
+
+-- ---- cards that count
+
+and_true : (b : Bool) → (b && true) ≡ b
+and_true true = refl
+and_true false = refl
+
+counted_in : (counting xs : List ℕ) (c : ℕ) → has_card counting c ≡ true → has_card (filter (has_card counting) xs) c ≡ has_card xs c
+counted_in counting xs c counts = has_card-filter (has_card counting) xs c ∙ ap (λ b. has_card xs c && b) counts ∙ and_true (has_card xs c)
+
+pub same_counting : (counting these those : List ℕ) → filter (has_card counting) these ≡ filter (has_card counting) those → (c : ℕ) → has_card counting c ≡ true → has_card these c ≡ has_card those c
+same_counting counting these those e c counts = sym (counted_in counting these c counts) ∙ ap (λ (l : List ℕ). has_card l c) e ∙ counted_in counting those c counts
+
+-- ---- lengths
+
+in_places : (x y a b : ℕ) → y < 64 → b < 64 → x * 64 + y ≡ a * 64 + b → (x ≡ a) × (y ≡ b)
+in_places x y a b low low' e = (omega arith, omega arith)
+
+suit_small : (xs : List ℕ) → IsCardSet xs → (suit : Suit) → length (of_suit suit xs) < 64
+suit_small xs set Spades = omega (arith, by_suits xs, length-le_52 xs set)
+suit_small xs set Hearts = omega (arith, by_suits xs, length-le_52 xs set)
+suit_small xs set Diamonds = omega (arith, by_suits xs, length-le_52 xs set)
+suit_small xs set Clubs = omega (arith, by_suits xs, length-le_52 xs set)
+
+lengths_same : (xs ys : List ℕ) → IsCardSet xs → IsCardSet ys → lengths_of xs ≡ lengths_of ys → (suit : Suit) → length (of_suit suit xs) ≡ length (of_suit suit ys)
+lengths_same xs ys set set' e suit = pick suit
+  where
+    n : Suit → ℕ
+    n u = length (of_suit u xs)
+
+    m : Suit → ℕ
+    m u = length (of_suit u ys)
+
+    one : ((n Spades * 64 + n Hearts) * 64 + n Diamonds ≡ (m Spades * 64 + m Hearts) * 64 + m Diamonds) × (n Clubs ≡ m Clubs)
+    one = in_places ((n Spades * 64 + n Hearts) * 64 + n Diamonds) (n Clubs) ((m Spades * 64 + m Hearts) * 64 + m Diamonds) (m Clubs) (suit_small xs set Clubs) (suit_small ys set' Clubs) e
+
+    two : (n Spades * 64 + n Hearts ≡ m Spades * 64 + m Hearts) × (n Diamonds ≡ m Diamonds)
+    two = in_places (n Spades * 64 + n Hearts) (n Diamonds) (m Spades * 64 + m Hearts) (m Diamonds) (suit_small xs set Diamonds) (suit_small ys set' Diamonds) one.0
+
+    three : (n Spades ≡ m Spades) × (n Hearts ≡ m Hearts)
+    three = in_places (n Spades) (n Hearts) (m Spades) (m Hearts) (suit_small xs set Hearts) (suit_small ys set' Hearts) two.0
+
+    pick : (u : Suit) → n u ≡ m u
+    pick Spades = three.0
+    pick Hearts = three.1
+    pick Diamonds = two.1
+    pick Clubs = one.1
+
+-- ---- alike keys
+
+module _ (counting : List ℕ) (key other : Key) (ok : IsState (key_state key)) (ok' : IsState (key_state other)) (shape : HasShape key) (shape' : HasShape other) (like : AreLikeKeys counting key other) where
+  abbrev shape_of : Key → Shape
+  shape_of k = record { declarer = lengths_of k.declarer; dummy = lengths_of k.dummy; unseen = lengths_of k.unseen; left = lengths_of k.left }
+
+  shapes : shape_of key ≡ shape_of other
+  shapes = sym shape ∙ like.shape ∙ shape'
+
+  abbrev no_cards : Seat → TrickValue
+  no_cards seat = record { leader = seat; cards = [] }
+
+  like_hand : (xs ys : List ℕ) → IsCardSet xs → IsCardSet ys → lengths_of xs ≡ lengths_of ys → ((c : ℕ) → has_card counting c ≡ true → has_card xs c ≡ has_card ys c) → IsLikeHand counting xs ys
+  like_hand xs ys set set' e same = record { same = same; lengths = lengths_same xs ys set set' e }
+
+  alike_there : AreAlike counting (with_need (key_state key) other.need) (key_state other)
+  alike_there = like_hands_make_alike_states counting (with_need (key_state key) other.need) (key_state other)
+      (with_need-IsState (key_state key) other.need ok ok'.sound.need_fits) ok'
+      (ap no_cards like.leader) like.trump refl
+      (like_hand key.declarer other.declarer ok.sound.declarer_set ok'.sound.declarer_set (ap (λ (w : Shape). w.declarer) shapes) like.declarer)
+      (like_hand key.dummy other.dummy ok.sound.dummy_set ok'.sound.dummy_set (ap (λ (w : Shape). w.dummy) shapes) like.dummy)
+      (like_hand key.unseen other.unseen ok.sound.unseen_set ok'.sound.unseen_set (ap (λ (w : Shape). w.unseen) shapes) like.unseen)
+      (like_hand key.left other.left ok.fits.set ok'.fits.set (ap (λ (w : Shape). w.left) shapes) like.left)
+
+pub known_there : (key other : Key) (answer : Answer) → IsState (key_state key) → IsState (key_state other) → HasShape key → HasShape other → AreLikeKeys answer.counting key other
+    → IsAnswer (key_state key) answer → IsSettled answer.made key.need other.need → IsAnswer (key_state other) answer
+known_there key other answer ok ok' shape shape' like known settled = record {
+  closed = known.closed;
+  answers = an_alike_state_answers answer.counting (with_need (key_state key) other.need) (key_state other) answer.made (alike_there answer.counting key other ok ok' shape shape' like)
+      (an_answer_settles_other_needs answer.counting (key_state key) answer.made other.need ok known.answers settled);
+}

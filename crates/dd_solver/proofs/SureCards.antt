@@ -1,0 +1,90 @@
+-- The sure cards of the side on lead, as a set, and what they answer where they count.
+use Rattle.std.proofs.Common.{◌≡◌, ℕ, ◌+◌, ◌<◌, ◌≤◌, Bool, true, false, ◌&&◌, ◌||◌, nat_lt, List, [], length, min, refl, sym, ap₂, ◌∙◌, subst, arith}
+use Rattle.std.proofs.lemmas.Bool.{ltb-true, and_parts}
+use Rattle.card_sets.specs.declared.card.Suit.{Suit}
+use Rattle.card_sets.specs.declared.card.Suit.TheVariants.{Spades, Hearts, Diamonds, Clubs}
+use Rattle.card_sets.specs.Cards.{suit_of}
+use Rattle.card_sets.specs.SetWords.{has_card, IsSubset}
+use Rattle.card_sets.proofs.Sets.{has_card-filter}
+use Rattle.trick_rules.specs.declared.trump.Trump.TheVariants.{NoTrump}
+use Rattle.trick_rules.specs.Positions.{State, seat_after, to_play, tricks_left, IsState}
+use Rattle.trick_rules.specs.Play.{of_suit, hand_of, is_declarers}
+use Rattle.sure_tricks.specs.Sure.{above, sure_of, own_count, partners_of, partners_count, leads_over}
+use Rattle.sure_tricks.specs.declared.count.Counts.{Counts}
+use Rattle.dd_solver.specs.Sure.{number_in, AreHighest}
+use Rattle.sure_tricks.proofs.Picking.{picked}
+use Rattle.sure_tricks.proofs.Counted.{ours, partners, ruffs_in, length_counted, ours_sure, partners_sure, IsOver, over}
+use Rattle.alike_states.specs.Alike.{IsClosedUp, HasAnswer}
+use Rattle.alike_states.proofs.Answers.{our_sure_cards_answer, their_sure_cards_answer, our_cards_answer_together, their_cards_answer_together}
+
+-- ---- what they answer where they count
+
+-- so many of the highest of each suit count
+abbrev pub HighestCount : List ℕ → (Suit → ℕ) → List ℕ → Type 0
+HighestCount hand number counting = (c : ℕ) → has_card hand c ≡ true → length (above c hand) < number (suit_of c) → has_card counting c ≡ true
+
+picked_count : (hand : List ℕ) (number : Suit → ℕ) (counting : List ℕ) → HighestCount hand number counting → IsSubset (picked number hand) counting
+picked_count hand number counting all c h =
+    let both = and_parts (has_card hand c) (nat_lt (length (above c hand)) (number (suit_of c))) (sym (has_card-filter (λ d. nat_lt (length (above d hand)) (number (suit_of d))) hand c) ∙ h) in
+    all c both.0 (ltb-true (length (above c hand)) (number (suit_of c)) both.1)
+
+module _ (s : State) (ok : IsState s) (counting : List ℕ) (closed : IsClosedUp counting) (none : s.position.trick.cards ≡ [])
+    (count : HighestCount (hand_of s (to_play s.position)) (sure_of s) counting) where
+  within : IsSubset (ours s ok) counting
+  within = picked_count (hand_of s (to_play s.position)) (sure_of s) counting count
+
+  many : length (ours s ok) ≡ own_count s
+  many = length_counted s ok (to_play s.position) (ruffs_in s ok)
+
+  pub own_answer : (b : Bool) → is_declarers (to_play s.position) ≡ b → (n : ℕ) → n ≡ own_count s
+      → (b ≡ true → s.position.need ≤ n) → (b ≡ false → tricks_left s.position < s.position.need + n) → HasAnswer counting s b
+  own_answer true side n e few _ = our_sure_cards_answer counting s (ours s ok) closed within none (ours_sure s ok) side (let h = few refl in omega (arith, many, e, h))
+  own_answer false side n e _ rest = their_sure_cards_answer counting s (ours s ok) closed within none (ours_sure s ok) side (let h = rest refl in omega (arith, many, e, h))
+
+  module _ (no_trump : s.position.trump ≡ NoTrump) (count' : HighestCount (hand_of s (seat_after 2 (to_play s.position))) (partners_of s) counting)
+      (leads : (leads_over s Spades || leads_over s Hearts || leads_over s Diamonds || leads_over s Clubs) ≡ true) where
+    within' : IsSubset (partners s ok) counting
+    within' = picked_count (hand_of s (seat_after 2 (to_play s.position))) (partners_of s) counting count'
+
+    many' : length (partners s ok) ≡ partners_count s
+    many' = length_counted s ok (seat_after 2 (to_play s.position)) (λ suit seat. false)
+
+    link : IsOver s ok
+    link = over s ok (leads_over s Spades) (leads_over s Hearts) (leads_over s Diamonds) (leads_over s Clubs) refl refl refl refl leads
+
+    pub joint_answer : (b : Bool) → is_declarers (to_play s.position) ≡ b → (n : ℕ) → n ≡ min (tricks_left s.position) (own_count s + partners_count s)
+        → (b ≡ true → s.position.need ≤ n) → (b ≡ false → tricks_left s.position < s.position.need + n) → HasAnswer counting s b
+    joint_answer true side n e few _ = our_cards_answer_together counting s (ours s ok) (partners s ok) link.link link.card closed within within' ok none no_trump (ours_sure s ok)
+        (partners_sure s ok no_trump) link.linked link.there link.suit side
+        (subst (λ m. s.position.need ≤ m) (e ∙ ap₂ (λ (i j : ℕ). min (tricks_left s.position) (i + j)) (sym many) (sym many')) (few refl))
+    joint_answer false side n e _ rest = their_cards_answer_together counting s (ours s ok) (partners s ok) link.link link.card closed within within' ok none no_trump (ours_sure s ok)
+        (partners_sure s ok no_trump) link.linked link.there link.suit side
+        (subst (λ m. tricks_left s.position < s.position.need + m) (e ∙ ap₂ (λ (i j : ℕ). min (tricks_left s.position) (i + j)) (sym many) (sym many')) (rest refl))
+
+-- ---- numbers that were counted
+
+module _ (counts : Counts) (number : Suit → ℕ) (a : counts.spades ≡ number Spades) (b : counts.hearts ≡ number Hearts) (d : counts.diamonds ≡ number Diamonds) (e : counts.clubs ≡ number Clubs) where
+  number_is : (suit : Suit) → number_in counts suit ≡ number suit
+  number_is Spades = a
+  number_is Hearts = b
+  number_is Diamonds = d
+  number_is Clubs = e
+
+  pub counts_highest : (hand cards : List ℕ) → AreHighest hand counts cards → HighestCount hand number cards
+  counts_highest hand cards all c held few = all c held (omega (arith, few, number_is (suit_of c)))
+
+  pub counts_total : (n : ℕ) → n ≡ counts.spades + counts.hearts + counts.diamonds + counts.clubs → n ≡ number Spades + number Hearts + number Diamonds + number Clubs
+  counts_total n h = omega (arith, h, a, b, d, e)
+
+-- what counts, counts among more
+pub more_count : (hand : List ℕ) (number : Suit → ℕ) (cards more : List ℕ) → IsSubset cards more → HighestCount hand number cards → HighestCount hand number more
+more_count hand number cards more within all c held few = within c (all c held few)
+
+-- where one hand can lead over to the other
+pub leads_from : (s : State) (counts : Counts) → counts.spades ≡ partners_of s Spades → counts.hearts ≡ partners_of s Hearts → counts.diamonds ≡ partners_of s Diamonds → counts.clubs ≡ partners_of s Clubs
+    → (b : Bool) → b ≡ ((nat_lt 0 counts.spades && nat_lt 0 (length (of_suit Spades (hand_of s (to_play s.position)))))
+    || (nat_lt 0 counts.hearts && nat_lt 0 (length (of_suit Hearts (hand_of s (to_play s.position)))))
+    || (nat_lt 0 counts.diamonds && nat_lt 0 (length (of_suit Diamonds (hand_of s (to_play s.position)))))
+    || (nat_lt 0 counts.clubs && nat_lt 0 (length (of_suit Clubs (hand_of s (to_play s.position))))))
+    → b ≡ true → (leads_over s Spades || leads_over s Hearts || leads_over s Diamonds || leads_over s Clubs) ≡ true
+leads_from s counts p q r t b e h = sym (e ∙ rw (p, q, r, t) refl) ∙ h

@@ -1,0 +1,105 @@
+-- What cards give the seat to play, one after another.
+use Rattle.std.proofs.Common.{◌≡◌, ℕ, Bool, true, false, not, ◌&&◌, eqb, List, [], refl, sym, ap, subst, ◌∙◌, inl, inr}
+use Rattle.std.proofs.lemmas.Bool.{false≢true, cases_eq, ne_eqb}
+use Rattle.card_sets.specs.SetWords.{has_card, IsSubset}
+use Rattle.trick_rules.specs.Positions.{State, to_play, IsState}
+use Rattle.trick_rules.specs.Play.{after, is_declarers, is_over, legal_in, take_out}
+use Rattle.trick_rules.proofs.CardLists.{has_card-take_out}
+use Rattle.alike_states.specs.Alike.{IsClosedUp, SettlesEnd, HasAnswer, GivesAnswer}
+use Rattle.alike_states.proofs.Answers.{one_card_answers, more_cards_answer, more_cards_give_the_answer}
+use Rattle.alike_choices.proofs.Enough.{one_of_equals_answers}
+use Rattle.dd_solver.specs.declared.answer.Answer.{Answer}
+use Rattle.dd_solver.specs.Answers.{IsAnswer, IsGiven}
+use Rattle.dd_solver.specs.Closed.{IsClosedDown, AreSpokenFor}
+use Rattle.dd_solver.proofs.EqualsDown.{enough}
+
+-- of the cards, those that are not among the rest give the answer that isn't wanted
+pub record AreTried (s : State) (cards rest : List ℕ) (wanted : Bool) (counting : List ℕ) : Type 0 where
+  pub part : IsSubset rest cards
+  pub closed : IsClosedUp counting
+  pub each : (card : ℕ) → has_card cards card ≡ true → has_card rest card ≡ false → GivesAnswer counting s card (not wanted)
+
+pub tried-none : (s : State) (cards counting : List ℕ) (wanted : Bool) → counting ≡ [] → AreTried s cards cards wanted counting
+tried-none s cards counting wanted e = record {
+  part = λ c h. h;
+  closed = λ card higher h suit more low. absurd (false≢true (sym (ap (λ l. has_card l card) e) ∙ h));
+  each = λ card h out. absurd (false≢true (sym out ∙ h));
+}
+
+-- what a card gives
+pub given_by : (s : State) (card : ℕ) (made : Bool) (below part : List ℕ) → IsClosedUp part → IsSubset below part → SettlesEnd part s card → HasAnswer below (after s card) made
+    → GivesAnswer part s card made
+given_by s card made below part closed within settles answer = record {
+  part = part;
+  within = λ c h. h;
+  closed = closed;
+  settles = settles;
+  answer = more_cards_answer below part (after s card) made within answer;
+}
+
+pub tried-more : (s : State) (cards rest new counting more part : List ℕ) (wanted : Bool) (card : ℕ) → AreTried s cards rest wanted counting → new ≡ take_out card rest
+    → IsClosedUp more → IsSubset counting more → IsSubset part more → GivesAnswer part s card (not wanted) → AreTried s cards new wanted more
+tried-more s cards rest new counting more part wanted card r e closed old added g = record {
+  part = λ c h. r.part c (rest_has c h);
+  closed = closed;
+  each = λ c h out. elim (cases_eq c card) as (λ _. GivesAnswer more s c (not wanted)) [
+    | inl same ↦ subst (λ x. GivesAnswer more s x (not wanted)) (sym same) (more_cards_give_the_answer part more s card (not wanted) added g)
+    | inr other ↦ more_cards_give_the_answer counting more s c (not wanted) old (r.each c h (was_out c other out))
+  ];
+}
+  where
+    rest_has : (c : ℕ) → has_card new c ≡ true → has_card rest c ≡ true
+    rest_has c h = go (has_card rest c) refl (sym (ap (λ l. has_card l c) e ∙ has_card-take_out card rest c) ∙ h)
+      where
+        go : (b : Bool) → has_card rest c ≡ b → (has_card rest c && not (eqb c card)) ≡ true → has_card rest c ≡ true
+        go true k _ = k
+        go false k both = absurd (false≢true (sym (ap (λ x. x && not (eqb c card)) k) ∙ both))
+
+    was_out : (c : ℕ) → (c ≡ card → ⊥) → has_card new c ≡ false → has_card rest c ≡ false
+    was_out c other out = go (has_card rest c) refl
+      where
+        go : (b : Bool) → has_card rest c ≡ b → has_card rest c ≡ false
+        go false k = k
+        go true k = absurd (false≢true (sym out ∙ ap (λ l. has_card l c) e ∙ has_card-take_out card rest c ∙ rw (k, ne_eqb c card other) refl))
+
+-- one of the cards gives what is wanted
+pub given-one : (s : State) (cards : List ℕ) (wanted : Bool) (card : ℕ) (answer : Answer) → IsState s → has_card (legal_in s) card ≡ true → is_declarers (to_play s.position) ≡ wanted
+    → answer.made ≡ wanted → IsClosedUp answer.counting → GivesAnswer answer.counting s card wanted → IsGiven s cards wanted answer
+given-one s cards wanted card answer ok legal turn made closed g = record {
+  closed = closed;
+  one = λ _. one_card_answers answer.counting s card wanted ok legal turn g;
+  each = λ other. absurd (neither wanted (sym made ∙ other));
+}
+  where
+    neither : (b : Bool) → b ≡ not b → ⊥
+    neither true h = false≢true (sym h)
+    neither false h = false≢true h
+
+-- or none does
+pub given-none : (s : State) (cards rest : List ℕ) (wanted : Bool) (answer : Answer) → answer.made ≡ not wanted → rest ≡ [] → AreTried s cards rest wanted answer.counting → IsGiven s cards wanted answer
+given-none s cards rest wanted answer made e r = record {
+  closed = r.closed;
+  one = λ same. absurd (neither wanted (sym same ∙ made));
+  each = λ _ card h. r.each card h (ap (λ l. has_card l card) e);
+}
+  where
+    neither : (b : Bool) → b ≡ not b → ⊥
+    neither true h = false≢true (sym h)
+    neither false h = false≢true h
+
+-- ---- the whole answer
+
+pub answer-one : (s : State) (cards : List ℕ) (wanted : Bool) (answer : Answer) → IsGiven s cards wanted answer → answer.made ≡ wanted → IsAnswer s answer
+answer-one s cards wanted answer g same = record {
+  closed = g.closed;
+  answers = subst (λ b. HasAnswer answer.counting s b) (sym same) (g.one same);
+}
+
+pub answer-each : (s : State) (cards counting : List ℕ) (wanted : Bool) (given answer : Answer) → IsState s → is_over s.position ≡ false → IsGiven s cards wanted given → given.made ≡ not wanted
+    → AreSpokenFor s cards → answer.made ≡ not wanted → counting ≡ answer.counting → IsClosedUp counting → IsSubset given.counting counting → IsClosedDown s counting → IsAnswer s answer
+answer-each s cards counting wanted given answer ok on g failed spoken made e closed within down = record {
+  closed = subst IsClosedUp e closed;
+  answers = subst (λ b. HasAnswer answer.counting s b) (sym made) (subst (λ l. HasAnswer l s (not wanted)) e
+      (one_of_equals_answers counting s (not wanted) cards closed ok on (enough counting s cards spoken down)
+      (λ card among legal. more_cards_give_the_answer given.counting counting s card (not wanted) within (g.each failed card among))));
+}

@@ -1,0 +1,20 @@
+-- Sure cards, and the cards that count for them.
+use Rattle.std.specs.Prelude.{◌≡◌, ℕ, ◌<◌, true, List, length}
+use Rattle.card_sets.specs.declared.card.Suit.{Suit}
+use Rattle.card_sets.specs.declared.card.Suit.TheVariants.{Spades, Hearts, Diamonds, Clubs}
+use Rattle.card_sets.specs.Cards.{suit_of}
+use Rattle.card_sets.specs.SetWords.{has_card}
+use Rattle.sure_tricks.specs.Sure.{above}
+use Rattle.sure_tricks.specs.declared.count.Counts.{Counts}
+
+-- how many are sure in a suit
+abbrev pub number_in : Counts → Suit → ℕ
+number_in counts Spades = counts.spades
+number_in counts Hearts = counts.hearts
+number_in counts Diamonds = counts.diamonds
+number_in counts Clubs = counts.clubs
+
+-- the highest cards of each suit of a hand, so many of each, are among these
+abbrev pub AreHighest : List ℕ → Counts → List ℕ → Type 0
+AreHighest hand counts cards = (card : ℕ) → has_card hand card ≡ true
+    → length (above card hand) < number_in counts (suit_of card) → has_card cards card ≡ true

@@ -1,0 +1,132 @@
+//! An answer, and the cards that count for it.
+ghost use Rattle.std.specs.Prelude.{◌≡◌, ◌≢◌, ℕ, ◌<◌, ◌+◌, ◌*◌, ◌∷◌, [], ◌++◌, true, ◌||◌, IsTrue, List, length, slice_index};
+ghost use Rattle.card_sets.specs.Cards.{suit_of, suit_place};
+ghost use Rattle.card_sets.specs.SetWords.{has_card, IsCardSet, IsSubset};
+ghost use Rattle.trick_rules.specs.Play.{after_card, CanPlay};
+ghost use Rattle.alike_states.specs.Alike.{IsClosedUp, SettlesEnd};
+ghost use Rattle.dd_solver.specs.Closed.{up_from as up_from_card};
+
+use card_sets::{Card, CardSet, Seat, Suit};
+use trick_rules::{Position, places_on};
+
+/// An answer of double dummy, and the cards that count for it.
+#[derive(Clone, Copy, Debug)]
+pub(crate) struct Answer {
+    pub(crate) made: bool,
+    pub(crate) counting: CardSet,
+}
+
+/// The last card of a suit.
+pub(crate) fn last_of(suit: Suit) -> u8
+    ensures { result ≡ 13 * suit_place suit + 12 }
+{
+    match suit {
+        Suit::Spades => 12,
+        Suit::Hearts => 25,
+        Suit::Diamonds => 38,
+        Suit::Clubs => 51,
+    }
+}
+
+/// A card with all higher ones of its suit.
+pub(crate) fn up_from(card: Card) -> CardSet
+    ensures { result ≡ up_from_card card }
+{
+    let mut cards = CardSet::empty();
+    for number in card.number()..last_of(card.suit()) + 1 {
+        cards = cards.with(Card::from_number(number));
+    }
+    cards
+}
+
+/// The cards with one more and all higher ones of its suit.
+pub(crate) fn with_up(cards: CardSet, card: Card) -> CardSet
+    requires { IsClosedUp cards }
+    ensures closed { IsClosedUp result }
+    ensures within { IsSubset cards result }
+    ensures a_set { IsCardSet result }
+    ensures value { (c : ℕ) → c < 52
+        → has_card result c ≡ (has_card cards c || has_card (up_from_card card) c) }
+{
+    if cards.has(card) {
+        cards
+    } else {
+        cards.either(up_from(card))
+    }
+}
+
+/// The cards of two sets.
+pub(crate) fn joined(these: CardSet, those: CardSet) -> CardSet
+    requires first { IsClosedUp these }
+    requires second { IsClosedUp those }
+    ensures closed { IsClosedUp result }
+    ensures first_within { IsSubset these result }
+    ensures second_within { IsSubset those result }
+{
+    if these.is_empty() {
+        those
+    } else if those.is_empty() {
+        these
+    } else {
+        these.either(those)
+    }
+}
+
+// Whether no other card of a trick is of the suit of the card at this place.
+fn is_alone(cards: &[Card; 4], place: usize) -> bool
+    requires { place < 4 }
+    ensures { IsTrue result → (other : ℕ) → other < 4 → other ≢ place
+        → suit_of (slice_index cards.now other) ≢ suit_of (slice_index cards.now place) }
+{
+    let suit = cards[place].suit();
+    for (other, card) in cards.as_slice().iter().enumerate() {
+        if other != place && card.suit() == suit {
+            return false;
+        }
+    }
+    true
+}
+
+// Who led to the present trick.
+fn leader_of(position: &Position) -> Seat
+    ensures { result ≡ position.now.trick.leader }
+{
+    position.trick.leader
+}
+
+// The cards of the trick that this card ends.
+fn cards_with(position: &Position, card: Card) -> [Card; 4]
+    requires { length position.now.trick.cards ≡ 3 }
+    ensures { result ≡ position.now.trick.cards ++ card ∷ [] }
+{
+    let cards = position.trick.cards.as_slice();
+    [cards[0], cards[1], cards[2], card]
+}
+
+/// The cards that count with the one that wins the trick that this card ends, unless it is the only
+/// one of its suit there.
+pub(crate) fn with_winner(
+    position: &Position,
+    card: Card,
+    after: &Position,
+    part: CardSet,
+) -> CardSet
+    requires held { CanPlay position.now card }
+    requires next { after.now ≡ after_card position.now card }
+    requires closed { IsClosedUp part }
+    ensures closed { IsClosedUp result }
+    ensures within { IsSubset part result }
+    ensures settles { (left : List ℕ)
+        → SettlesEnd result (record { position = position.now; left = left }) card }
+{
+    if position.trick.cards.len() != 3 {
+        return part;
+    }
+    let cards = cards_with(position, card);
+    let place = usize::from(places_on(leader_of(position), leader_of(after)));
+    if is_alone(&cards, place) {
+        part
+    } else {
+        with_up(part, cards[place])
+    }
+}

@@ -1,0 +1,112 @@
+//! What the sure cards of the side on lead settle.
+ghost use Rattle.std.specs.Prelude.{◌≡◌, ℕ, ◌+◌, ◌<◌, ◌≤◌, true, false, [], length, IsTrue, IfSome};
+ghost use Rattle.card_sets.specs.declared.card.Suit.TheVariants.{Spades, Hearts, Diamonds, Clubs};
+ghost use Rattle.card_sets.specs.Cards.{suit_of};
+ghost use Rattle.card_sets.specs.SetWords.{has_card, IsCardSet};
+ghost use Rattle.trick_rules.specs.Positions.{to_play, tricks_left, FitsLeft};
+ghost use Rattle.trick_rules.specs.Play.{is_declarers};
+ghost use Rattle.trick_rules.specs.declared.trump.Trump.TheVariants.{NoTrump};
+ghost use Rattle.sure_tricks.specs.Sure.{above, sure_of};
+ghost use Rattle.alike_states.specs.Alike.{IsClosedUp};
+ghost use Rattle.dd_solver.specs.Sure.{number_in, AreHighest};
+ghost use Rattle.dd_solver.specs.Answers.{IsAnswer};
+
+use crate::answer::{Answer, joined, up_from};
+use card_sets::{CardSet, Suit};
+use sure_tricks::{Counts, can_lead_over, own_counts, partners_counts};
+use trick_rules::{Position, Trump};
+
+// Whether so many tricks of the side on lead are enough for what it wants.
+fn are_enough(position: &Position, sure: u8) -> bool
+    ensures ours { IsTrue result → is_declarers (to_play position.now) ≡ true
+        → position.now.need ≤ sure }
+    ensures theirs { IsTrue result → is_declarers (to_play position.now) ≡ false
+        → tricks_left position.now < position.now.need + sure }
+{
+    if position.is_ours() {
+        position.need <= sure
+    } else {
+        position.tricks_left() < position.need.saturating_add(sure)
+    }
+}
+
+// The highest so many cards that a hand has of a suit, with all higher ones.
+fn highest_of(hand: CardSet, suit: Suit, many: u8) -> CardSet
+    requires { IsCardSet hand }
+    ensures closed { IsClosedUp result }
+    ensures within { (card : ℕ) → has_card hand card ≡ true → suit_of card ≡ suit
+        → length (above card hand) < many → has_card result card ≡ true }
+{
+    let mut rest = hand.of_suit(suit);
+    while let Some(low) = rest.first() {
+        if rest.count() <= many {
+            return up_from(low);
+        }
+        rest = rest.without(low);
+    }
+    CardSet::empty()
+}
+
+// The highest cards of each suit of a hand, so many of each, with all higher ones.
+fn counting_of(hand: CardSet, counts: &Counts) -> CardSet
+    requires { IsCardSet hand }
+    ensures closed { IsClosedUp result }
+    ensures within { AreHighest hand counts.now result }
+{
+    let spades = highest_of(hand, Suit::Spades, counts.spades);
+    let hearts = highest_of(hand, Suit::Hearts, counts.hearts);
+    let diamonds = highest_of(hand, Suit::Diamonds, counts.diamonds);
+    let clubs = highest_of(hand, Suit::Clubs, counts.clubs);
+    joined(joined(spades, hearts), joined(diamonds, clubs))
+}
+
+// The answer where the sure cards of both hands of the side on lead settle it at no trump.
+fn joint_answer(position: &Position, left: CardSet, own: &Counts) -> Option<Answer>
+    requires fits { FitsLeft position.now left }
+    requires between { position.now.trick.cards ≡ [] }
+    requires no_trump { position.now.trump ≡ NoTrump }
+    requires spades { own.now.spades
+        ≡ sure_of (record { position = position.now; left = left }) Spades }
+    requires hearts { own.now.hearts
+        ≡ sure_of (record { position = position.now; left = left }) Hearts }
+    requires diamonds { own.now.diamonds
+        ≡ sure_of (record { position = position.now; left = left }) Diamonds }
+    requires clubs { own.now.clubs
+        ≡ sure_of (record { position = position.now; left = left }) Clubs }
+    requires few { own.now.spades + own.now.hearts + own.now.diamonds + own.now.clubs ≤ 52 }
+    ensures { IfSome result
+        (λ answer. IsAnswer (record { position = position.now; left = left }) answer) }
+{
+    let partners = partners_counts(position, left);
+    let both = position.tricks_left().min(own.total() + partners.total());
+    if !can_lead_over(position, left, &partners) || !are_enough(position, both) {
+        return None;
+    }
+    let seat = position.to_play();
+    let ours = counting_of(position.hand(seat, left), own);
+    let theirs = counting_of(position.hand(seat.next().next(), left), &partners);
+    Some(Answer {
+        made: position.is_ours(),
+        counting: joined(ours, theirs),
+    })
+}
+
+/// The answer where the sure cards of the side on lead settle it.
+pub(crate) fn sure_answer(position: &Position, left: CardSet) -> Option<Answer>
+    requires fits { FitsLeft position.now left }
+    requires between { position.now.trick.cards ≡ [] }
+    ensures { IfSome result
+        (λ answer. IsAnswer (record { position = position.now; left = left }) answer) }
+{
+    let own = own_counts(position, left);
+    if are_enough(position, own.total()) {
+        return Some(Answer {
+            made: position.is_ours(),
+            counting: counting_of(position.hand(position.to_play(), left), &own),
+        });
+    }
+    match position.trump {
+        Trump::NoTrump => joint_answer(position, left, &own),
+        Trump::Suit(_) => None,
+    }
+}
