@@ -1,7 +1,7 @@
 #!/usr/bin/env python3
 """moves.py [SEEDS]
 
-What moves cost: the processor time of alphamu's job `card` at 1 to 6 moves, with 10 and 20 layouts, where 5 to 9 tricks are left. It
+What moves cost: the processor time of alphamu's job `card` at 1 to 6 moves, with 10 and 20 layouts, where 5 to 11 tricks are left. It
 prints a line for each number of tricks and of layouts: seconds at each number of moves, the median of SEEDS boards (default 15), and in
 brackets those of the slowest board.
 
@@ -18,7 +18,7 @@ from boards import make, needing_half
 from timing import processor_seconds
 from workers import PROGRAM
 
-TRICKS, LAYOUTS, MOVES = (5, 6, 7, 8, 9), (10, 20), range(1, 7)
+TRICKS, LAYOUTS, MOVES = range(5, 12), (10, 20), range(1, 7)
 
 
 def seconds(deal, layouts, moves):

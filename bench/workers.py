@@ -94,7 +94,7 @@ def main():
     runs = int(sys.argv[1]) if len(sys.argv) > 1 else 3
     print(f"{os.cpu_count()} processors, {os.getloadavg()[0]:.1f} processes at work or waiting before the run")
     print("ending                cuts  moves  one worker  2 workers 4 workers  four runs  user, 4 to 1")
-    row(*eight_cards(5), ["--no-cuts"], runs)
+    row(*eight_cards(6), ["--no-cuts"], runs)
     for tricks, layouts, moves, seed in RANDOM:
         ending = random_ending(tricks, layouts, moves, seed)
         row(ending.name, ending.deal, ending.layouts, moves, [], runs)
