@@ -12,13 +12,15 @@ use Rattle.card_sets.proofs.Suits.{same_suit-true}
 use Rattle.trick_rules.specs.declared.trump.Trump.{Trump}
 use Rattle.trick_rules.specs.declared.trump.Trump.TheVariants.{NoTrump, Suit as Suited}
 use Rattle.trick_rules.specs.Positions.{State, seat_after, to_play, tricks_left, IsState}
-use Rattle.trick_rules.specs.Play.{of_suit, is_declarers, is_over, decided, hand_of, legal_in, after, makes}
+use Rattle.trick_rules.specs.Play.{of_suit, is_declarers, is_over, is_trump, decided, hand_of, legal_in, after, makes}
 use Rattle.trick_rules.proofs.States.{after-IsState, hand_length}
 use Rattle.trick_rules.proofs.PlayLaws.{makes_where_decided}
-use Rattle.sure_tricks.specs.Sure.{above, trumps_of, AreHigh, AreSafe, AreSure}
+use Rattle.sure_tricks.specs.Sure.{above, trumps_of, AreHigh, AreSafe, AreSure, AreTopTrumps}
+use Rattle.sure_tricks.proofs.Holding.{two_trumps}
 use Rattle.sure_tricks.proofs.Hands.{by_card, by_each, hand_set}
 use Rattle.sure_tricks.proofs.Cash.{our_sure_cards_win, their_sure_cards_win}
 use Rattle.sure_tricks.proofs.Together.{our_cards_win_together, their_cards_win_together}
+use Rattle.sure_tricks.proofs.TopTrumps.{our_top_trumps_win, their_top_trumps_win}
 use Rattle.alike_states.specs.Alike.{IsClosedUp, IsLike, AreAlike, HasAnswer, GivesAnswer}
 use Rattle.alike_states.proofs.Likes.{like_suit, like_back, like_less, below_counting, alike_back, alike_on, alike_less, alike_turn, alike_tricks, alike_decided, alike_over}
 use Rattle.alike_states.proofs.Cards.{legal_held, like_held, a_like_card_is_legal, alike_after}
@@ -164,3 +166,31 @@ module _ (counting : List ℕ) (s : State) (sure partners : List ℕ) (link card
       linked.1 over linked.2 (ap is_declarers (sym (alike_turn counting s t a)) ∙ side)
       (subst (λ n. n < t.position.need + min n (length sure + length partners)) (alike_tricks counting s t a)
       (subst (λ n. tricks_left s.position < n + min (tricks_left s.position) (length sure + length partners)) a.need many))
+
+-- ---- top trumps
+
+pub top_trumps_stay : (counting : List ℕ) (s t : State) (x : Seat) (top : List ℕ) → IsClosedUp counting → IsState t → AreAlike counting s t
+    → IsSubset top counting → AreTopTrumps s x top → AreTopTrumps t x top
+top_trumps_stay counting s t x top closed ok a within are = record {
+  set = are.set;
+  held = λ c h. sym ((a.hands x).same c (within c h)) ∙ are.held c h;
+  trumps = trumps;
+  highest = λ card higher seat among held is more.
+      let counts = closed card higher (within card among) (two_trumps t.position.trump card higher (trumps card among) is) more
+      (has_card-below (hand_of t seat) higher (hand_set t ok seat) held) in
+      are.highest card higher seat among ((a.hands seat).same higher counts ∙ held) (ap (λ trump. is_trump trump higher) a.trump ∙ is) more;
+}
+  where
+    trumps : (c : ℕ) → has_card top c ≡ true → is_trump t.position.trump c ≡ true
+    trumps c h = ap (λ trump. is_trump trump c) (sym a.trump) ∙ are.trumps c h
+
+pub our_top_trumps_answer : (counting : List ℕ) (s : State) (x : Seat) (top : List ℕ) → IsClosedUp counting → IsSubset top counting → s.position.trick.cards ≡ []
+    → AreTopTrumps s x top → is_declarers x ≡ true → s.position.need ≤ length top → HasAnswer counting s true
+our_top_trumps_answer counting s x top closed within none are side few = λ t ok a.
+    our_top_trumps_win t x top ok (none_there counting s t a none) (top_trumps_stay counting s t x top closed ok a within are) side (let need = a.need in omega arith)
+
+pub their_top_trumps_answer : (counting : List ℕ) (s : State) (x : Seat) (top : List ℕ) → IsClosedUp counting → IsSubset top counting → s.position.trick.cards ≡ []
+    → AreTopTrumps s x top → is_declarers x ≡ false → tricks_left s.position < s.position.need + length top → HasAnswer counting s false
+their_top_trumps_answer counting s x top closed within none are side many = λ t ok a.
+    their_top_trumps_win t x top ok (none_there counting s t a none) (top_trumps_stay counting s t x top closed ok a within are) side
+    (let need = a.need in let tricks = alike_tricks counting s t a in omega arith)

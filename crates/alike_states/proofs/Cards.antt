@@ -1,5 +1,5 @@
 -- Cards played in alike states.
-use Rattle.std.proofs.Common.{◌≡◌, ◌≢◌, ◌⊎◌, ℕ, zero, suc, ◌+◌, ◌-◌, ◌<◌, Bool, true, false, not, ◌&&◌, eqb, cond, List, [], ◌∷◌, ◌++◌, length, filter, get_or, All, AllPairs, refl, sym, ap, ap₂, subst, ◌∙◌, inl, inr, arith}
+use Rattle.std.proofs.Common.{◌≡◌, ◌≢◌, ℕ, zero, suc, ◌+◌, ◌-◌, ◌<◌, Bool, true, false, not, ◌&&◌, eqb, cond, List, [], ◌∷◌, ◌++◌, length, filter, get_or, All, AllPairs, refl, sym, ap, ap₂, subst, ◌∙◌, inl, inr, arith}
 use Rattle.std.proofs.lemmas.Bool.{false≢true, both_ways, cases_Bool, cases_eq, cases_lt, eq-eqb, ne_eqb, and_parts, not-true}
 use Rattle.std.proofs.lemmas.List.{length_push}
 use Rattle.std.proofs.lemmas.List.Elements.{All-push}
@@ -9,7 +9,6 @@ use Rattle.std.proofs.Math.ListN.{get_or-append}
 use Rattle.std.proofs.Math.Seq.{get_or-append_seam}
 use Rattle.card_sets.specs.declared.card.Suit.{Suit}
 use Rattle.card_sets.specs.declared.seat.Seat.{Seat}
-use Rattle.card_sets.specs.declared.seat.Seat.TheVariants.{Declarer, Left, Dummy, Right}
 use Rattle.card_sets.specs.Cards.{suit_of, same_suit}
 use Rattle.card_sets.specs.SetWords.{has_card, IsCardSet}
 use Rattle.card_sets.proofs.Sets.{has_card-filter, IsCardSet-filter, same_set}
@@ -22,7 +21,7 @@ use Rattle.trick_rules.proofs.CardLists.{has_card-take_out}
 use Rattle.trick_rules.proofs.Soundness.{after_short, after_third, held_low, trick_held}
 use Rattle.trick_rules.proofs.States.{legal_cards-low, legal_can_play}
 use Rattle.sure_tricks.proofs.Counting.{count_in, count_out}
-use Rattle.sure_tricks.proofs.Hands.{hand_after, hand_stays, hand_set}
+use Rattle.sure_tricks.proofs.Hands.{seat_cases, hand_after, hand_stays, hand_set}
 use Rattle.alike_states.specs.Alike.{IsClosedUp, IsLike, AreAlike, SettlesEnd}
 use Rattle.alike_states.proofs.Likes.{like_suit, alike_turn}
 use Rattle.alike_states.proofs.Trick.{winner_alike}
@@ -119,24 +118,6 @@ a_like_card_is_legal counting s t c ok ok' a legal =
     (found.0, legal_alike counting s t a c found.0 (like_suit counting c found.0 found.2) legal held, found.2)
 
 -- ---- the hands after two cards that are like each other
-
-seat_cases : (x y : Seat) → (x ≡ y) ⊎ (x ≢ y)
-seat_cases Declarer Declarer = inl refl
-seat_cases Declarer Left = inr (λ e. cc)
-seat_cases Declarer Dummy = inr (λ e. cc)
-seat_cases Declarer Right = inr (λ e. cc)
-seat_cases Left Declarer = inr (λ e. cc)
-seat_cases Left Left = inl refl
-seat_cases Left Dummy = inr (λ e. cc)
-seat_cases Left Right = inr (λ e. cc)
-seat_cases Dummy Declarer = inr (λ e. cc)
-seat_cases Dummy Left = inr (λ e. cc)
-seat_cases Dummy Dummy = inl refl
-seat_cases Dummy Right = inr (λ e. cc)
-seat_cases Right Declarer = inr (λ e. cc)
-seat_cases Right Left = inr (λ e. cc)
-seat_cases Right Dummy = inr (λ e. cc)
-seat_cases Right Right = inl refl
 
 like_eqb : (counting : List ℕ) (c d x : ℕ) → has_card counting x ≡ true → IsLike counting c d → eqb x c ≡ eqb x d
 like_eqb counting c d x counts h = elim h as (λ _. eqb x c ≡ eqb x d) [

@@ -8,7 +8,7 @@ ghost use Rattle.trick_rules.specs.declared.trump.Trump.{Trump};
 ghost use Rattle.trick_rules.specs.declared.trump.Trump.TheVariants.{NoTrump};
 ghost use Rattle.trick_rules.specs.Positions.{State, seat_after, to_play, tricks_left, IsState};
 ghost use Rattle.trick_rules.specs.Play.{after, decided, hand_of, is_declarers, is_over, legal_in, IsWonBy};
-ghost use Rattle.sure_tricks.specs.Sure.{AreSure};
+ghost use Rattle.sure_tricks.specs.Sure.{AreSure, AreTopTrumps};
 ghost use Rattle.alike_states.specs.Alike.{IsClosedUp, IsLike, IsLikeHand, AreAlike, SettlesTrick, SettlesEnd, HasAnswer, GivesAnswer};
 
 // ---- alike states
@@ -94,7 +94,7 @@ pub fn like_cards_leave_alike_states()
         → SettlesEnd counting s card → AreAlike counting (after s card) (after t other) }
 {}
 
-// ---- sure cards
+// ---- sure cards and top trumps
 
 /// Cards that are sure in a state and count are sure in each alike state, where the cards that
 /// count are closed up.
@@ -102,6 +102,14 @@ pub fn sure_cards_stay_sure()
     ensures { (counting : List ℕ) (s t : State) (seat : Seat) (sure : List ℕ)
         → IsClosedUp counting → IsState t → AreAlike counting s t → IsSubset sure counting
         → AreSure s seat sure → AreSure t seat sure }
+{}
+
+/// Top trumps that count are top trumps in each alike state, where the cards that count are closed
+/// up.
+pub fn top_trumps_stay()
+    ensures { (counting : List ℕ) (s t : State) (seat : Seat) (top : List ℕ)
+        → IsClosedUp counting → IsState t → AreAlike counting s t → IsSubset top counting
+        → AreTopTrumps s seat top → AreTopTrumps t seat top }
 {}
 
 // ---- answers
@@ -147,6 +155,17 @@ pub fn sure_cards_answer_together()
         → tricks_left s.position
         < s.position.need + min (tricks_left s.position) (length sure + length partners)
         → HasAnswer counting s false }
+{}
+
+/// Top trumps of a hand answer for every alike state, where they count, whoever leads.
+pub fn top_trumps_answer()
+    ensures ours { (counting : List ℕ) (s : State) (x : Seat) (top : List ℕ) → IsClosedUp counting
+        → IsSubset top counting → s.position.trick.cards ≡ [] → AreTopTrumps s x top
+        → is_declarers x ≡ true → s.position.need ≤ length top → HasAnswer counting s true }
+    ensures theirs { (counting : List ℕ) (s : State) (x : Seat) (top : List ℕ)
+        → IsClosedUp counting → IsSubset top counting → s.position.trick.cards ≡ []
+        → AreTopTrumps s x top → is_declarers x ≡ false
+        → tricks_left s.position < s.position.need + length top → HasAnswer counting s false }
 {}
 
 /// An answer goes from a state to an alike one, and from some of the cards that count to all; so

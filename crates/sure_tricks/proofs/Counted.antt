@@ -47,7 +47,7 @@ module _ (s : State) (ok : IsState s) (x : Seat) (flags : Suit → Seat → Bool
   against suit (suc (suc (suc (suc i)))) some low = absurd (omega arith)
 
   -- so it is than is high there, and than the suit has
-  high_against : (suit : Suit) (y : Seat) → y ≢ x → sure_in s x (flags suit) suit ≤ high_count (of_suit suit (hand_of s x)) (of_suit suit (hand_of s y))
+  pub high_against : (suit : Suit) (y : Seat) → y ≢ x → sure_in s x (flags suit) suit ≤ high_count (of_suit suit (hand_of s x)) (of_suit suit (hand_of s y))
   high_against suit y differ =
       let at = next_three x y differ in
       subst (λ seat. sure_in s x (flags suit) suit ≤ high_count (of_suit suit (hand_of s x)) (of_suit suit (hand_of s seat))) at.3

@@ -1,5 +1,5 @@
 -- Seats round the table, hands after a card, and what decides a state.
-use Rattle.std.proofs.Common.{◌≡◌, ◌≢◌, ℕ, zero, suc, ◌+◌, ◌-◌, ◌%◌, ◌<◌, ◌≤◌, Bool, true, false, not, eqb, cond, List, [], ◌∷◌, length, filter, refl, sym, ap, ◌∙◌, arith}
+use Rattle.std.proofs.Common.{◌≡◌, ◌≢◌, ◌⊎◌, ℕ, zero, suc, ◌+◌, ◌-◌, ◌%◌, ◌<◌, ◌≤◌, Bool, true, false, not, eqb, cond, List, [], ◌∷◌, length, filter, refl, sym, ap, ◌∙◌, inl, inr, arith}
 use Rattle.std.specs.List.{list_any, list_all}
 use Rattle.std.proofs.lemmas.Bool.{eq-eqb, ne_eqb, lt-ltb, both_ways, false_from_ne_true}
 use Rattle.card_sets.specs.declared.seat.Seat.{Seat}
@@ -68,6 +68,25 @@ next_three Right Right differ = absurd (differ refl)
 next_three Right Declarer differ = (1, omega arith, omega arith, refl)
 next_three Right Left differ = (2, omega arith, omega arith, refl)
 next_three Right Dummy differ = (3, omega arith, omega arith, refl)
+
+-- one seat or two
+pub seat_cases : (x y : Seat) → (x ≡ y) ⊎ (x ≢ y)
+seat_cases Declarer Declarer = inl refl
+seat_cases Declarer Left = inr (λ e. cc)
+seat_cases Declarer Dummy = inr (λ e. cc)
+seat_cases Declarer Right = inr (λ e. cc)
+seat_cases Left Declarer = inr (λ e. cc)
+seat_cases Left Left = inl refl
+seat_cases Left Dummy = inr (λ e. cc)
+seat_cases Left Right = inr (λ e. cc)
+seat_cases Dummy Declarer = inr (λ e. cc)
+seat_cases Dummy Left = inr (λ e. cc)
+seat_cases Dummy Dummy = inl refl
+seat_cases Dummy Right = inr (λ e. cc)
+seat_cases Right Declarer = inr (λ e. cc)
+seat_cases Right Left = inr (λ e. cc)
+seat_cases Right Dummy = inr (λ e. cc)
+seat_cases Right Right = inl refl
 
 -- ---- hands
 

@@ -22,7 +22,7 @@ pub trump_of_suit : (trump : Trump) (c d : ℕ) → suit_of c ≡ suit_of d → 
 trump_of_suit NoTrump c d e = refl
 trump_of_suit (Suited suit) c d e = ap (λ x. same_suit x suit) e
 
-two_trumps : (trump : Trump) (c d : ℕ) → is_trump trump c ≡ true → is_trump trump d ≡ true → suit_of c ≡ suit_of d
+pub two_trumps : (trump : Trump) (c d : ℕ) → is_trump trump c ≡ true → is_trump trump d ≡ true → suit_of c ≡ suit_of d
 two_trumps NoTrump c d a b = absurd (false≢true a)
 two_trumps (Suited suit) c d a b = same_suit-true (suit_of c) suit a ∙ sym (same_suit-true (suit_of d) suit b)
 

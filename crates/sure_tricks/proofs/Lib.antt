@@ -10,3 +10,4 @@ pub mod Both
 pub mod Together
 pub mod Counted
 pub mod Summing
+pub mod TopTrumps

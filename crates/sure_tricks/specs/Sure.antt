@@ -105,3 +105,14 @@ module _ (s : State) where
   abbrev pub leads_over : Suit → Bool
   leads_over suit = nat_lt 0 (partners_of suit)
       && nat_lt 0 (length (of_suit suit (hand_of s (to_play s.position))))
+
+-- ---- top trumps
+
+-- trumps that a seat holds; whoever holds a higher trump is the seat itself or its partner
+pub record AreTopTrumps (s : State) (x : Seat) (top : List ℕ) : Type 0 where
+  pub set : IsCardSet top
+  pub held : IsSubset top (hand_of s x)
+  pub trumps : (card : ℕ) → has_card top card ≡ true → is_trump s.position.trump card ≡ true
+  pub highest : (card higher : ℕ) (seat : Seat) → has_card top card ≡ true
+      → has_card (hand_of s seat) higher ≡ true → is_trump s.position.trump higher ≡ true
+      → card < higher → (seat ≡ x) ⊎ (seat ≡ seat_after 2 x)

@@ -5,8 +5,9 @@ ghost use Rattle.trick_rules.specs.Positions.{State, seat_after, to_play, tricks
 ghost use Rattle.trick_rules.specs.Play.{hand_of, is_declarers, makes};
 ghost use Rattle.trick_rules.specs.declared.trump.Trump.TheVariants.{NoTrump};
 ghost use Rattle.card_sets.specs.Cards.{suit_of};
+ghost use Rattle.card_sets.specs.declared.seat.Seat.{Seat};
 ghost use Rattle.card_sets.specs.SetWords.{has_card};
-ghost use Rattle.sure_tricks.specs.Sure.{AreSure};
+ghost use Rattle.sure_tricks.specs.Sure.{AreSure, AreTopTrumps};
 
 /// The side on lead takes a trick with each of its sure cards: declarer's side makes a need of no
 /// more tricks, and against the defenders it fails with a need that leaves them fewer.
@@ -43,4 +44,16 @@ pub fn sure_cards_win_together()
         → tricks_left s.position
         < s.position.need + min (tricks_left s.position) (length sure + length partners)
         → makes s ≡ false }
+{}
+
+/// A side takes a trick with each top trump of either of its hands, whoever leads and whatever
+/// anyone plays: declarer's side makes a need of no more tricks, and against the defenders it fails
+/// with a need that leaves them fewer.
+pub fn top_trumps_win()
+    ensures ours { (s : State) (x : Seat) (top : List ℕ) → IsState s
+        → s.position.trick.cards ≡ [] → AreTopTrumps s x top → is_declarers x ≡ true
+        → s.position.need ≤ length top → makes s ≡ true }
+    ensures theirs { (s : State) (x : Seat) (top : List ℕ) → IsState s
+        → s.position.trick.cards ≡ [] → AreTopTrumps s x top → is_declarers x ≡ false
+        → tricks_left s.position < s.position.need + length top → makes s ≡ false }
 {}

@@ -1,4 +1,4 @@
-//! Tricks that the side on lead takes whatever the others do, told by a look at the cards.
+//! Tricks that a side takes whatever the others do, told by a look at the cards.
 //! It stands on the rules of play.
 //! What is told is proved to hold of double dummy.
 #![tactic(auto)]
