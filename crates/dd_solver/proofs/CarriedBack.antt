@@ -1,11 +1,11 @@
 -- What is known after cards moved up, carried back to where they were.
-use Rattle.std.proofs.Common.{◌≡◌, ℕ, ◌<◌, ◌≤◌, Bool, true, false, not, ◌&&◌, ◌||◌, List, [], ◌∷◌, ◌++◌, length, refl, sym, ap, subst, ◌∙◌, inl, inr, arith}
-use Rattle.std.proofs.lemmas.Bool.{both_ways, cases_eq, eq-eqb, false_from_ne_true, or_right}
+use Rattle.std.proofs.Common.{◌≡◌, ℕ, ◌<◌, ◌≤◌, Bool, true, false, not, ◌&&◌, ◌||◌, List, [], ◌∷◌, ◌++◌, length, refl, sym, ap, subst, ◌∙◌, inl, arith}
+use Rattle.std.proofs.lemmas.Bool.{both_ways, eq-eqb, false_from_ne_true, or_right}
 use Rattle.std.proofs.lemmas.List.{nil_from_length}
 use Rattle.card_sets.specs.declared.card.Suit.{Suit}
 use Rattle.card_sets.specs.declared.seat.Seat.{Seat}
 use Rattle.card_sets.specs.declared.seat.Seat.TheVariants.{Declarer, Left, Dummy, Right}
-use Rattle.card_sets.specs.Cards.{suit_of, suit_place, same_suit}
+use Rattle.card_sets.specs.Cards.{suit_of, suit_place}
 use Rattle.card_sets.specs.SetWords.{has_card, IsSubset}
 use Rattle.card_sets.proofs.Sets.{has_card-filter}
 use Rattle.card_sets.proofs.Suits.{same_suit-true, card_of-suit_of}

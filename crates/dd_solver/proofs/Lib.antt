@@ -7,3 +7,4 @@ pub mod Highest
 pub mod MovedUp
 pub mod CarriedBack
 pub mod Squeezing
+pub mod TopTrumps

@@ -1,5 +1,5 @@
 -- A card that moves up to a place that nobody holds.
-use Rattle.std.proofs.Common.{◌≡◌, ◌≢◌, ℕ, suc, ◌+◌, ◌<◌, ◌≤◌, Bool, true, false, not, ◌&&◌, ◌||◌, eqb, List, [], length, map, refl, sym, ap, subst, ◌∙◌, inl, inr, arith}
+use Rattle.std.proofs.Common.{◌≡◌, ◌≢◌, ℕ, suc, ◌<◌, ◌≤◌, Bool, true, false, not, ◌&&◌, ◌||◌, eqb, List, [], length, map, refl, sym, ap, subst, ◌∙◌, inl, inr, arith}
 use Rattle.std.proofs.lemmas.Bool.{false≢true, eq-eqb, ne_eqb, cases_lt, cases_Bool, or_parts, false_from_ne_true}
 use Rattle.card_sets.specs.declared.card.Suit.{Suit}
 use Rattle.card_sets.specs.declared.seat.Seat.{Seat}
@@ -13,10 +13,10 @@ use Rattle.trick_rules.specs.Play.{take_out, of_suit, hand_of, cards_left, makes
 use Rattle.trick_rules.proofs.CardLists.{has_card-take_out}
 use Rattle.trick_rules.proofs.States.{right_of-low}
 use Rattle.double_dummy.specs.Equals.{in_play}
+use Rattle.dd_solver.specs.Squeezing.{move_card, with_moved}
 use Rattle.double_dummy.proofs.Swap.{swap, swap-first, swap-second, swap-other, swap-suit, each_card}
 use Rattle.double_dummy.proofs.Mirror.{Renamed, Mirrored, Follows, hand-mirrored, renamed_back}
 use Rattle.double_dummy.proofs.EqualCards.{makes-mirrored}
-use Rattle.dd_solver.specs.Squeezing.{move_card, with_moved, IsMovedUp}
 
 -- ---- one set
 

@@ -1,5 +1,5 @@
 -- The cards in play move up, from the highest down.
-use Rattle.std.proofs.Common.{◌≡◌, ◌≢◌, ℕ, ◌+◌, ◌*◌, ◌<◌, ◌≤◌, Bool, true, false, ◌||◌, List, [], ◌∷◌, ◌++◌, length, refl, sym, ap, subst, ◌∙◌, inl, inr, arith}
+use Rattle.std.proofs.Common.{◌≡◌, ◌≢◌, ℕ, ◌+◌, ◌<◌, ◌≤◌, Bool, true, false, ◌||◌, List, [], ◌∷◌, ◌++◌, length, refl, sym, ap, subst, ◌∙◌, inl, inr, arith}
 use Rattle.std.proofs.lemmas.Bool.{both_ways, cases_eq, cases_Bool}
 use Rattle.std.proofs.lemmas.List.{length_push}
 use Rattle.card_sets.specs.declared.card.Suit.TheVariants.{Spades, Hearts, Diamonds, Clubs}
@@ -9,12 +9,12 @@ use Rattle.card_sets.specs.SetWords.{has_card, cards_where, IsCardSet}
 use Rattle.card_sets.proofs.Sets.{has_card-cards_where}
 use Rattle.trick_rules.specs.Positions.{State, IsState}
 use Rattle.double_dummy.specs.Equals.{in_play}
-use Rattle.double_dummy.proofs.Swap.{swap, swap-second, swap-first, swap-other}
+use Rattle.dd_solver.specs.Squeezing.{move_card, with_moved, IsMovedUp, AreMovedUp}
+use Rattle.double_dummy.proofs.Swap.{swap, swap-first, swap-other}
 use Rattle.dd_solver.specs.declared.key.Key.{Key}
 use Rattle.dd_solver.specs.declared.squeeze.Move.{Move}
 use Rattle.dd_solver.specs.declared.squeeze.Squeezed.{Squeezed}
 use Rattle.dd_solver.specs.Keys.{key_state, lengths_of, HasShape}
-use Rattle.dd_solver.specs.Squeezing.{move_card, with_moved, IsMovedUp, AreMovedUp}
 use Rattle.dd_solver.proofs.MovedUp.{up-IsCardSet, up-renamed, suit-renamed, parts, nobody, moved-IsState, in_play-moved}
 use Rattle.dd_solver.proofs.CarriedBack.{one-more-step}
 
@@ -56,34 +56,7 @@ squeezing-start first ours playing squeezed ok shape same empty e f = record {
         let in_all : has_card playing c ≡ (has_card ours c || has_card first.unseen c) = ap (λ (x : List ℕ). has_card x c) f ∙ has_card-cards_where (λ d. has_card ours d || has_card first.unseen d) c low in
         in_all ∙ ap (λ b. b || has_card first.unseen c) in_ours ∙ sym (or_none (has_card first.declarer c || has_card first.dummy c || has_card first.unseen c)) ∙ h
 
--- a card that isn't in play is passed over
-pub squeezing-pass : (first : Key) (playing : List ℕ) (squeezed : Squeezed) (n end : ℕ) → Squeezing first playing squeezed (n + 1) end → has_card playing n ≡ false → Squeezing first playing squeezed n end
-squeezing-pass first playing squeezed n end r out = record {
-  moved = r.moved;
-  state = r.state;
-  shape = r.shape;
-  room = (let k = r.room in omega arith);
-  before = (let k = r.before in omega arith);
-  fits = r.fits;
-  packed = λ c low h. (let was = r.packed c low h in (omega (arith, was.0, differs c was.1), was.1));
-}
-  where
-    differs : (c : ℕ) → has_card playing c ≡ true → c ≢ n
-    differs c h e = both_ways (has_card playing n) out (subst (λ x. has_card playing x ≡ true) e h)
-
 module _ (first : Key) (playing : List ℕ) (old new : Squeezed) (n end place : ℕ) (r : Squeezing first playing old (n + 1) end) (above : n ≤ place) (below : place < end) (suit : suit_of n ≡ suit_of place) where
-  -- a card that is at the highest place stays
-  squeezing-stay : place ≡ n → new ≡ old → Squeezing first playing new n place
-  squeezing-stay same stays = subst (λ x. Squeezing first playing x n place) (sym stays) (record {
-    moved = r.moved;
-    state = r.state;
-    shape = r.shape;
-    room = (let k = r.room in omega arith);
-    before = above;
-    fits = (let k = r.fits in omega arith);
-    packed = λ c low h. (omega (arith, low, same), (r.packed c (omega (arith, low, below)) h).1);
-  })
-
   module _ (order : n < place) (shape : new.key.shape ≡ old.key.shape) (moves : new.moves.items ≡ old.moves.items ++ record { low = n; high = place } ∷ [])
       (is : key_state new.key ≡ with_moved n place (key_state old.key)) where
     fits : place < 52
@@ -133,11 +106,9 @@ module _ (first : Key) (playing : List ℕ) (old new : Squeezed) (n end place : 
       packed = still_packed;
     }
 
-pub squeezing-step : (first : Key) (playing : List ℕ) (old new : Squeezed) (n end place : ℕ) → Squeezing first playing old (n + 1) end → n ≤ place → place < end → suit_of n ≡ suit_of place
-    → (place ≡ n → new ≡ old) → new.key.shape ≡ old.key.shape → (place ≢ n → new.moves.items ≡ old.moves.items ++ record { low = n; high = place } ∷ [])
-    → (place ≢ n → key_state new.key ≡ with_moved n place (key_state old.key)) → Squeezing first playing new n place
-squeezing-step first playing old new n end place r above below suit stays shape moves is =
-    elim (cases_eq place n) as (λ _. Squeezing first playing new n place) [
-      | inl e ↦ squeezing-stay first playing old new n end place r above below suit e (stays e)
-      | inr other ↦ squeezing-move first playing old new n end place r above below suit (omega (arith, above, other)) shape (moves other) (is other)
-    ]
+-- a card that moves up
+pub squeezing-step : (first : Key) (playing : List ℕ) (old new : Squeezed) (n end place : ℕ) → Squeezing first playing old (n + 1) end → n ≤ place → place < end → suit_of n ≡ suit_of place → place ≢ n
+    → new.key.shape ≡ old.key.shape → new.moves.items ≡ old.moves.items ++ record { low = n; high = place } ∷ [] → key_state new.key ≡ with_moved n place (key_state old.key)
+    → Squeezing first playing new n place
+squeezing-step first playing old new n end place r above below suit other shape moves is =
+    squeezing-move first playing old new n end place r above below suit (omega (arith, above, other)) shape moves is

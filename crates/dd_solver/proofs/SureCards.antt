@@ -1,19 +1,23 @@
 -- The sure cards of the side on lead, as a set, and what they answer where they count.
-use Rattle.std.proofs.Common.{◌≡◌, ℕ, ◌+◌, ◌<◌, ◌≤◌, Bool, true, false, ◌&&◌, ◌||◌, nat_lt, List, [], length, min, refl, sym, ap₂, ◌∙◌, subst, arith}
-use Rattle.std.proofs.lemmas.Bool.{ltb-true, and_parts}
+use Rattle.std.proofs.Common.{◌≡◌, ◌≢◌, ℕ, ◌+◌, ◌<◌, ◌≤◌, Bool, true, false, ◌&&◌, ◌||◌, nat_lt, List, [], length, min, refl, sym, ap, ap₂, ◌∙◌, subst, arith}
+use Rattle.std.proofs.lemmas.Bool.{false≢true, ltb-true, and_parts}
+use Rattle.std.proofs.Math.Nat.{min-eq_left}
 use Rattle.card_sets.specs.declared.card.Suit.{Suit}
 use Rattle.card_sets.specs.declared.card.Suit.TheVariants.{Spades, Hearts, Diamonds, Clubs}
 use Rattle.card_sets.specs.Cards.{suit_of}
 use Rattle.card_sets.specs.SetWords.{has_card, IsSubset}
-use Rattle.card_sets.proofs.Sets.{has_card-filter}
-use Rattle.trick_rules.specs.declared.trump.Trump.TheVariants.{NoTrump}
+use Rattle.card_sets.proofs.Sets.{has_card-filter, IsCardSet-filter, IsSubset-filter}
+use Rattle.trick_rules.specs.declared.trump.Trump.{Trump}
+use Rattle.trick_rules.specs.declared.trump.Trump.TheVariants.{NoTrump, Suit as Suited}
 use Rattle.trick_rules.specs.Positions.{State, seat_after, to_play, tricks_left, IsState}
 use Rattle.trick_rules.specs.Play.{of_suit, hand_of, is_declarers}
-use Rattle.sure_tricks.specs.Sure.{above, sure_of, own_count, partners_of, partners_count, leads_over}
+use Rattle.sure_tricks.specs.Sure.{above, AreSafe, AreSure, sure_of, own_count, partners_of, partners_count, leads_over}
 use Rattle.sure_tricks.specs.declared.count.Counts.{Counts}
 use Rattle.dd_solver.specs.Sure.{number_in, AreHighest}
-use Rattle.sure_tricks.proofs.Picking.{picked}
-use Rattle.sure_tricks.proofs.Counted.{ours, partners, ruffs_in, length_counted, ours_sure, partners_sure, IsOver, over}
+use Rattle.sure_tricks.proofs.Hands.{hand_set}
+use Rattle.sure_tricks.proofs.Crossing.{safe_at_no_trump}
+use Rattle.sure_tricks.proofs.Picking.{picked, in_suit, picked_high, by_suits}
+use Rattle.sure_tricks.proofs.Counted.{high_against, part_of_suit, ours, partners, ruffs_in, length_counted, ours_sure, partners_sure, IsOver, over}
 use Rattle.alike_states.specs.Alike.{IsClosedUp, HasAnswer}
 use Rattle.alike_states.proofs.Answers.{our_sure_cards_answer, their_sure_cards_answer, our_cards_answer_together, their_cards_answer_together}
 
@@ -61,6 +65,45 @@ module _ (s : State) (ok : IsState s) (counting : List ℕ) (closed : IsClosedUp
         (partners_sure s ok no_trump) link.linked link.there link.suit side
         (subst (λ m. tricks_left s.position < s.position.need + m) (e ∙ ap₂ (λ (i j : ℕ). min (tricks_left s.position) (i + j)) (sym many) (sym many')) (rest refl))
 
+-- ---- fewer of them, at no trump
+
+module _ (s : State) (ok : IsState s) (counting : List ℕ) (closed : IsClosedUp counting) (none : s.position.trick.cards ≡ []) (no_trump : s.position.trump ≡ NoTrump)
+    (number : Suit → ℕ) (few : (suit : Suit) → number suit ≤ sure_of s suit) (count : HighestCount (hand_of s (to_play s.position)) number counting) where
+  abbrev lead : List ℕ
+  lead = hand_of s (to_play s.position)
+
+  abbrev needed : List ℕ
+  needed = picked number lead
+
+  needed_in : (suit : Suit) → length (of_suit suit needed) ≡ number suit
+  needed_in suit = in_suit number lead (hand_set s ok (to_play s.position)) suit
+      ∙ min-eq_left (let one = few suit in let two = part_of_suit s ok (to_play s.position) (ruffs_in s ok) suit in omega arith)
+
+  length_needed : length needed ≡ number Spades + number Hearts + number Diamonds + number Clubs
+  length_needed =
+      let all = by_suits needed in
+      let a = needed_in Spades in
+      let b = needed_in Hearts in
+      let c = needed_in Diamonds in
+      let d = needed_in Clubs in
+      omega arith
+
+  needed_sure : AreSure s (to_play s.position) needed
+  needed_sure = record {
+    set = IsCardSet-filter _ lead (hand_set s ok (to_play s.position));
+    held = IsSubset-filter _ lead;
+    high = λ y differ. picked_high number lead (hand_set s ok (to_play s.position)) (hand_of s y)
+        (λ suit. let one = few suit in let two = high_against s ok (to_play s.position) (ruffs_in s ok) suit y differ in omega arith);
+    safe = λ y differ. subst (λ t. AreSafe t needed (hand_of s y)) (sym no_trump) (safe_at_no_trump needed (hand_of s y));
+  }
+
+  pub needed_answer : (b : Bool) → is_declarers (to_play s.position) ≡ b → (n : ℕ) → n ≡ number Spades + number Hearts + number Diamonds + number Clubs
+      → (b ≡ true → s.position.need ≤ n) → (b ≡ false → tricks_left s.position < s.position.need + n) → HasAnswer counting s b
+  needed_answer true side n e enough _ =
+      our_sure_cards_answer counting s needed closed (picked_count lead number counting count) none needed_sure side (let h = enough refl in omega (arith, length_needed, e, h))
+  needed_answer false side n e _ rest =
+      their_sure_cards_answer counting s needed closed (picked_count lead number counting count) none needed_sure side (let h = rest refl in omega (arith, length_needed, e, h))
+
 -- ---- numbers that were counted
 
 module _ (counts : Counts) (number : Suit → ℕ) (a : counts.spades ≡ number Spades) (b : counts.hearts ≡ number Hearts) (d : counts.diamonds ≡ number Diamonds) (e : counts.clubs ≡ number Clubs) where
@@ -75,6 +118,23 @@ module _ (counts : Counts) (number : Suit → ℕ) (a : counts.spades ≡ number
 
   pub counts_total : (n : ℕ) → n ≡ counts.spades + counts.hearts + counts.diamonds + counts.clubs → n ≡ number Spades + number Hearts + number Diamonds + number Clubs
   counts_total n h = omega (arith, h, a, b, d, e)
+
+-- numbers that are no greater
+pub fewer : (less counts : Counts) (number : Suit → ℕ) → counts.spades ≡ number Spades → counts.hearts ≡ number Hearts → counts.diamonds ≡ number Diamonds → counts.clubs ≡ number Clubs
+    → less.spades ≤ counts.spades → less.hearts ≤ counts.hearts → less.diamonds ≤ counts.diamonds → less.clubs ≤ counts.clubs → (suit : Suit) → number_in less suit ≤ number suit
+fewer less counts number a b d e p q r t Spades = omega (arith, a, p)
+fewer less counts number a b d e p q r t Hearts = omega (arith, b, q)
+fewer less counts number a b d e p q r t Diamonds = omega (arith, d, r)
+fewer less counts number a b d e p q r t Clubs = omega (arith, e, t)
+
+abbrev is_no_trump : Trump → Bool
+is_no_trump NoTrump = true
+is_no_trump (Suited suit) = false
+
+-- at no trump, or with trumps
+pub by_trump : (trump : Trump) (P : Type 0) → (trump ≡ NoTrump → P) → (trump ≢ NoTrump → P) → P
+by_trump NoTrump P no_trump trumps = no_trump refl
+by_trump (Suited suit) P no_trump trumps = trumps (λ e. absurd (false≢true (ap is_no_trump e)))
 
 -- what counts, counts among more
 pub more_count : (hand : List ℕ) (number : Suit → ℕ) (cards more : List ℕ) → IsSubset cards more → HighestCount hand number cards → HighestCount hand number more

@@ -1,7 +1,7 @@
 //! A position between two tricks as the memo holds it.
 ghost use Rattle.std.specs.Prelude.{◌≡◌, [], IsTrue};
 ghost use Rattle.trick_rules.specs.Positions.{IsState};
-ghost use Rattle.dd_solver.specs.Squeezing.{with_moved, move_card as with_card_moved};
+ghost use Rattle.dd_solver.specs.Squeezing.{move_card as with_card_moved, with_moved};
 ghost use Rattle.dd_solver.specs.Keys.{key_state, lengths_of, HasShape, AreSame, AreLikeKeys};
 
 use card_sets::{Card, CardSet, Seat, Suit};
@@ -93,7 +93,7 @@ impl Key {
         }
     }
 
-    /// Its position.
+    /// The position, without Left's hand.
     pub(crate) fn position(&self) -> Position
         requires { IsState (key_state self.now) }
         ensures { result ≡ (key_state self.now).position }

@@ -1,4 +1,5 @@
-//! Double dummy with the cards that most often settle it tried first, and with a memo of sets.
+//! Double dummy with the cards that most often settle it tried first, with relative ranks, and with
+//! a memo of sets.
 ghost use Rattle.std.specs.Prelude.{◌≡◌, ◌<◌, None, not};
 ghost use Rattle.card_sets.specs.SetWords.{IsSubset};
 ghost use Rattle.trick_rules.specs.Positions.{FitsLeft, IsState, to_play};
@@ -13,6 +14,7 @@ use crate::memo::Memo;
 use crate::order::{Order, turn_of};
 use crate::squeeze::Squeezed;
 use crate::sure::sure_answer;
+use crate::top_trumps::top_trumps_answer;
 use card_sets::CardSet;
 use trick_rules::{Position, play};
 
@@ -36,6 +38,7 @@ pub(crate) fn search(memo: &mut Memo, position: &Position, left: CardSet) -> Ans
         return search_cards(memo, position, left);
     }
     let key = Key::of(position, left);
+    // With fewer than four tricks left, moving the cards takes longer than it saves.
     if position.declarer.count() < 4 {
         return search_key(memo, &key);
     }
@@ -44,7 +47,7 @@ pub(crate) fn search(memo: &mut Memo, position: &Position, left: CardSet) -> Ans
     squeezed.carried_back(&answer)
 }
 
-// The same between two tricks, where the result is open.
+// The same for the position of a key, which the memo may know.
 #[cycle(search)]
 fn search_key(memo: &mut Memo, key: &Key) -> Answer
     requires state { IsState (key_state key.now) }
@@ -56,6 +59,9 @@ fn search_key(memo: &mut Memo, key: &Key) -> Answer
         return answer;
     }
     let position = key.position();
+    if let Some(answer) = top_trumps_answer(&position, key.left) {
+        return answer;
+    }
     if let Some(answer) = sure_answer(&position, key.left) {
         return answer;
     }

@@ -21,7 +21,8 @@ pub(crate) struct Move {
     pub(crate) high: Card,
 }
 
-/// A position between two tricks, and the moves that led to it, in order.
+/// A position between two tricks, and the moves that led to it, in order: at most one for each card
+/// of the pack.
 #[derive(Debug, Drop)]
 pub(crate) struct Squeezed {
     pub(crate) key: Key,
@@ -55,23 +56,8 @@ fn before_move(counting: CardSet, step: Move) -> CardSet
 }
 
 impl Squeezed {
-    // Moves a card up to a place that is free, or leaves it where that is its own.
-    fn move_up(&mut self, low: Card, high: Card)
-        requires { array_vec_len self.old.moves < 52 }
-        ensures stays { high ≡ low → self.new ≡ self.old }
-        ensures shape { self.new.key.shape ≡ self.old.key.shape }
-        ensures moves { high ≢ low → self.new.moves.items
-            ≡ self.old.moves.items ++ record { low = low; high = high } ∷ [] }
-        ensures moved { high ≢ low → key_state self.new.key
-            ≡ with_moved low high (key_state self.old.key) }
-    {
-        if high != low {
-            self.key = self.key.moved(low, high);
-            self.moves.push(Move { low, high });
-        }
-    }
-
-    /// The position with its cards moved up, from the highest card of each suit down.
+    /// The position with its cards moved up as far as they go, one after another, from the highest
+    /// card of each suit down. No clause says that no gap is left: an answer doesn't rest on it.
     pub(crate) fn of(first: &Key) -> Squeezed
         requires state { IsState (key_state first.now) }
         requires shape { HasShape first.now }
@@ -82,23 +68,27 @@ impl Squeezed {
     {
         let ours = first.declarer.either(first.dummy);
         let playing = ours.either(first.unseen);
-        let mut squeezed = Squeezed {
-            key: *first,
-            moves: ArrayVec::new(),
-        };
+        let mut key = *first;
+        let mut moves = ArrayVec::new();
         let mut end = 52;
         for number in (0u8..52).rev() {
             let card = Card::from_number(number);
             if playing.has(card) {
                 let place = place_for(card, end);
-                squeezed.move_up(card, place);
                 end = place.number();
+                if place != card {
+                    key = key.moved(card, place);
+                    moves.push(Move {
+                        low: card,
+                        high: place,
+                    });
+                }
             }
         }
-        squeezed
+        Squeezed { key, moves }
     }
 
-    /// An answer for this position as one for that from which the cards moved.
+    /// An answer for this position, as one for the position from which the cards moved.
     pub(crate) fn carried_back(self, answer: &Answer) -> Answer
         requires { IsClosedUp answer.now.counting }
         ensures { (s t : State) → IsState s → AreMovedUp self.moves.items s t

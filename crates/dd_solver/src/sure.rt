@@ -1,5 +1,5 @@
 //! What the sure cards of the side on lead settle.
-ghost use Rattle.std.specs.Prelude.{◌≡◌, ℕ, ◌+◌, ◌<◌, ◌≤◌, true, false, [], length, IsTrue, IfSome};
+ghost use Rattle.std.specs.Prelude.{◌≡◌, ◌≢◌, ℕ, ◌+◌, ◌<◌, ◌≤◌, true, false, [], length, IsTrue, IfSome};
 ghost use Rattle.card_sets.specs.declared.card.Suit.TheVariants.{Spades, Hearts, Diamonds, Clubs};
 ghost use Rattle.card_sets.specs.Cards.{suit_of};
 ghost use Rattle.card_sets.specs.SetWords.{has_card, IsCardSet};
@@ -30,8 +30,8 @@ fn are_enough(position: &Position, sure: u8) -> bool
     }
 }
 
-// The highest so many cards that a hand has of a suit, with all higher ones.
-fn highest_of(hand: CardSet, suit: Suit, many: u8) -> CardSet
+/// The highest so many cards that a hand has of a suit, with all higher ones.
+pub(crate) fn highest_of(hand: CardSet, suit: Suit, many: u8) -> CardSet
     requires { IsCardSet hand }
     ensures closed { IsClosedUp result }
     ensures within { (card : ℕ) → has_card hand card ≡ true → suit_of card ≡ suit
@@ -58,6 +58,73 @@ fn counting_of(hand: CardSet, counts: &Counts) -> CardSet
     let diamonds = highest_of(hand, Suit::Diamonds, counts.diamonds);
     let clubs = highest_of(hand, Suit::Clubs, counts.clubs);
     joined(joined(spades, hearts), joined(diamonds, clubs))
+}
+
+// How many of so many tricks the side on lead can do without.
+fn spare_of(position: &Position, sure: u8) -> u8
+    ensures within { result ≤ sure }
+    ensures ours { is_declarers (to_play position.now) ≡ true → position.now.need ≤ sure
+        → position.now.need + result ≤ sure }
+    ensures theirs { is_declarers (to_play position.now) ≡ false
+        → tricks_left position.now < position.now.need + sure
+        → tricks_left position.now + result < position.now.need + sure }
+{
+    let most = position.tricks_left();
+    if position.is_ours() {
+        return if position.need <= sure { sure - position.need } else { 0 };
+    }
+    if most < position.need {
+        return sure;
+    }
+    let needed = most - position.need;
+    if needed < sure { sure - needed - 1 } else { 0 }
+}
+
+// Sure cards less so many, those of the spades first.
+fn without(counts: &Counts, spare: u8) -> Counts
+    requires { spare ≤ counts.now.spades + counts.now.hearts + counts.now.diamonds
+        + counts.now.clubs }
+    ensures spades { result.spades ≤ counts.now.spades }
+    ensures hearts { result.hearts ≤ counts.now.hearts }
+    ensures diamonds { result.diamonds ≤ counts.now.diamonds }
+    ensures clubs { result.clubs ≤ counts.now.clubs }
+    ensures total { result.spades + result.hearts + result.diamonds + result.clubs + spare
+        ≡ counts.now.spades + counts.now.hearts + counts.now.diamonds + counts.now.clubs }
+{
+    let spades = spare.min(counts.spades);
+    let hearts = (spare - spades).min(counts.hearts);
+    let diamonds = (spare - spades - hearts).min(counts.diamonds);
+    let clubs = spare - spades - hearts - diamonds;
+    Counts {
+        spades: counts.spades - spades,
+        hearts: counts.hearts - hearts,
+        diamonds: counts.diamonds - diamonds,
+        clubs: counts.clubs - clubs,
+    }
+}
+
+// Of the sure cards of the hand on lead as many as are needed where all are enough, at no trump:
+// fewer cards that count make an answer that holds for more positions.
+fn needed_of(position: &Position, own: &Counts) -> Counts
+    requires { own.now.spades + own.now.hearts + own.now.diamonds + own.now.clubs ≤ 52 }
+    ensures spades { result.spades ≤ own.now.spades }
+    ensures hearts { result.hearts ≤ own.now.hearts }
+    ensures diamonds { result.diamonds ≤ own.now.diamonds }
+    ensures clubs { result.clubs ≤ own.now.clubs }
+    ensures all { position.now.trump ≢ NoTrump → result ≡ own.now }
+    ensures ours { is_declarers (to_play position.now) ≡ true
+        → position.now.need ≤ own.now.spades + own.now.hearts + own.now.diamonds + own.now.clubs
+        → position.now.need ≤ result.spades + result.hearts + result.diamonds + result.clubs }
+    ensures theirs { is_declarers (to_play position.now) ≡ false
+        → tricks_left position.now < position.now.need
+        + (own.now.spades + own.now.hearts + own.now.diamonds + own.now.clubs)
+        → tricks_left position.now < position.now.need
+        + (result.spades + result.hearts + result.diamonds + result.clubs) }
+{
+    match position.trump {
+        Trump::NoTrump => without(own, spare_of(position, own.total())),
+        Trump::Suit(_) => *own,
+    }
 }
 
 // The answer where the sure cards of both hands of the side on lead settle it at no trump.
@@ -100,9 +167,10 @@ pub(crate) fn sure_answer(position: &Position, left: CardSet) -> Option<Answer>
 {
     let own = own_counts(position, left);
     if are_enough(position, own.total()) {
+        let needed = needed_of(position, &own);
         return Some(Answer {
             made: position.is_ours(),
-            counting: counting_of(position.hand(position.to_play(), left), &own),
+            counting: counting_of(position.hand(position.to_play(), left), &needed),
         });
     }
     match position.trump {
