@@ -6,10 +6,10 @@ use card_sets::{Card, CardSet, Seat, Suit};
 use trick_rules::{Position, Trump};
 
 /// How many turns to lead are told apart.
-pub(crate) const TURNS: usize = 56;
+pub(crate) const TURNS: usize = 784;
 
-/// A number of a turn to lead, by the seat and the tricks left, from 0: `None` to a trick that has
-/// a card.
+/// A number of a turn to lead, by the seat, the tricks left and the need, from 0: `None` to a trick
+/// that has a card.
 pub(crate) fn turn_of(position: &Position) -> Option<usize> {
     if !position.trick.cards.is_empty() {
         return None;
@@ -20,7 +20,8 @@ pub(crate) fn turn_of(position: &Position) -> Option<usize> {
         Seat::Dummy => 2,
         Seat::Right => 3,
     };
-    Some(usize::from(position.declarer.count()) * 4 + seat)
+    let hand = usize::from(position.declarer.count()) * 4 + seat;
+    Some(hand * 14 + usize::from(position.need))
 }
 
 /// The suit led to a trick, and trumps.
@@ -198,20 +199,32 @@ fn longest_suit(hand: CardSet, cards: CardSet) -> CardSet {
     longest
 }
 
-// At no trump the cards of the longest suit are tried first: of the longest of both hands at a
-// lead, of the hand's own in a trick. With trumps none goes before the others.
-fn of_longest_suit(position: &Position, left: CardSet, cards: CardSet) -> CardSet {
-    if position.trump != Trump::NoTrump {
-        return CardSet::empty();
+// The cards that aren't trumps.
+fn side_cards(trump: Trump, cards: CardSet) -> CardSet {
+    match trump {
+        Trump::NoTrump => cards,
+        Trump::Suit(suit) => cards.minus(cards.of_suit(suit)),
     }
+}
+
+// The leads in suits that go before the others: at no trump the longest suit of both hands, and
+// with trumps those that aren't trumps, once the opponents have no trumps.
+fn early_suits(position: &Position, left: CardSet, cards: CardSet) -> CardSet {
     let seat = position.to_play();
-    let hand = position.hand(seat, left);
-    let held = if position.trick.cards.is_empty() {
-        hand.either(position.hand(seat.next().next(), left))
-    } else {
-        hand
+    let next = seat.next();
+    let partner = next.next();
+    let Trump::Suit(suit) = position.trump else {
+        let hand = position.hand(seat, left);
+        return longest_suit(hand.either(position.hand(partner, left)), cards);
     };
-    longest_suit(held, cards)
+    let opponents = position
+        .hand(next, left)
+        .either(position.hand(partner.next(), left));
+    if opponents.of_suit(suit).is_empty() {
+        side_cards(position.trump, cards)
+    } else {
+        CardSet::empty()
+    }
 }
 
 // Those of some cards that are in another set, or all where there are none.
@@ -223,22 +236,34 @@ fn narrowed(cards: CardSet, part: CardSet) -> CardSet
     if both.is_empty() { cards } else { both }
 }
 
-/// Which of some cards go before the others.
+/// Which of some cards go before the others: the favourite, then those in the first set, and of
+/// these, or of all where none is, those in the second.
 #[derive(Clone, Copy)]
 pub(crate) struct Order {
     favourite: Option<Card>,
-    early: CardSet,
-    long: CardSet,
+    first: CardSet,
+    second: CardSet,
     is_whole: bool,
 }
 
 impl Order {
-    // The order without a favourite.
+    // The order without a favourite: leads by suits and then by what wins the trick, and in a trick
+    // the other way round, where the longest suit that isn't trumps comes first.
     fn of(position: &Position, left: CardSet, cards: CardSet) -> Order {
+        let likely = likely(position, left, cards);
+        let (first, second) = if position.trick.cards.is_empty() {
+            (early_suits(position, left, cards), likely)
+        } else {
+            let hand = position.hand(position.to_play(), left);
+            (
+                likely,
+                longest_suit(hand, side_cards(position.trump, cards)),
+            )
+        };
         Order {
             favourite: None,
-            early: likely(position, left, cards),
-            long: of_longest_suit(position, left, cards),
+            first,
+            second,
             is_whole: true,
         }
     }
@@ -258,8 +283,8 @@ impl Order {
         if begins || cards.count() < 2 {
             Order {
                 favourite,
-                early: CardSet::empty(),
-                long: CardSet::empty(),
+                first: CardSet::empty(),
+                second: CardSet::empty(),
                 is_whole: false,
             }
         } else {
@@ -285,6 +310,6 @@ impl Order {
                 return Some(card);
             }
         }
-        narrowed(narrowed(cards, self.early), self.long).first()
+        narrowed(narrowed(cards, self.first), self.second).first()
     }
 }
