@@ -71,7 +71,11 @@ fn spare_of(position: &Position, sure: u8) -> u8
 {
     let most = position.tricks_left();
     if position.is_ours() {
-        return if position.need <= sure { sure - position.need } else { 0 };
+        return if position.need <= sure {
+            sure - position.need
+        } else {
+            0
+        };
     }
     if most < position.need {
         return sure;

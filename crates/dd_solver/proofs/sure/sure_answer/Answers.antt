@@ -1,4 +1,4 @@
-use Rattle.std.proofs.Common.{◌≡◌, ◌≢◌, ℕ, ◌+◌, ◌<◌, ◌≤◌, true, false, refl, sym, ap, subst, ◌∙◌, arith}
+use Rattle.std.proofs.Common.{◌≡◌, ◌≢◌, ◌+◌, ◌<◌, ◌≤◌, refl, sym, ap, subst, ◌∙◌}
 use Rattle.card_sets.specs.SetWords.{IsCardSet}
 use Rattle.trick_rules.specs.declared.trump.Trump.TheVariants.{NoTrump}
 use Rattle.trick_rules.specs.Positions.{State, to_play, tricks_left}
@@ -35,13 +35,13 @@ returns-then-are_enough c =
           (subst (λ n. tricks_left s.position < s.position.need + n) c.total.ensures (c.are_enough.ensures.theirs c.if-are_enough.true (sym c.is_ours.ensures ∙ h))));
     } in
     let with_trumps : s.position.trump ≢ NoTrump → IsAnswer s (record { made = c.is_ours.result; counting = c.counting_of.result }) = λ e.
-        let count = sure.counts_highest own (sure_of s) is.spades is.hearts is.diamonds is.clubs (hand_of s turn) c.counting_of.result
-            (subst (λ n. AreHighest (hand_of s turn) n c.counting_of.result) (less.all e) highest) in
-        record {
-          closed = c.counting_of.ensures.closed;
-          answers = sure.own_answer s is.state c.counting_of.result c.counting_of.ensures.closed c.requires.between count c.is_ours.result (sym c.is_ours.ensures) c.total.result
-              (sure.counts_total own (sure_of s) is.spades is.hearts is.diamonds is.clubs c.total.result c.total.ensures)
-              (λ h. c.are_enough.ensures.ours c.if-are_enough.true (sym c.is_ours.ensures ∙ h))
-              (λ h. c.are_enough.ensures.theirs c.if-are_enough.true (sym c.is_ours.ensures ∙ h));
-        } in
+    let count = sure.counts_highest own (sure_of s) is.spades is.hearts is.diamonds is.clubs (hand_of s turn) c.counting_of.result
+    (subst (λ n. AreHighest (hand_of s turn) n c.counting_of.result) (less.all e) highest) in
+    record {
+      closed = c.counting_of.ensures.closed;
+      answers = sure.own_answer s is.state c.counting_of.result c.counting_of.ensures.closed c.requires.between count c.is_ours.result (sym c.is_ours.ensures) c.total.result
+          (sure.counts_total own (sure_of s) is.spades is.hearts is.diamonds is.clubs c.total.result c.total.ensures)
+          (λ h. c.are_enough.ensures.ours c.if-are_enough.true (sym c.is_ours.ensures ∙ h))
+          (λ h. c.are_enough.ensures.theirs c.if-are_enough.true (sym c.is_ours.ensures ∙ h));
+    } in
     sure.by_trump s.position.trump (IsAnswer s (record { made = c.is_ours.result; counting = c.counting_of.result })) at_no_trump with_trumps
