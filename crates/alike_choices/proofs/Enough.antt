@@ -104,7 +104,7 @@ module _ (counting : List ℕ) (closed : IsClosedUp counting) (s t : State) (ok 
   answer_below : (n c d : ℕ) → c < n → has_card (legal_in s) c ≡ true → has_card (legal_in t) d ≡ true → IsLike counting c d → makes (after t d) ≡ made
   answer_below zero c d h legal legal' like = absurd (omega arith)
   answer_below (suc n) c d h legal legal' like = elim (enough c legal) as (λ _. makes (after t d) ≡ made) [
-    | inl tried ↦ like_cards_answer counting s t made c d ok ok' a legal legal' like (each c tried legal)
+    | inl tried ↦ like_cards_answer counting s t made c d ok ok' a legal' like (each c tried legal)
     | inr e ↦ elim (cases_Bool (has_card counting c)) as (λ _. makes (after t d) ≡ made) [
       | inl counts ↦
           (let order = e.equal.order in

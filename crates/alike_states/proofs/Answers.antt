@@ -22,7 +22,7 @@ use Rattle.sure_tricks.proofs.Cash.{our_sure_cards_win, their_sure_cards_win}
 use Rattle.sure_tricks.proofs.Together.{our_cards_win_together, their_cards_win_together}
 use Rattle.sure_tricks.proofs.TopTrumps.{our_top_trumps_win, their_top_trumps_win}
 use Rattle.alike_states.specs.Alike.{IsClosedUp, IsLike, AreAlike, HasAnswer, GivesAnswer}
-use Rattle.alike_states.proofs.Likes.{like_suit, like_back, like_less, below_counting, alike_back, alike_on, alike_less, alike_turn, alike_tricks, alike_decided, alike_over}
+use Rattle.alike_states.proofs.Likes.{like_suit, like_back, like_on, like_less, below_counting, alike_back, alike_on, alike_less, alike_turn, alike_tricks, alike_decided, alike_over}
 use Rattle.alike_states.proofs.Cards.{legal_held, like_held, a_like_card_is_legal, alike_after}
 
 -- ---- answers passed on
@@ -41,6 +41,21 @@ more_cards_give_the_answer part counting s card made within g = record {
   part = g.part;
   within = λ c h. within c (g.within c h);
   closed = g.closed;
+  tried = g.tried;
+  legal = g.legal;
+  like = g.like;
+  settles = g.settles;
+  answer = g.answer;
+}
+
+pub like_cards_give_the_answer : (counting : List ℕ) (s : State) (card other : ℕ) (made : Bool) → IsLike counting card other → GivesAnswer counting s card made → GivesAnswer counting s other made
+like_cards_give_the_answer counting s card other made like g = record {
+  part = g.part;
+  within = g.within;
+  closed = g.closed;
+  tried = g.tried;
+  legal = g.legal;
+  like = like_on g.part g.tried card other g.like (like_less g.part counting card other g.within like);
   settles = g.settles;
   answer = g.answer;
 }
@@ -56,24 +71,25 @@ going s c ok legal =
 
 -- a card that is like one which gives an answer comes to that answer
 pub like_cards_answer : (counting : List ℕ) (s t : State) (made : Bool) (c d : ℕ) → IsState s → IsState t → AreAlike counting s t
-    → has_card (legal_in s) c ≡ true → has_card (legal_in t) d ≡ true → IsLike counting c d → GivesAnswer counting s c made → makes (after t d) ≡ made
-like_cards_answer counting s t made c d ok ok' a legal legal' like g =
+    → has_card (legal_in t) d ≡ true → IsLike counting c d → GivesAnswer counting s c made → makes (after t d) ≡ made
+like_cards_answer counting s t made c d ok ok' a legal' like g =
     g.answer (after t d) (after-IsState t ok' d legal')
-    (alike_after g.part g.closed s t ok ok' (alike_less g.part counting s t g.within a) c d legal legal' (like_less g.part counting c d g.within like) g.settles)
+    (alike_after g.part g.closed s t ok ok' (alike_less g.part counting s t g.within a) g.tried d g.legal legal'
+    (like_on g.part g.tried c d g.like (like_less g.part counting c d g.within like)) g.settles)
 
 pub one_card_answers : (counting : List ℕ) (s : State) (c : ℕ) (made : Bool) → IsState s → has_card (legal_in s) c ≡ true → is_declarers (to_play s.position) ≡ made
     → GivesAnswer counting s c made → HasAnswer counting s made
 one_card_answers counting s c made ok legal side g = λ t ok' a.
     let like = a_like_card_is_legal counting s t c ok ok' a legal in
     by_card t made like.0 ok' (going t like.0 ok' like.1) (ap is_declarers (sym (alike_turn counting s t a)) ∙ side) like.1
-    (like_cards_answer counting s t made c like.0 ok ok' a legal like.1 like.2 g)
+    (like_cards_answer counting s t made c like.0 ok ok' a like.1 like.2 g)
 
 pub all_cards_answer : (counting : List ℕ) (s : State) (made : Bool) → IsState s → is_over s.position ≡ false
     → ((c : ℕ) → has_card (legal_in s) c ≡ true → GivesAnswer counting s c made) → HasAnswer counting s made
 all_cards_answer counting s made ok on each = λ t ok' a.
     by_each t made ok' (sym (alike_over counting s t a) ∙ on) (λ d legal'.
     let back = a_like_card_is_legal counting t s d ok' ok (alike_back counting s t a) legal' in
-    like_cards_answer counting s t made back.0 d ok ok' a back.1 legal' (like_back counting d back.0 back.2) (each back.0 back.1))
+    like_cards_answer counting s t made back.0 d ok ok' a legal' (like_back counting d back.0 back.2) (each back.0 back.1))
 
 -- ---- sure cards
 

@@ -6,7 +6,7 @@ use Rattle.card_sets.specs.Cards.{suit_of}
 use Rattle.card_sets.specs.SetWords.{has_card, IsSubset}
 use Rattle.trick_rules.specs.declared.trump.Trump.{Trump}
 use Rattle.trick_rules.specs.Positions.{State, IsState}
-use Rattle.trick_rules.specs.Play.{of_suit, hand_of, after, makes, IsWonBy}
+use Rattle.trick_rules.specs.Play.{of_suit, hand_of, legal_in, after, makes, IsWonBy}
 
 -- with a card each higher card of its suit counts too
 abbrev pub IsClosedUp : List ℕ → Type 0
@@ -53,11 +53,14 @@ SettlesEnd counting s card = length s.position.trick.cards ≡ 3
 abbrev pub HasAnswer : List ℕ → State → Bool → Type 0
 HasAnswer counting s made = (t : State) → IsState t → AreAlike counting s t → makes t ≡ made
 
--- Some of the cards that count are closed up, settle the trick where the card ends it, and answer
--- so after the card.
+-- Some of the cards that count are closed up, and by these a legal card that is like this one
+-- settles the trick, where it ends it, and leads to this answer.
 pub record GivesAnswer (counting : List ℕ) (s : State) (card : ℕ) (made : Bool) : Type 0 where
   pub part : List ℕ
   pub within : IsSubset part counting
   pub closed : IsClosedUp part
-  pub settles : SettlesEnd part s card
-  pub answer : HasAnswer part (after s card) made
+  pub tried : ℕ
+  pub legal : has_card (legal_in s) tried ≡ true
+  pub like : IsLike part tried card
+  pub settles : SettlesEnd part s tried
+  pub answer : HasAnswer part (after s tried) made

@@ -168,9 +168,9 @@ pub fn top_trumps_answer()
         → tricks_left s.position < s.position.need + length top → HasAnswer counting s false }
 {}
 
-/// An answer goes from a state to an alike one, and from some of the cards that count to all; so
-/// does what a card gives.
-#[tactic(auto, using(crate::proofs::Answers::an_alike_state_answers, crate::proofs::Answers::more_cards_answer))]
+/// An answer goes from a state to an alike one, and from some of the cards that count to all. What
+/// a card gives goes from some to all too, and to like cards.
+#[tactic(auto, using(crate::proofs::Answers::an_alike_state_answers, crate::proofs::Answers::more_cards_answer, crate::proofs::Answers::like_cards_give_the_answer))]
 pub fn an_answer_is_passed_on()
     ensures state { (counting : List ℕ) (s t : State) (made : Bool) → AreAlike counting s t
         → HasAnswer counting s made → HasAnswer counting t made }
@@ -179,6 +179,9 @@ pub fn an_answer_is_passed_on()
     ensures card { (part counting : List ℕ) (s : State) (card : ℕ) (made : Bool)
         → IsSubset part counting → GivesAnswer part s card made
         → GivesAnswer counting s card made }
+    ensures like { (counting : List ℕ) (s : State) (card other : ℕ) (made : Bool)
+        → IsLike counting card other → GivesAnswer counting s card made
+        → GivesAnswer counting s other made }
 {}
 
 /// Where the side to play wants the answer that one of its cards gives, that is the answer.

@@ -1,12 +1,12 @@
 -- What cards give the seat to play, one after another.
 use Rattle.std.proofs.Common.{◌≡◌, ℕ, Bool, true, false, not, ◌&&◌, eqb, List, [], refl, sym, ap, subst, ◌∙◌, inl, inr}
-use Rattle.std.proofs.lemmas.Bool.{false≢true, cases_eq, ne_eqb}
+use Rattle.std.proofs.lemmas.Bool.{false≢true, cases_Bool, cases_eq, ne_eqb, and_parts}
 use Rattle.card_sets.specs.SetWords.{has_card, IsSubset}
 use Rattle.trick_rules.specs.Positions.{State, to_play, IsState}
 use Rattle.trick_rules.specs.Play.{after, is_declarers, is_over, legal_in, take_out}
 use Rattle.trick_rules.proofs.CardLists.{has_card-take_out}
-use Rattle.alike_states.specs.Alike.{IsClosedUp, SettlesEnd, HasAnswer, GivesAnswer}
-use Rattle.alike_states.proofs.Answers.{one_card_answers, more_cards_answer, more_cards_give_the_answer}
+use Rattle.alike_states.specs.Alike.{IsClosedUp, IsLike, SettlesEnd, HasAnswer, GivesAnswer}
+use Rattle.alike_states.proofs.Answers.{one_card_answers, more_cards_answer, more_cards_give_the_answer, like_cards_give_the_answer}
 use Rattle.alike_choices.proofs.Enough.{one_of_equals_answers}
 use Rattle.dd_solver.specs.declared.answer.Answer.{Answer}
 use Rattle.dd_solver.specs.Answers.{IsAnswer, IsGiven}
@@ -27,40 +27,40 @@ tried-none s cards counting wanted e = record {
 }
 
 -- what a card gives
-pub given_by : (s : State) (card : ℕ) (made : Bool) (below part : List ℕ) → IsClosedUp part → IsSubset below part → SettlesEnd part s card → HasAnswer below (after s card) made
-    → GivesAnswer part s card made
-given_by s card made below part closed within settles answer = record {
+pub given_by : (s : State) (card : ℕ) (made : Bool) (below part : List ℕ) → has_card (legal_in s) card ≡ true → IsClosedUp part → IsSubset below part → SettlesEnd part s card
+    → HasAnswer below (after s card) made → GivesAnswer part s card made
+given_by s card made below part legal closed within settles answer = record {
   part = part;
   within = λ c h. h;
   closed = closed;
+  tried = card;
+  legal = legal;
+  like = inl refl;
   settles = settles;
   answer = more_cards_answer below part (after s card) made within answer;
 }
 
-pub tried-more : (s : State) (cards rest new counting more part : List ℕ) (wanted : Bool) (card : ℕ) → AreTried s cards rest wanted counting → new ≡ take_out card rest
+-- a card fails, and with it those that are like it
+pub tried-more : (s : State) (cards rest others new counting more part : List ℕ) (wanted : Bool) (card : ℕ) → AreTried s cards rest wanted counting → others ≡ take_out card rest
+    → IsSubset new others → ((c : ℕ) → has_card others c ≡ true → has_card new c ≡ false → IsLike part card c)
     → IsClosedUp more → IsSubset counting more → IsSubset part more → GivesAnswer part s card (not wanted) → AreTried s cards new wanted more
-tried-more s cards rest new counting more part wanted card r e closed old added g = record {
-  part = λ c h. r.part c (rest_has c h);
+tried-more s cards rest others new counting more part wanted card r e within like closed old added g = record {
+  part = λ c h. r.part c ((and_parts (has_card rest c) (not (eqb c card)) (sym (is_other c) ∙ within c h)).0);
   closed = closed;
-  each = λ c h out. elim (cases_eq c card) as (λ _. GivesAnswer more s c (not wanted)) [
-    | inl same ↦ subst (λ x. GivesAnswer more s x (not wanted)) (sym same) (more_cards_give_the_answer part more s card (not wanted) added g)
-    | inr other ↦ more_cards_give_the_answer counting more s c (not wanted) old (r.each c h (was_out c other out))
+  each = λ c h out. elim (cases_Bool (has_card rest c)) as (λ _. GivesAnswer more s c (not wanted)) [
+    | inl was ↦ more_cards_give_the_answer part more s c (not wanted) added (like_cards_give_the_answer part s card c (not wanted) (is_like c was out) g)
+    | inr before ↦ more_cards_give_the_answer counting more s c (not wanted) old (r.each c h before)
   ];
 }
   where
-    rest_has : (c : ℕ) → has_card new c ≡ true → has_card rest c ≡ true
-    rest_has c h = go (has_card rest c) refl (sym (ap (λ l. has_card l c) e ∙ has_card-take_out card rest c) ∙ h)
-      where
-        go : (b : Bool) → has_card rest c ≡ b → (has_card rest c && not (eqb c card)) ≡ true → has_card rest c ≡ true
-        go true k _ = k
-        go false k both = absurd (false≢true (sym (ap (λ x. x && not (eqb c card)) k) ∙ both))
+    is_other : (c : ℕ) → has_card others c ≡ (has_card rest c && not (eqb c card))
+    is_other c = ap (λ l. has_card l c) e ∙ has_card-take_out card rest c
 
-    was_out : (c : ℕ) → (c ≡ card → ⊥) → has_card new c ≡ false → has_card rest c ≡ false
-    was_out c other out = go (has_card rest c) refl
-      where
-        go : (b : Bool) → has_card rest c ≡ b → has_card rest c ≡ false
-        go false k = k
-        go true k = absurd (false≢true (sym out ∙ ap (λ l. has_card l c) e ∙ has_card-take_out card rest c ∙ rw (k, ne_eqb c card other) refl))
+    is_like : (c : ℕ) → has_card rest c ≡ true → has_card new c ≡ false → IsLike part card c
+    is_like c was out = elim (cases_eq c card) as (λ _. IsLike part card c) [
+      | inl same ↦ inl (sym same)
+      | inr other ↦ like c (is_other c ∙ rw (was, ne_eqb c card other) refl) out
+    ]
 
 -- one of the cards gives what is wanted
 pub given-one : (s : State) (cards : List ℕ) (wanted : Bool) (card : ℕ) (answer : Answer) → IsState s → has_card (legal_in s) card ≡ true → is_declarers (to_play s.position) ≡ wanted

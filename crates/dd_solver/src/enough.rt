@@ -1,10 +1,10 @@
-//! Of equal cards only one is tried.
-ghost use Rattle.std.specs.Prelude.{◌≡◌, ℕ, Some, true, IfSome};
+//! Of equal cards only one is tried, and after a card that fails none that is like it.
+ghost use Rattle.std.specs.Prelude.{◌≡◌, ℕ, ◌≤◌, Some, true, false, IfSome, length};
 ghost use Rattle.card_sets.specs.SetWords.{has_card, IsSubset};
 ghost use Rattle.trick_rules.specs.Positions.{IsState};
 ghost use Rattle.trick_rules.specs.Play.{legal_in};
 ghost use Rattle.double_dummy.specs.Equals.{IsNextEqual};
-ghost use Rattle.alike_states.specs.Alike.{IsClosedUp};
+ghost use Rattle.alike_states.specs.Alike.{IsClosedUp, IsLike};
 ghost use Rattle.dd_solver.specs.Closed.{IsClosedDown, AreSpokenFor};
 
 use crate::answer::with_up;
@@ -77,4 +77,17 @@ pub(crate) fn with_lower_equals(position: &Position, left: CardSet, counting: Ca
 {
     let legal = position.legal_in(left);
     closed_down(legal, cards_in_play(position), legal, counting)
+}
+
+/// The cards without those that are like a card: of its suit, where neither counts.
+pub(crate) fn without_like(cards: CardSet, card: Card, counting: CardSet) -> CardSet
+    ensures within { IsSubset result cards }
+    ensures fewer { length result ≤ length cards }
+    ensures like { (other : ℕ) → has_card cards other ≡ true → has_card result other ≡ false
+        → IsLike counting card other }
+{
+    if counting.has(card) {
+        return cards;
+    }
+    cards.minus(cards.of_suit(card.suit()).minus(counting))
 }

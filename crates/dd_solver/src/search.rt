@@ -8,7 +8,7 @@ ghost use Rattle.dd_solver.specs.Keys.{key_state, HasShape};
 ghost use Rattle.dd_solver.specs.Answers.{IsAnswer, IsGiven};
 
 use crate::answer::{Answer, joined, with_winner};
-use crate::enough::{one_of_equals, with_lower_equals};
+use crate::enough::{one_of_equals, with_lower_equals, without_like};
 use crate::key::Key;
 use crate::memo::Memo;
 use crate::order::{Order, turn_of};
@@ -120,6 +120,7 @@ fn best_of(
             };
         }
         counting = joined(counting, part);
+        rest = without_like(rest, card, part);
         order = order.whole(position, left, rest);
     }
     Answer {

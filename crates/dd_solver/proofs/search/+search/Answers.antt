@@ -73,12 +73,15 @@ best_of-returns-then-there-ours t c =
     let part = c.with_winner-part.result in
     let got : HasAnswer there.counting (after s card) there.made = rw (c.play-after.ensures.value, c.without.ensures.value) at c.search-there.ensures.answer.answers in
     let wins : HasAnswer there.counting (after s card) ours = subst (λ b. HasAnswer there.counting (after s card) b) (same_answer there.made ours c.if-there-ours.true) got in
-    given-one s c.args.cards ours card (record { made = ours; counting = part }) c.requires.state (c.requires.legal card (c.loop-card.invariant.part card c.in-Some.ensures)) c.requires.turn refl
+    let legal = c.requires.legal card (c.loop-card.invariant.part card c.in-Some.ensures) in
+    given-one s c.args.cards ours card (record { made = ours; counting = part }) c.requires.state legal c.requires.turn refl
     c.with_winner-part.ensures.closed
-    (given_by s card ours there.counting part c.with_winner-part.ensures.closed c.with_winner-part.ensures.within (c.with_winner-part.ensures.settles c.args.left) wins)
+    (given_by s card ours there.counting part legal c.with_winner-part.ensures.closed c.with_winner-part.ensures.within (c.with_winner-part.ensures.settles c.args.left) wins)
 
 pub best_of-loop-card-smaller : goal.best_of-loop-card-smaller
-best_of-loop-card-smaller t c = omega (arith, shorter c.in-Some.card c.loop-card.rest c.in-Some.ensures, ap (length {A = ℕ}) c.without-rest.ensures.value)
+best_of-loop-card-smaller t c =
+    let fewer = c.without_like-rest.ensures.fewer in
+    omega (arith, shorter c.in-Some.card c.loop-card.rest c.in-Some.ensures, ap (length {A = ℕ}) c.without-rest.ensures.value)
 
 pub best_of-loop-card-preserved : goal.best_of-loop-card-preserved
 best_of-loop-card-preserved t c =
@@ -89,6 +92,8 @@ best_of-loop-card-preserved t c =
     let part = c.with_winner-part.result in
     let got : HasAnswer there.counting (after s card) there.made = rw (c.play-after.ensures.value, c.without.ensures.value) at c.search-there.ensures.answer.answers in
     let fails : HasAnswer there.counting (after s card) (not ours) = subst (λ b. HasAnswer there.counting (after s card) b) (other_answer there.made ours c.if-there-ours.false) got in
-    tried-more s c.args.cards c.loop-card.rest c.without-rest.result c.loop-card.counting c.joined-counting.result part ours card c.loop-card.invariant c.without-rest.ensures.value
+    let legal = c.requires.legal card (c.loop-card.invariant.part card c.in-Some.ensures) in
+    tried-more s c.args.cards c.loop-card.rest c.without-rest.result c.without_like-rest.result c.loop-card.counting c.joined-counting.result part ours card c.loop-card.invariant
+    c.without-rest.ensures.value c.without_like-rest.ensures.within c.without_like-rest.ensures.like
     c.joined-counting.ensures.closed c.joined-counting.ensures.first_within c.joined-counting.ensures.second_within
-    (given_by s card (not ours) there.counting part c.with_winner-part.ensures.closed c.with_winner-part.ensures.within (c.with_winner-part.ensures.settles c.args.left) fails)
+    (given_by s card (not ours) there.counting part legal c.with_winner-part.ensures.closed c.with_winner-part.ensures.within (c.with_winner-part.ensures.settles c.args.left) fails)
