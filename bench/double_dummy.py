@@ -54,15 +54,15 @@ def agree(tricks, endings, one, other):
 
 
 def agreement(dds):
-    """The solver beside plain minimax on 10,000 endings, and beside DDS on 1,000 longer ones."""
+    """The solver beside plain minimax on 10,000 endings, and beside DDS on 1,000 longer ones: each need, after 0 to 7 random cards."""
     for tricks in (3, 4, 5):
-        agree(tricks, 3334, ours("need", tricks, "any"), ours("plain", tricks, "any"))
-    print("10,002 endings of 3 to 5 tricks: the solver and plain minimax agree", flush=True)
+        agree(tricks, 3334, ours("needs", tricks, "any"), ours("plain-needs", tricks, "any"))
+    print("10,002 endings of 3 to 5 tricks, each need after 0 to 7 cards: the solver and plain minimax agree", flush=True)
     for tricks in range(6, 14) if dds else ():
-        agree(tricks, 63, ours("need", tricks, "suit"), theirs("dds", tricks, "suit"))
-        agree(tricks, 63, ours("need", tricks, "notrump"), theirs("dds", tricks, "notrump"))
+        for strain in STRAINS:
+            agree(tricks, 63, ours("needs", tricks, strain), theirs("needs", tricks, strain))
     if dds:
-        print("1,008 endings of 6 to 13 tricks: the solver and DDS agree", flush=True)
+        print("1,008 endings of 6 to 13 tricks, each need after 0 to 7 cards: the solver and DDS agree", flush=True)
 
 
 def each(program, tricks, strain, least, answers):

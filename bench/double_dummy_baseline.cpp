@@ -1,6 +1,7 @@
 // The work of the crate bench_double_dummy in C++: double dummy on the same random endings.
-// usage: double_dummy_baseline plain|memo|dds|tricks|sampling TRICKS FIRST ENDINGS [notrump|suit]: the endings from the one with the number FIRST on
-// tricks and sampling ask DDS: for the tricks of declarer's side, and for all cards in each of 20 layouts
+// usage: double_dummy_baseline plain|memo|dds|needs|tricks|sampling TRICKS FIRST ENDINGS [notrump|suit]: the endings from the one with the number FIRST on
+// needs, tricks and sampling ask DDS: for the needs that declarer's side takes after 0 to 7 random cards, as bits, for its tricks, and for all
+// cards in each of 20 layouts
 // dds asks Bo Haglund's double dummy solver (Debian's libdds-dev): build with -DWITH_DDS and -ldds
 #include <cstdint>
 #include <cstdio>
@@ -64,6 +65,7 @@ static deal dds_deal(const Pos &p) {
     d.first = p.leader;
     for (int seat = 0; seat < 4; seat++)
         for (int suit = 0; suit < 4; suit++) d.remainCards[seat][suit] = (unsigned)((p.hand[seat] >> (13 * suit)) & 0x1fff) << 2;
+    for (int i = 0; i < p.n; i++) d.currentTrickSuit[i] = p.trick[i] / 13, d.currentTrickRank[i] = p.trick[i] % 13 + 2;
     return d;
 }
 static futureTricks ask(const Pos &p, int target, int solutions) {
@@ -83,6 +85,32 @@ static void random_hand(u64 &hand, u64 &used, int tricks) {
         u64 bit = 1ull << draw(52);
         if (!(used & bit)) used |= bit, hand |= bit;
     }
+}
+static u64 legal_cards(const Pos &p, int seat) {
+    u64 follow = p.n ? p.hand[seat] & suit_mask(p.trick[0] / 13) : 0;
+    return follow ? follow : p.hand[seat];
+}
+static void play(Pos &p, int seat, int card) {
+    p.hand[seat] &= ~(1ull << card);
+    p.trick[p.n++] = card;
+    if (p.n == 4) p.leader = winner(p), p.n = 0;
+}
+// the needs that are made after some random cards, as bits
+static long needs_made(Pos p, int tricks) {
+    int numbers[7], played = (int)draw(8), won = 0;
+    for (int &number : numbers) number = (int)draw(13);
+    for (int i = 0; i < played; i++) {
+        int seat = (p.leader + p.n) & 3;
+        u64 legal = legal_cards(p, seat);
+        for (int skip = numbers[i] % __builtin_popcountll(legal); skip; skip--) legal &= legal - 1;
+        play(p, seat, __builtin_ctzll(legal));
+        won += p.n == 0 && !(p.leader & 1);
+    }
+    int seat = (p.leader + p.n) & 3, taken = ask(p, -1, 1).score[0];
+    int total = won + (seat & 1 ? __builtin_popcountll(p.hand[seat]) - taken : taken);
+    long needs = 0;
+    for (int need = 1; need <= tricks; need++) needs |= (long)(need <= total) << need;
+    return needs;
 }
 // how many of declarer's cards keep the tricks of the first of 20 layouts, summed over the layouts
 static long sampled(const Pos &first, int tricks) {
@@ -126,6 +154,7 @@ int main(int argc, char **argv) {
         if (i < first) continue;
         memo.clear();
         long answer = !strcmp(argv[1], "sampling") ? sampled(p, tricks)
+            : !strcmp(argv[1], "needs") ? needs_made(p, tricks)
             : !strcmp(argv[1], "tricks") ? ask(p, -1, 1).score[0]
             : use_dds ? makes_dds(p) : makes(p);
         answers = answers * 31 + (u64)answer;

@@ -1,4 +1,6 @@
 //! Random endings, the same as those of the program in C++.
+ghost use Rattle.std.specs.Prelude.{◌≤◌};
+
 use card_sets::{Card, CardSet, Seat, Suit};
 use dd_solver::Solver;
 use double_dummy::makes_plain;
@@ -20,6 +22,10 @@ pub enum Question {
     Need,
     /// The same of plain minimax.
     Plain,
+    /// Which needs declarer's side takes after some random cards, from none to seven.
+    Needs,
+    /// The same of plain minimax.
+    PlainNeeds,
     /// How many tricks declarer's side takes.
     Tricks,
     /// How many of declarer's cards keep the tricks of the first of 20 layouts, summed over the
@@ -37,6 +43,9 @@ pub struct Workload {
 
 /// How many layouts are sampled.
 const LAYOUTS: usize = 20;
+
+/// The most cards that are played before needs are asked of.
+const MOST_PLAYED: usize = 7;
 
 /// The cards of an ending in which declarer leads.
 #[derive(Drop)]
@@ -105,6 +114,39 @@ impl Ending {
         made
     }
 
+    // The position after a card for each of these numbers, which say which legal card it is, and
+    // Left's hand there.
+    fn played(&self, left: CardSet, need: u8, numbers: &[u8]) -> Option<(Position, CardSet)> {
+        let mut position = self.position(need)?;
+        let mut rest = left;
+        for number in numbers {
+            let card = card_at(position.legal_in(rest), *number)?;
+            if !position.held_by(position.to_play()).has(card) {
+                return None;
+            }
+            position = play(&position, card);
+            rest = rest.without(card);
+        }
+        Some((position, rest))
+    }
+
+    // The needs that are made after some cards, as bits from the lowest on.
+    fn needs(&self, solver: &mut Solver, left: CardSet, numbers: &[u8], plain: bool) -> u64 {
+        let mut needs: u64 = 0;
+        for need in 1..=self.declarer.count().min(13) {
+            if let Some((position, rest)) = self.played(left, need, numbers) {
+                let made = position.fits(rest)
+                    && if plain {
+                        makes_plain(&position, rest)
+                    } else {
+                        solver.makes(&position, rest)
+                    };
+                needs |= u64::from(made) << need;
+            }
+        }
+        needs
+    }
+
     // How many cards keep the tricks of the first layout, summed over the layouts. As in `fusion`
     // each layout has a solver of its own.
     fn sampled(&self, alloc: Global, lefts: &[CardSet; LAYOUTS]) -> u64 {
@@ -115,6 +157,15 @@ impl Ending {
         }
         made
     }
+}
+
+// The card of a set at a place that a number says, counted round.
+fn card_at(cards: CardSet, number: u8) -> Option<Card> {
+    let mut rest = cards;
+    for _ in 0..number % cards.count().max(1) {
+        let _ = rest.pop_first();
+    }
+    rest.first()
 }
 
 /// Numbers that follow one another without an order that shows.
@@ -168,6 +219,18 @@ impl Draws {
         hand
     }
 
+    // From none to seven numbers of cards, and how many there are.
+    fn numbers(&mut self) -> ([u8; MOST_PLAYED], usize)
+        ensures { result.1 ≤ 7 }
+    {
+        let mut numbers = [0; MOST_PLAYED];
+        let played = self.next(8) as usize % 8;
+        for place in 0..MOST_PLAYED {
+            numbers[place] = (self.next(13) % 13) as u8;
+        }
+        (numbers, played.min(MOST_PLAYED))
+    }
+
     // Left's hands in so many layouts, the first of them given.
     fn lefts(&mut self, unseen: CardSet, first: CardSet) -> [CardSet; LAYOUTS] {
         let mut lefts = [first; LAYOUTS];
@@ -203,6 +266,11 @@ impl Draws {
         match work.question {
             Question::Need => u64::from(ending.makes(&mut solver, left, need)),
             Question::Plain => u64::from(ending.makes_plain(left, need)),
+            Question::Needs | Question::PlainNeeds => {
+                let plain = matches!(work.question, Question::PlainNeeds);
+                let (numbers, played) = self.numbers();
+                ending.needs(&mut solver, left, &numbers[..played], plain)
+            }
             Question::Tricks => u64::from(ending.tricks(&mut solver, left)),
             Question::Sampling => {
                 let lefts = self.lefts(ending.unseen, left);

@@ -11,9 +11,9 @@ use endings::{Question, Strain, Workload, answers_of};
 use std::env;
 
 /// The arguments: how many tricks an ending has, how many endings are passed over, and how many are
-/// answered. Then, in any order, `plain` for plain minimax in place of the solver, `tricks` or
-/// `sampling` for another question, and `notrump` or `suit` for endings without or with trumps
-/// alone. Other words say nothing.
+/// answered. Then, in any order, `plain` for plain minimax in place of the solver, `needs`,
+/// `plain-needs`, `tricks` or `sampling` for another question, and `notrump` or `suit` for endings
+/// without or with trumps alone. Other words say nothing.
 fn main(rt: HostRuntime) -> anyhow::Result<()> {
     let mut numbers = [0u64; 3];
     let mut question = Question::Need;
@@ -24,6 +24,10 @@ fn main(rt: HostRuntime) -> anyhow::Result<()> {
             numbers[place] = text.parse()?;
         } else if text == "plain" {
             question = Question::Plain;
+        } else if text == "needs" {
+            question = Question::Needs;
+        } else if text == "plain-needs" {
+            question = Question::PlainNeeds;
         } else if text == "tricks" {
             question = Question::Tricks;
         } else if text == "sampling" {
