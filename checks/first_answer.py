@@ -20,11 +20,10 @@ import cases
 PROVED = os.path.join(cases.TOP, "crates", "alphamu", "out", "alphamu")
 # Each job and each exit status that a case has, in runs that are quick.
 SAMPLE = """
-    no-words words-that-are-no-text words-with-blanks-in-names queen-two-ways weights-turn-the-order fusion
-    list-of-an-ending made-of-0 check-a-good-report check-card-exchanged prove-two-moves audit-two-moves deal-file-not-there
-    deal-no-text layouts-none-left fusion-defender-to-play nodes-too-few output-that-takes-nothing deal-file-too-long
-    check-report-cut-off list-of-too-many match-no-such-layout audit-log-without-end audit-card-left-out
-    boards boards-nodes-spent boards-of-65-games
+    no-words words-that-are-no-text words-with-blanks-in-names queen-two-ways made-of-0 prove-two-moves check-card-exchanged
+    deal-file-not-there deal-no-text layouts-none-left fusion-defender-to-play nodes-too-few output-that-takes-nothing
+    deal-file-too-long check-report-cut-off list-of-too-many match-no-such-layout audit-log-without-end audit-card-left-out
+    boards-nodes-spent boards-of-65-games
 """.split()
 # Where the system gives the program no words, nothing is run.
 NO_WORDS = 64
