@@ -1,10 +1,9 @@
 //! Workers beside each other, as a gate sees them.
 ghost use Rattle.std.specs.Prelude.{◌≤◌};
 
-use super::weights::AFTER_TWO_CARDS;
-use super::{QUEEN, QUEEN_LAYOUTS, ran, ran_at, shelf_of};
-use crate::Status;
+use crate::queen::{QUEEN, QUEEN_LAYOUTS, ran, ran_at, shelf_of};
 use am_outside::Gate;
+use am_top::Status;
 use card_sets::{Card, Rank, Suit};
 use std::alloc::Global;
 use std::process::Abort;
@@ -101,6 +100,10 @@ const CUT_WORDS: [&str; 2] = [
     "--job solve --deal deal --layouts layouts --moves 2 --workers ",
     "--job solve --deal deal --layouts layouts --moves 2 --no-table --workers ",
 ];
+
+// South chooses after the seven.
+const AFTER_TWO_CARDS: &str =
+    "[Deal \"N:32... - KJ... -\"]\n[Declarer \"S\"]\n[Contract \"1NT\"]\n[EndNeed \"1\"]\n[EndLead \"N\"]\n[Play \"N\"]\nS2 S7 - -\n*\n";
 
 // So many workers at a gate write what one writes, and the gate sees both cards.
 fn assert_same<R: Threads + Sync + Abort>(
