@@ -9,6 +9,3 @@ mod program;
 
 pub use am_answer::{FileWord, PbnKind, Place, Status};
 pub use program::run;
-
-#[cfg(test)]
-mod tests;

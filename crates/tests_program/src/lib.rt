@@ -1,0 +1,16 @@
+//! Tests of the whole program as one call, over files, sinks and gates in memory: what no case of
+//! `cases/` can show.
+//! It stands on the call that the program makes, and nothing stands on it.
+//! It has no function, so it promises nothing: what its tests expect was worked out by hand.
+#![tactic(auto)]
+
+#[cfg(test)]
+mod boards;
+#[cfg(test)]
+mod failures;
+#[cfg(test)]
+mod matches;
+#[cfg(test)]
+mod queen;
+#[cfg(test)]
+mod workers;

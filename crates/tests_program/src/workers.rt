@@ -1,0 +1,174 @@
+//! Workers beside each other, as a gate sees them.
+ghost use Rattle.std.specs.Prelude.{◌≤◌};
+
+use crate::queen::{QUEEN, QUEEN_LAYOUTS, ran, ran_at, shelf_of};
+use am_outside::Gate;
+use am_top::Status;
+use card_sets::{Card, Rank, Suit};
+use std::alloc::Global;
+use std::process::Abort;
+use std::sync::atomic::{AtomicBool, AtomicU32, Ordering};
+use std::test::Fail;
+use std::thread::{self, Threads};
+
+// How often a gate looks before it gives up.
+const TURNS: u32 = 20_000_000;
+
+// Lets each of two cards enter so many times. Then it holds the first until the second was left once
+// more; or each until the other was entered. It notes where it gave up.
+#[derive(Drop)]
+struct Holding {
+    first: Card,
+    second: Card,
+    free: u32,
+    until_left: bool,
+    first_entered: AtomicU32,
+    second_entered: AtomicU32,
+    second_left: AtomicU32,
+    failed: AtomicBool,
+}
+
+impl Holding {
+    fn new(first: Card, second: Card, free: u32, until_left: bool) -> Holding {
+        Holding {
+            first,
+            second,
+            free,
+            until_left,
+            first_entered: AtomicU32::new(0),
+            second_entered: AtomicU32::new(0),
+            second_left: AtomicU32::new(0),
+            failed: AtomicBool::new(false),
+        }
+    }
+
+    fn wait_for(&self, seen: &AtomicU32) {
+        for _ in 0..TURNS {
+            if seen.load(Ordering::SeqCst) > self.free {
+                return;
+            }
+            thread::yield_now();
+        }
+        self.failed.store(true, Ordering::SeqCst);
+    }
+
+    // Whether both cards were entered once more than freely, the second was left, and nobody waited
+    // in vain.
+    fn saw_both(&self) -> bool {
+        self.first_entered.load(Ordering::SeqCst) > self.free
+            && self.second_entered.load(Ordering::SeqCst) > self.free
+            && self.second_left.load(Ordering::SeqCst) > self.free
+            && !self.failed.load(Ordering::SeqCst)
+    }
+}
+
+impl Gate for Holding {
+    fn enter(&self, _worker: u32, card: Card) {
+        if card == self.first && self.first_entered.fetch_add(1, Ordering::SeqCst) >= self.free {
+            if self.until_left {
+                self.wait_for(&self.second_left);
+            } else {
+                self.wait_for(&self.second_entered);
+            }
+        }
+        if card == self.second && self.second_entered.fetch_add(1, Ordering::SeqCst) >= self.free {
+            if !self.until_left {
+                self.wait_for(&self.first_entered);
+            }
+        }
+    }
+
+    fn leave(&self, _worker: u32, card: Card) {
+        if card == self.second {
+            self.second_left.fetch_add(1, Ordering::SeqCst);
+        }
+    }
+}
+
+fn spade(rank: u8) -> Card
+    requires low { 2 ≤ rank }
+    requires high { rank ≤ 14 }
+{
+    Card::new(Suit::Spades, Rank::new(rank))
+}
+
+const PLAIN_WORDS: &str =
+    "--job solve --deal deal --layouts layouts --moves 2 --no-cuts --workers ";
+
+// With cuts, over a table and over none.
+const CUT_WORDS: [&str; 2] = [
+    "--job solve --deal deal --layouts layouts --moves 2 --workers ",
+    "--job solve --deal deal --layouts layouts --moves 2 --no-table --workers ",
+];
+
+// South chooses after the seven.
+const AFTER_TWO_CARDS: &str =
+    "[Deal \"N:32... - KJ... -\"]\n[Declarer \"S\"]\n[Contract \"1NT\"]\n[EndNeed \"1\"]\n[EndLead \"N\"]\n[Play \"N\"]\nS2 S7 - -\n*\n";
+
+// So many workers at a gate write what one writes, and the gate sees both cards.
+fn assert_same<R: Threads + Sync + Abort>(
+    rt: &R,
+    alloc: Global,
+    words: &str,
+    workers: &str,
+    deal: &str,
+    gate: &Holding,
+) -> Result<(), Fail> {
+    let one = ran(
+        rt,
+        alloc,
+        &format!(in alloc; "{words}1")?,
+        deal,
+        QUEEN_LAYOUTS,
+    )?;
+    let mut shelf = shelf_of(alloc, deal, QUEEN_LAYOUTS)?;
+    let many = ran_at(
+        rt,
+        alloc,
+        &format!(in alloc; "{words}{workers}")?,
+        &mut shelf,
+        gate,
+    )?;
+    assert!(rt;
+        one.status == Status::Done && many.status == Status::Done,
+        "{}",
+        words
+    );
+    assert_eq!(rt; many.out.bytes(), one.out.bytes());
+    assert!(rt; gate.saw_both(), "{}", words);
+    Ok(())
+}
+
+#[test]
+fn the_card_that_ends_first_is_not_the_first(rt: HostRuntime) -> Result<(), Fail> {
+    let gate = Holding::new(spade(2), spade(3), 0, true);
+    assert_same(&rt, rt.alloc(), PLAIN_WORDS, "4", QUEEN, &gate)
+}
+
+// With one move one worker finds that the jack wins one layout and the king the other. So with two
+// moves two workers search them.
+#[test]
+fn with_cuts_they_share_what_won_with_a_move_less(rt: HostRuntime) -> Result<(), Fail> {
+    for words in &CUT_WORDS {
+        let gate = Holding::new(spade(11), spade(13), 1, true);
+        assert_same(&rt, rt.alloc(), words, "4", AFTER_TWO_CARDS, &gate)?;
+    }
+    Ok(())
+}
+
+#[test]
+fn two_workers_are_beside_each_other(rt: HostRuntime) -> Result<(), Fail> {
+    let gate = Holding::new(spade(2), spade(3), 0, false);
+    assert_same(&rt, rt.alloc(), PLAIN_WORDS, "2", QUEEN, &gate)?;
+    let gate = Holding::new(spade(11), spade(13), 1, false);
+    assert_same(&rt, rt.alloc(), CUT_WORDS[0], "2", AFTER_TWO_CARDS, &gate)
+}
+
+#[test]
+fn four_workers_make_what_one_makes(rt: HostRuntime) -> Result<(), Fail> {
+    let one = ran(&rt, rt.alloc(), "--job made --number 0 --workers 1", "", "")?;
+    let four = ran(&rt, rt.alloc(), "--job made --number 0 --workers 4", "", "")?;
+    assert!(rt; one.status == Status::Done && four.status == Status::Done);
+    assert_eq!(rt; four.out.bytes(), one.out.bytes());
+    Ok(())
+}
