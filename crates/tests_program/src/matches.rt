@@ -1,9 +1,9 @@
 //! What the defenders at the table have heard of a match. The cards were worked out by the laws of
 //! bridge, apart from the program.
-use crate::queen::{QUEEN, QUEEN_LAYOUTS, shelf_of, words_of};
-use am_match::{Defender, HighCard, LowCard};
+use crate::queen::{QUEEN, QUEEN_LAYOUTS, ended, shelf_of, words_of};
+use am_match::Defender;
 use am_outside::{MemorySink, OpenGate};
-use am_top::{Status, run};
+use am_top::Status;
 use card_sets::{Card, Rank, Suit};
 use std::process::Abort;
 use std::test::Fail;
@@ -26,10 +26,6 @@ fn assert_heard(rt: &impl Abort, defender: &Box<dyn Defender>) {
 #[test]
 fn both_who_sit_have_heard_the_cards(rt: HostRuntime) -> Result<(), Fail> {
     let alloc = rt.alloc();
-    let mut table: Vec<Box<dyn Defender>> = Vec::new(alloc);
-    table.push(Box::new(alloc, LowCard::new())?)?;
-    table.push(Box::new(alloc, LowCard::new())?)?;
-    table.push(Box::new(alloc, HighCard::new())?)?;
     let words = words_of(
         alloc,
         "--job match --deal deal --layouts layouts --moves 2 --layout 2 --switch 4",
@@ -37,9 +33,9 @@ fn both_who_sit_have_heard_the_cards(rt: HostRuntime) -> Result<(), Fail> {
     let mut shelf = shelf_of(alloc, QUEEN, QUEEN_LAYOUTS)?;
     let mut out = MemorySink::new(alloc, 1000, 0)?;
     let mut err = MemorySink::new(alloc, 100, 0)?;
-    let status = run(
-        &rt, alloc, &words, &mut shelf, &mut out, &mut err, &OpenGate, &mut table,
-    );
+    let (status, table) = ended(
+        &rt, alloc, &words, &mut shelf, &mut out, &mut err, &OpenGate,
+    )?;
     assert!(rt; status == Status::Done && table.len() == 2);
     assert_heard(&rt, &table[0]);
     assert_heard(&rt, &table[1]);

@@ -83,7 +83,27 @@ pub fn ran_at<R: Threads + Sync, G: Gate>(
     Ok(Run { status, out, err })
 }
 
-/// How the words end at a table of two defenders who play low and a third who plays high.
+/// How the words end, and who then sits at a table of two defenders who play low and a third who
+/// plays high.
+/// No clause, as at `Run::ends_with`.
+pub fn ended<R: Threads + Sync, G: Gate>(
+    rt: &R,
+    alloc: Global,
+    words: &[String],
+    shelf: &mut MemoryShelf,
+    out: &mut MemorySink,
+    err: &mut MemorySink,
+    gate: &G,
+) -> Result<(Status, Vec<Box<dyn Defender>>), AllocError> {
+    let mut table: Vec<Box<dyn Defender>> = Vec::new(alloc);
+    table.push(Box::new(alloc, LowCard::new())?)?;
+    table.push(Box::new(alloc, LowCard::new())?)?;
+    table.push(Box::new(alloc, HighCard::new())?)?;
+    let status = run(rt, alloc, words, shelf, out, err, gate, &mut table);
+    Ok((status, table))
+}
+
+/// How the words end at such a table.
 /// No clause, as at `Run::ends_with`.
 pub fn status_of<R: Threads + Sync, G: Gate>(
     rt: &R,
@@ -94,11 +114,8 @@ pub fn status_of<R: Threads + Sync, G: Gate>(
     err: &mut MemorySink,
     gate: &G,
 ) -> Result<Status, AllocError> {
-    let mut table: Vec<Box<dyn Defender>> = Vec::new(alloc);
-    table.push(Box::new(alloc, LowCard::new())?)?;
-    table.push(Box::new(alloc, LowCard::new())?)?;
-    table.push(Box::new(alloc, HighCard::new())?)?;
-    Ok(run(rt, alloc, words, shelf, out, err, gate, &mut table))
+    let (status, _) = ended(rt, alloc, words, shelf, out, err, gate)?;
+    Ok(status)
 }
 
 #[test]
