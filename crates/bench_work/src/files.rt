@@ -32,7 +32,10 @@ pub fn read_ending<R: Files>(
     let deal = text_of(&mut shelf, alloc, deal);
     let layouts = text_of(&mut shelf, alloc, layouts);
     match read_root(alloc, &deal, &layouts) {
-        Ok(root) => Ok(root.kept.node),
+        Ok(root) => {
+            let kept = root.kept;
+            Ok(kept.node)
+        }
         Err(_) => anyhow::bail!("no card to choose in these files"),
     }
 }
