@@ -10,7 +10,7 @@ with fronts of 5 to about 100 vectors at three moves. A question that takes the 
 
 Of the search alone, from the root, it counts the nodes that are entered at three moves with cuts and a store and with neither.
 
-Usage: bench/cuts.py [MOVES], the most moves (default 6). It builds the counter first; the program must be built: ./build."""
+Usage: bench/cuts.py [MOVES], the most moves (default 6). It builds the workloads first; the program must be built: ./build."""
 import math
 import pathlib
 import subprocess
@@ -18,13 +18,11 @@ import sys
 import tempfile
 
 from search import random_ending
-from timing import processor_seconds
+from timing import WORKLOADS, build_workloads, processor_seconds
 
 HERE = pathlib.Path(__file__).resolve().parent
 PROGRAM = HERE.parent / "crates" / "alphamu" / "out" / "alphamu"
 THEIRS = HERE / "build" / "cuts_baseline"
-COUNTING = HERE.parent / "crates" / "bench_search"
-COUNTER = COUNTING / "out" / "bench_search"
 LIMIT = 10
 # Tricks, layouts, seed and need of endings with wide fronts.
 WIDE = [(5, 20, 69, 3), (5, 20, 196, 2), (5, 64, 52, 2), (5, 64, 45, 3), (6, 20, 41, 4), (6, 20, 25, 3), (6, 64, 25, 3),
@@ -70,7 +68,7 @@ def nodes_of(ending, folder, kind, moves=3):
     deal, layouts = folder / "deal.pbn", folder / "layouts.lay"
     deal.write_text(ending.deal)
     layouts.write_text(ending.layouts)
-    return int(processor_seconds([COUNTER, deal, layouts, moves, kind])[1].split()[0])
+    return int(processor_seconds([WORKLOADS, "search", deal, layouts, moves, kind])[1].split()[0])
 
 
 def print_nodes(folder):
@@ -93,7 +91,7 @@ def main():
     most = int(sys.argv[1]) if len(sys.argv) > 1 else 6
     THEIRS.parent.mkdir(exist_ok=True)
     subprocess.run(["g++", "-O2", "-o", THEIRS, HERE / "cuts_baseline.cpp"], check=True)
-    subprocess.run(["rt", "run"], cwd=COUNTING, check=True, stdout=subprocess.DEVNULL, stderr=subprocess.DEVNULL)
+    build_workloads()
     print("seconds of the processor; solve and card as multiples of C++")
     print("ending                  layouts moves front      C++    solve     card")
     by_moves = {moves: [] for moves in range(1, most + 1)}

@@ -9,11 +9,10 @@ import statistics
 import subprocess
 import sys
 
-from timing import processor_seconds
+from timing import WORKLOADS, build_workloads, processor_seconds
 
 HERE = pathlib.Path(__file__).resolve().parent
-CRATE = HERE.parent / "crates" / "bench_double_dummy"
-OURS = CRATE / "out" / "bench_double_dummy"
+OURS = [WORKLOADS, "double_dummy"]
 THEIRS = HERE / "build" / "double_dummy_baseline"
 STRAINS = ("notrump", "suit")
 PLAIN_TRICKS = 6  # plain minimax takes too long beyond
@@ -26,12 +25,12 @@ def build():
     dds = subprocess.run(words + ["-DWITH_DDS", "-ldds"], stderr=subprocess.DEVNULL).returncode == 0
     if not dds:
         subprocess.run(words, check=True)
-    subprocess.run(["rt", "run"], cwd=CRATE, check=True, stdout=subprocess.DEVNULL, stderr=subprocess.DEVNULL)
+    build_workloads()
     return dds
 
 
 def ours(question, tricks, strain):
-    return lambda first, endings: [OURS, tricks, first, endings, question, strain]
+    return lambda first, endings: [*OURS, tricks, first, endings, question, strain]
 
 
 def theirs(who, tricks, strain):

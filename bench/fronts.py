@@ -7,18 +7,18 @@ import pathlib
 import subprocess
 import sys
 
-from timing import processor_seconds
+from timing import WORKLOADS, build_workloads, processor_seconds
 
 HERE = pathlib.Path(__file__).resolve().parent
-CRATE = HERE.parent / "crates" / "bench_fronts"
-OURS = CRATE / "out" / "bench_fronts"
-THEIRS = HERE / "build" / "fronts_baseline"
+BASELINE = HERE / "build" / "fronts_baseline"
+OURS = [WORKLOADS, "fronts"]
+THEIRS = [BASELINE]
 # kind, vectors of a front, what one round does
 WORK = [("inserts", 1, 3), ("inserts", 8, 24), ("inserts", 64, 192), ("joins", 8, 1)]
 
 
 def seconds(program, kind, size, rounds):
-    return processor_seconds([program, kind, size, rounds])
+    return processor_seconds([*program, kind, size, rounds])
 
 
 def rounds_of(kind, size, least):
@@ -30,9 +30,9 @@ def rounds_of(kind, size, least):
 
 def main():
     least = float(sys.argv[1]) if len(sys.argv) > 1 else 0.5
-    THEIRS.parent.mkdir(exist_ok=True)
-    subprocess.run(["g++", "-O2", "-march=x86-64-v2", "-o", THEIRS, HERE / "fronts_baseline.cpp"], check=True)
-    subprocess.run(["rt", "run"], cwd=CRATE, check=True, stdout=subprocess.DEVNULL, stderr=subprocess.DEVNULL)
+    BASELINE.parent.mkdir(exist_ok=True)
+    subprocess.run(["g++", "-O2", "-march=x86-64-v2", "-o", BASELINE, HERE / "fronts_baseline.cpp"], check=True)
+    build_workloads()
     print("work          per second, ours   per second, C++   time, ours to C++")
     for kind, size, steps in WORK:
         rounds = rounds_of(kind, size, least)

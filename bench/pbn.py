@@ -5,22 +5,17 @@ Each size is read to 1 MiB at a time, and all games of it held, so that the allo
 
 Usage: bench/pbn.py [SECONDS [KIND ..]], the least time of one measurement (default 0.3). It builds the program first.
 A kind is a word of the program or the number of a byte; by default all words, and then each byte in turn, of which the worst are printed."""
-import pathlib
-import subprocess
 import sys
 
-from timing import least_seconds, processor_seconds, rounds_for
+from timing import WORKLOADS, build_workloads, least_seconds, processor_seconds, rounds_for
 
-HERE = pathlib.Path(__file__).resolve().parent
-CRATE = HERE.parent / "crates" / "bench_pbn"
-OURS = CRATE / "out" / "bench_pbn"
 SIZES = (1 << 16, 1 << 18, 1 << 20)
 WORDS = ("brackets", "braces", "quotes", "line", "words", "blanks", "games", "records")
 RUNS = 5
 
 
 def seconds(kind, size, rounds):
-    return processor_seconds([OURS, kind, size, rounds])[0]
+    return processor_seconds([WORKLOADS, "pbn", kind, size, rounds])[0]
 
 
 def line(kind, least):
@@ -34,7 +29,7 @@ def line(kind, least):
 
 def main():
     least = float(sys.argv[1]) if len(sys.argv) > 1 else 0.3
-    subprocess.run(["rt", "run"], cwd=CRATE, check=True, stdout=subprocess.DEVNULL, stderr=subprocess.DEVNULL)
+    build_workloads()
     print("      kind  bytes a second: 64 KiB      256 KiB        1 MiB   256 KiB to 64   1 MiB to 64 KiB, time a byte")
     for kind in sys.argv[2:] or WORDS:
         print(line(kind, least)[1], flush=True)

@@ -5,15 +5,10 @@ Each round writes or reads 100,000 lines and holds them, so that the allocator g
 The plan is a wide one: declarer's side and the defenders in turn, with a reply to each of the 52 cards while lines are left.
 
 Usage: bench/plans.py [SECONDS], the least time of one measurement (default 0.5). It builds the program first."""
-import pathlib
-import subprocess
 import sys
 
-from timing import least_seconds, processor_seconds, rounds_for
+from timing import WORKLOADS, build_workloads, least_seconds, processor_seconds, rounds_for
 
-HERE = pathlib.Path(__file__).resolve().parent
-CRATE = HERE.parent / "crates" / "bench_plans"
-OURS = CRATE / "out" / "bench_plans"
 LENGTHS = (25_000, 100_000)
 LINES_A_ROUND = 100_000
 RUNS = 5
@@ -21,7 +16,7 @@ RUNS = 5
 
 def seconds(kind, lines, rounds):
     """Seconds of the processor. It stops where the program's answer is wrong."""
-    taken, told = processor_seconds([OURS, kind, lines, rounds])
+    taken, told = processor_seconds([WORKLOADS, "plans", kind, lines, rounds])
     first, second = told.splitlines()
     times = rounds * (LINES_A_ROUND // lines)
     if not first.startswith(f"{lines} lines, ") or not first.endswith("the same: true") or second != f"{times} times as well":
@@ -31,7 +26,7 @@ def seconds(kind, lines, rounds):
 
 def main():
     least = float(sys.argv[1]) if len(sys.argv) > 1 else 0.5
-    subprocess.run(["rt", "run"], cwd=CRATE, check=True, stdout=subprocess.DEVNULL, stderr=subprocess.DEVNULL)
+    build_workloads()
     print("work   lines a second: 25,000      100,000   100,000 to 25,000, time a line")
     for kind in ("write", "read"):
         rounds = rounds_for(lambda n: seconds(kind, LENGTHS[0], n), least)

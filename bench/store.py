@@ -17,11 +17,10 @@ import sys
 import tempfile
 
 from search import peak, random_ending
-from timing import processor_seconds
+from timing import WORKLOADS, build_workloads, processor_seconds
 
 HERE = pathlib.Path(__file__).resolve().parent
-CRATE = HERE.parent / "crates" / "bench_store"
-OURS = CRATE / "out" / "bench_store"
+OURS = [WORKLOADS, "store"]
 THEIRS = HERE / "build" / "store_baseline"
 LOOKS = 2_000_000
 COPIES = (200, 1200)
@@ -40,7 +39,7 @@ def print_looks(runs):
     print("a look in microseconds of the processor     ours      C++    ours to C++")
     for store, entries in (("local", 65_536), ("shared", 16_384)):
         for kind in ("hits", "misses"):
-            ours, told = microseconds([OURS, store, entries], kind, runs)
+            ours, told = microseconds([*OURS, store, entries], kind, runs)
             theirs, expected = microseconds([THEIRS, entries], kind, runs)
             if told != expected:
                 sys.exit(f"{store}, {kind}: {told}; C++: {expected}")
@@ -54,7 +53,7 @@ def print_entries(folder):
     deal.write_text(ending.deal)
     layouts.write_text(ending.layouts)
     for width in (64, 256):
-        few, many = ([OURS, deal, layouts, 3, width, copies, copies] for copies in COPIES)
+        few, many = ([*OURS, deal, layouts, 3, width, copies, copies] for copies in COPIES)
         told = processor_seconds(many)[1].strip()
         size = (peak(many, folder) - peak(few, folder)) * 1048576 / (COPIES[1] - COPIES[0])
         print("%d layouts, %s: %.0f bytes an entry; %d of them: %.2f GiB" %
@@ -65,7 +64,7 @@ def main():
     runs = int(sys.argv[1]) if len(sys.argv) > 1 else 5
     THEIRS.parent.mkdir(exist_ok=True)
     subprocess.run(["g++", "-O2", "-o", THEIRS, HERE / "store_baseline.cpp"], check=True)
-    subprocess.run(["rt", "run", "--", "local", "1", "1", "hits"], cwd=CRATE, check=True, stdout=subprocess.DEVNULL, stderr=subprocess.DEVNULL)
+    build_workloads()
     print_looks(runs)
     with tempfile.TemporaryDirectory() as folder:
         print_entries(pathlib.Path(folder))

@@ -1,7 +1,16 @@
-"""What the benchmarks share: the processor time of a program, and how often it has to run to be timed."""
+"""What the benchmarks share: the program of workloads, the processor time of a program, and how often it has to run to be timed."""
+import pathlib
 import resource
 import subprocess
 import sys
+
+WORKLOADS = pathlib.Path(__file__).resolve().parent.parent / "crates" / "bench_work" / "out" / "bench_work"
+
+
+def build_workloads():
+    """Proves and builds the program of workloads, whose first word is the name of one. It needs a run, which is a short one."""
+    words = ["rt", "run", "--", "pbn"]
+    subprocess.run(words, cwd=WORKLOADS.parent.parent, check=True, stdout=subprocess.DEVNULL, stderr=subprocess.DEVNULL)
 
 
 def processor_seconds(words):

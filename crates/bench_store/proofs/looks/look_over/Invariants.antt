@@ -1,6 +1,0 @@
-use Rattle.std.proofs.Common.{◌≤◌}
-use Rattle.front_table.specs.Entries.{most_entry_vectors}
-use Rattle.bench_store.proofs.looks.look_over.Given as goal
-
-abbrev pub invariant-loop : goal.invariant-loop
-invariant-loop g l = most_entry_vectors ≤ l.out.room
