@@ -163,12 +163,3 @@ fn two_workers_are_beside_each_other(rt: HostRuntime) -> Result<(), Fail> {
     let gate = Holding::new(spade(11), spade(13), 1, false);
     assert_same(&rt, rt.alloc(), CUT_WORDS[0], "2", AFTER_TWO_CARDS, &gate)
 }
-
-#[test]
-fn four_workers_make_what_one_makes(rt: HostRuntime) -> Result<(), Fail> {
-    let one = ran(&rt, rt.alloc(), "--job made --number 0 --workers 1", "", "")?;
-    let four = ran(&rt, rt.alloc(), "--job made --number 0 --workers 4", "", "")?;
-    assert!(rt; one.status == Status::Done && four.status == Status::Done);
-    assert_eq!(rt; four.out.bytes(), one.out.bytes());
-    Ok(())
-}
