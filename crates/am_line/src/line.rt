@@ -1,5 +1,6 @@
 //! The line to standard error that says why a run was refused. It takes no memory.
-ghost use Rattle.std.specs.Prelude.{◌≡◌, ◌≤◌, map, codes, if◌then◌else◌, OnErr};
+ghost use Rattle.std.specs.Prelude.{◌≡◌, ◌≤◌, [], ◌∷◌, map, codes, if◌then◌else◌, OnErr};
+ghost use Rattle.std.specs.Fmt.{decimal};
 ghost use Rattle.am_outside.specs.Faults.{Rose};
 ghost use Rattle.am_answer.specs.Lines.{game_spent_line, joined_pieces, layouts_line, make_line};
 ghost use Rattle.am_answer.specs.Lines.{refuted_line, spent_line, status_line};
@@ -27,6 +28,38 @@ fn write_pieces<O: Sink>(out: &mut O, pieces: &[&[u8]]) -> Result<(), SinkFailed
     Ok(())
 }
 
+// Writes a number between two texts.
+fn write_number<O: Sink>(
+    out: &mut O,
+    before: &[u8],
+    number: u32,
+    after: &[u8],
+) -> Result<(), SinkFailed>
+    ensures written { IsWritten (O.told out.old)
+        (joined_pieces (before.now ∷ decimal number ∷ after.now ∷ [])) (O.told out.new) result }
+    ensures failed { OnErr result (Rose (O.faults out.old) (O.faults out.new)) }
+{
+    let mut digits = Buffer::new();
+    write_pieces(out, &[before, digits.format(number).as_bytes(), after])
+}
+
+// Writes the line of a file, by its number, and the name of what is wrong there.
+fn write_named<O: Sink>(
+    out: &mut O,
+    before: &[u8],
+    line: u32,
+    name: &[u8],
+) -> Result<(), SinkFailed>
+    ensures written { IsWritten (O.told out.old)
+        (joined_pieces (before.now ∷ decimal line ∷ codes ": " ∷ name.now ∷ codes "\n" ∷ []))
+        (O.told out.new) result }
+    ensures failed { OnErr result (Rose (O.faults out.old) (O.faults out.new)) }
+{
+    let mut digits = Buffer::new();
+    let number = digits.format(line).as_bytes();
+    write_pieces(out, &[before, number, b": ", name, b"\n"])
+}
+
 // Writes the line for a layout file that isn't taken.
 fn write_layouts<O: Sink>(out: &mut O, fault: LayoutFault) -> Result<(), SinkFailed>
     ensures written { IsWritten (O.told out.old) (joined_pieces (layouts_line fault))
@@ -45,30 +78,15 @@ fn write_layouts<O: Sink>(out: &mut O, fault: LayoutFault) -> Result<(), SinkFai
                 b"\n",
             ],
         ),
-        LayoutFault::OtherHands(line) => write_pieces(
-            out,
-            &[
-                b"alphamu: layouts line ",
-                number.format(line).as_bytes(),
-                b": OtherHands\n",
-            ],
-        ),
-        LayoutFault::TooMany(line) => write_pieces(
-            out,
-            &[
-                b"alphamu: layouts line ",
-                number.format(line).as_bytes(),
-                b": TooMany\n",
-            ],
-        ),
-        LayoutFault::BadWeight(line) => write_pieces(
-            out,
-            &[
-                b"alphamu: layouts line ",
-                number.format(line).as_bytes(),
-                b": BadWeight\n",
-            ],
-        ),
+        LayoutFault::OtherHands(line) => {
+            write_number(out, b"alphamu: layouts line ", line, b": OtherHands\n")
+        }
+        LayoutFault::TooMany(line) => {
+            write_number(out, b"alphamu: layouts line ", line, b": TooMany\n")
+        }
+        LayoutFault::BadWeight(line) => {
+            write_number(out, b"alphamu: layouts line ", line, b": BadWeight\n")
+        }
         LayoutFault::NoneLeft => write_pieces(out, &[b"alphamu: layouts: NoneLeft\n"]),
         LayoutFault::Memory => write_pieces(out, &[b"alphamu: out of memory\n"]),
     }
@@ -145,7 +163,6 @@ pub(crate) fn write_line<O: Sink>(out: &mut O, status: &Status) -> Result<(), Si
     ensures written { IsWritten (O.told out.old) (status_line status.now) (O.told out.new) result }
     ensures failed { OnErr result (Rose (O.faults out.old) (O.faults out.new)) }
 {
-    let mut number = Buffer::new();
     match status {
         Status::Done => write_pieces(out, &[]),
         Status::Refuted(plan, place) => write_refuted(out, *plan, *place),
@@ -153,16 +170,9 @@ pub(crate) fn write_line<O: Sink>(out: &mut O, status: &Status) -> Result<(), Si
         Status::Unread(file) => {
             write_pieces(out, &[b"alphamu: cannot read ", file_name(*file), b"\n"])
         }
-        Status::BadPbn(line, kind) => write_pieces(
-            out,
-            &[
-                b"alphamu: deal line ",
-                number.format(*line).as_bytes(),
-                b": ",
-                kind_name(*kind),
-                b"\n",
-            ],
-        ),
+        Status::BadPbn(line, kind) => {
+            write_named(out, b"alphamu: deal line ", *line, kind_name(*kind))
+        }
         Status::BadLayouts(fault) => write_layouts(out, *fault),
         Status::NoTurn => write_pieces(out, &[b"alphamu: no card to choose\n"]),
         Status::Spent(card) => write_spent(out, *card),
@@ -171,46 +181,19 @@ pub(crate) fn write_line<O: Sink>(out: &mut O, status: &Status) -> Result<(), Si
         Status::TooLong(file) => {
             write_pieces(out, &[b"alphamu: ", file_name(*file), b" too long\n"])
         }
-        Status::BadReport(line, kind) => write_pieces(
-            out,
-            &[
-                b"alphamu: report line ",
-                number.format(*line).as_bytes(),
-                b": ",
-                report_name(*kind),
-                b"\n",
-            ],
-        ),
+        Status::BadReport(line, kind) => {
+            write_named(out, b"alphamu: report line ", *line, report_name(*kind))
+        }
         Status::BadMake(fault) => write_make(out, *fault),
-        Status::NoLayout(layout) => write_pieces(
-            out,
-            &[
-                b"alphamu: no layout ",
-                number.format(*layout).as_bytes(),
-                b"\n",
-            ],
-        ),
-        Status::BadLog(line) => write_pieces(
-            out,
-            &[
-                b"alphamu: log file line ",
-                number.format(*line).as_bytes(),
-                b"\n",
-            ],
-        ),
-        Status::Unproved(line) => write_pieces(
-            out,
-            &[
-                b"alphamu: log line ",
-                number.format(*line).as_bytes(),
-                b" not proved\n",
-            ],
-        ),
+        Status::NoLayout(layout) => {
+            write_number(out, b"alphamu: no layout ", u32::from(*layout), b"\n")
+        }
+        Status::BadLog(line) => write_number(out, b"alphamu: log file line ", *line, b"\n"),
+        Status::Unproved(line) => {
+            write_number(out, b"alphamu: log line ", *line, b" not proved\n")
+        }
         Status::GameSpent(game, card) => write_game_spent(out, *game, *card),
-        Status::TooManyGames(games) => write_pieces(
-            out,
-            &[b"alphamu: ", number.format(*games).as_bytes(), b" games\n"],
-        ),
+        Status::TooManyGames(games) => write_number(out, b"alphamu: ", *games, b" games\n"),
     }
 }
 

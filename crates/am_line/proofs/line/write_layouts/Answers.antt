@@ -5,16 +5,13 @@ returns-in-BadLine-clause-written g c =
     rw (c.in-BadLine.is, ← c.format.ensures.text, ← c.as_bytes.ensures.value, ← c.deal_name.ensures) c.write_pieces.ensures.written
 
 pub returns-in-OtherHands-clause-written : goal.returns-in-OtherHands-clause-written
-returns-in-OtherHands-clause-written g c =
-    rw (c.in-OtherHands.is, ← c.format-in-OtherHands.ensures.text, ← c.as_bytes-in-OtherHands.ensures.value) c.write_pieces-in-OtherHands.ensures.written
+returns-in-OtherHands-clause-written g c = rw (c.in-OtherHands.is) c.write_number.ensures.written
 
 pub returns-in-TooMany-clause-written : goal.returns-in-TooMany-clause-written
-returns-in-TooMany-clause-written g c =
-    rw (c.in-TooMany.is, ← c.format-in-TooMany.ensures.text, ← c.as_bytes-in-TooMany.ensures.value) c.write_pieces-in-TooMany.ensures.written
+returns-in-TooMany-clause-written g c = rw (c.in-TooMany.is) c.write_number-in-TooMany.ensures.written
 
 pub returns-in-BadWeight-clause-written : goal.returns-in-BadWeight-clause-written
-returns-in-BadWeight-clause-written g c =
-    rw (c.in-BadWeight.is, ← c.format-in-BadWeight.ensures.text, ← c.as_bytes-in-BadWeight.ensures.value) c.write_pieces-in-BadWeight.ensures.written
+returns-in-BadWeight-clause-written g c = rw (c.in-BadWeight.is) c.write_number-in-BadWeight.ensures.written
 
 pub returns-in-NoneLeft-clause-written : goal.returns-in-NoneLeft-clause-written
 returns-in-NoneLeft-clause-written g c = rw (c.in-NoneLeft.is) c.write_pieces-in-NoneLeft.ensures.written

@@ -9,7 +9,7 @@ returns-in-Unread-clause-written g c =
 pub returns-in-BadPbn-clause-written : goal.returns-in-BadPbn-clause-written
 unfolding status_line
 returns-in-BadPbn-clause-written g c =
-    rw (c.in-BadPbn.is, ← c.format.ensures.text, ← c.as_bytes.ensures.value, ← c.kind_name.ensures) c.write_pieces-in-BadPbn.ensures.written
+    rw (c.in-BadPbn.is, ← c.kind_name.ensures) c.write_named.ensures.written
 
 pub returns-in-NoTurn-clause-written : goal.returns-in-NoTurn-clause-written
 unfolding status_line
@@ -35,22 +35,22 @@ returns-in-TooLong-clause-written g c =
 pub returns-in-BadReport-clause-written : goal.returns-in-BadReport-clause-written
 unfolding status_line
 returns-in-BadReport-clause-written g c =
-    rw (c.in-BadReport.is, ← c.format-in-BadReport.ensures.text, ← c.as_bytes-in-BadReport.ensures.value, ← c.report_name.ensures) c.write_pieces-in-BadReport.ensures.written
+    rw (c.in-BadReport.is, ← c.report_name.ensures) c.write_named-in-BadReport.ensures.written
 
 pub returns-in-NoLayout-clause-written : goal.returns-in-NoLayout-clause-written
 unfolding status_line
 returns-in-NoLayout-clause-written g c =
-    rw (c.in-NoLayout.is, ← c.format-in-NoLayout.ensures.text, ← c.as_bytes-in-NoLayout.ensures.value) c.write_pieces-in-NoLayout.ensures.written
+    rw (c.in-NoLayout.is, ← c.from.ensures) c.write_number.ensures.written
 
 pub returns-in-BadLog-clause-written : goal.returns-in-BadLog-clause-written
 unfolding status_line
 returns-in-BadLog-clause-written g c =
-    rw (c.in-BadLog.is, ← c.format-in-BadLog.ensures.text, ← c.as_bytes-in-BadLog.ensures.value) c.write_pieces-in-BadLog.ensures.written
+    rw (c.in-BadLog.is) c.write_number-in-BadLog.ensures.written
 
 pub returns-in-Unproved-clause-written : goal.returns-in-Unproved-clause-written
 unfolding status_line
 returns-in-Unproved-clause-written g c =
-    rw (c.in-Unproved.is, ← c.format-in-Unproved.ensures.text, ← c.as_bytes-in-Unproved.ensures.value) c.write_pieces-in-Unproved.ensures.written
+    rw (c.in-Unproved.is) c.write_number-in-Unproved.ensures.written
 
 pub returns-in-GameSpent-clause-written : goal.returns-in-GameSpent-clause-written
 unfolding status_line
@@ -59,4 +59,4 @@ returns-in-GameSpent-clause-written g c = rw (c.in-GameSpent.is) c.write_game_sp
 pub returns-in-TooManyGames-clause-written : goal.returns-in-TooManyGames-clause-written
 unfolding status_line
 returns-in-TooManyGames-clause-written g c =
-    rw (c.in-TooManyGames.is, ← c.format-in-TooManyGames.ensures.text, ← c.as_bytes-in-TooManyGames.ensures.value) c.write_pieces-in-TooManyGames.ensures.written
+    rw (c.in-TooManyGames.is) c.write_number-in-TooManyGames.ensures.written
