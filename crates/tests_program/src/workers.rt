@@ -1,8 +1,8 @@
 //! Workers beside each other, as a gate sees them.
 ghost use Rattle.std.specs.Prelude.{◌≤◌};
 
-use crate::queen::{QUEEN, QUEEN_LAYOUTS, ran, ran_at, shelf_of};
-use am_outside::Gate;
+use crate::queen::{QUEEN, QUEEN_LAYOUTS, QUEEN_REPORT, ran, ran_at, shelf_of};
+use am_outside::{Gate, MemoryShelf};
 use am_top::Status;
 use card_sets::{Card, Rank, Suit};
 use std::alloc::Global;
@@ -105,6 +105,15 @@ const CUT_WORDS: [&str; 2] = [
 const AFTER_TWO_CARDS: &str =
     "[Deal \"N:32... - KJ... -\"]\n[Declarer \"S\"]\n[Contract \"1NT\"]\n[EndNeed \"1\"]\n[EndLead \"N\"]\n[Play \"N\"]\nS2 S7 - -\n*\n";
 
+// The ace wins the one trick.
+const ACE: &str =
+    "[Deal \"N:A... - 2... -\"]\n[Declarer \"S\"]\n[Contract \"1NT\"]\n[EndNeed \"1\"]\n[EndLead \"N\"]\n";
+
+const ACE_LAYOUTS: &str = "N:A... 3... 2... 4...\n";
+
+const ACE_REPORT: &str =
+    "alphamu report 1\ndeclarer S\ntrump NT\nneed 1\nhand S 2...\nhand N A...\ntrick N -\nturn N\nmoves 2\nkept 1\nfront 1\nvector 1 count 1\nplay SA\nhear 1\non S3\nplay S2\nstop\ncard SA count 1\nend\n";
+
 // So many workers at a gate write what one writes, and the gate sees both cards.
 fn assert_same<R: Threads + Sync + Abort>(
     rt: &R,
@@ -162,4 +171,22 @@ fn two_workers_are_beside_each_other(rt: HostRuntime) -> Result<(), Fail> {
     assert_same(&rt, rt.alloc(), PLAIN_WORDS, "2", QUEEN, &gate)?;
     let gate = Holding::new(spade(11), spade(13), 1, false);
     assert_same(&rt, rt.alloc(), CUT_WORDS[0], "2", AFTER_TWO_CARDS, &gate)
+}
+
+#[test]
+fn two_games_are_solved_beside_each_other(rt: HostRuntime) -> Result<(), Fail> {
+    let alloc = rt.alloc();
+    let mut shelf = MemoryShelf::new(alloc);
+    shelf.add("deal", format!(in alloc; "{QUEEN}\n{ACE}")?.as_bytes())?;
+    shelf.add("layouts.1", QUEEN_LAYOUTS.as_bytes())?;
+    shelf.add("layouts.2", ACE_LAYOUTS.as_bytes())?;
+    let words = "--job boards --deal deal --layouts layouts --moves 2 --workers 2";
+    let gate = Holding::new(spade(2), spade(14), 0, false);
+    let run = ran_at(&rt, alloc, words, &mut shelf, &gate)?;
+    let text = format!(in alloc;
+        "alphamu boards 1\ngame 1\n{QUEEN_REPORT}game 2\n{ACE_REPORT}end boards\n"
+    )?;
+    assert!(rt; run.ends_with(Status::Done, &text, ""));
+    assert!(rt; gate.saw_both());
+    Ok(())
 }
