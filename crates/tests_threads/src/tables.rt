@@ -15,7 +15,7 @@ use std::test::Fail;
 use trick_rules::Node;
 use win_vectors::WinVector;
 
-/// The entry of a node with so many moves.
+/// The entry of a node with `moves` moves.
 pub fn entry_of(alloc: Global, node: &Node, moves: u8) -> Result<ProvenFront, AllocError> {
     let front = plain_front(alloc, node, moves)?;
     Ok(ProvenFront::new(node.copy(alloc)?, moves, front))

@@ -15,13 +15,13 @@ use std::thread::Threads;
 use trick_rules::Node;
 use work_tickets::{TicketPass, Tickets};
 
-/// How often a put is tried where the shard's turn is taken.
+/// How often a put is tried while another holds the shard's turn.
 const TRIES: u32 = 100;
 
 /// How many keys there are: the moves of a node.
 const KEYS: u8 = 8;
 
-// Puts the entry of a node with so many moves, if a turn is got within the tries.
+// Puts the entry of a node with `moves` moves, if it gets the shard's turn within the tries.
 fn put_one(alloc: Global, table: &SharedTable, pass: &mut Pass, node: &Node, moves: u8)
     requires { IsPassOf table.now pass.old }
     ensures { IsPassOf table.now pass.new }
