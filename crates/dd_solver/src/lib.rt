@@ -8,8 +8,10 @@
 mod answer;
 mod enough;
 mod key;
+mod leads;
 mod memo;
 mod order;
+mod plays;
 mod search;
 mod solver;
 mod squeeze;
