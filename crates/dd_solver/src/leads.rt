@@ -2,52 +2,12 @@
 //! changes no answer.
 ghost use Rattle.std.specs.Prelude.{◌≤◌};
 
+use crate::hands::Hands;
 use card_sets::{Card, CardSet, Suit};
 use trick_rules::{Position, Trump};
 
 /// What no two hands' choices weigh more than.
 const MOST_CHOICES: u16 = 5_100;
-
-/// The hand on lead, and the three others clockwise.
-#[derive(Drop)]
-struct Hands {
-    own: CardSet,
-    next: CardSet,
-    partner: CardSet,
-    last: CardSet,
-}
-
-impl Hands {
-    fn of(position: &Position, left: CardSet) -> Hands {
-        let seat = position.to_play();
-        let next = seat.next();
-        let partner = next.next();
-        Hands {
-            own: position.hand(seat, left),
-            next: position.hand(next, left),
-            partner: position.hand(partner, left),
-            last: position.hand(partner.next(), left),
-        }
-    }
-
-    // The cards of a suit in all four hands.
-    fn all_of_suit(&self, suit: Suit) -> CardSet {
-        let ours = self.own.either(self.partner);
-        ours.either(self.next).either(self.last).of_suit(suit)
-    }
-
-    // Whether the opponents' choice of cards for a suit is wide: the cards that they may play to
-    // it, seven or, with trumps, ten for each.
-    fn choices(&self, trump: Trump, suit: Suit) -> u16
-        ensures { result ≤ 5100 }
-    {
-        let cards = choice_of(self.next, suit) + choice_of(self.last, suit);
-        match trump {
-            Trump::NoTrump => 7 * cards,
-            Trump::Suit(_) => 10 * cards,
-        }
-    }
-}
 
 // How many cards a hand may play to a suit.
 fn choice_of(hand: CardSet, suit: Suit) -> u16
@@ -59,6 +19,24 @@ fn choice_of(hand: CardSet, suit: Suit) -> u16
     } else {
         u16::from(following.count())
     }
+}
+
+// How wide the opponents' choice of cards is in a suit: the cards that they may play to it, each
+// seven or, with trumps, ten.
+fn choices(hands: &Hands, trump: Trump, suit: Suit) -> u16
+    ensures { result ≤ 5100 }
+{
+    let cards = choice_of(hands.next, suit) + choice_of(hands.last, suit);
+    match trump {
+        Trump::NoTrump => 7 * cards,
+        Trump::Suit(_) => 10 * cards,
+    }
+}
+
+// The cards of a suit in all four hands.
+fn all_of_suit(hands: &Hands, suit: Suit) -> CardSet {
+    let ours = hands.own.either(hands.partner);
+    ours.either(hands.next).either(hands.last).of_suit(suit)
 }
 
 // Whether a hand can ruff a suit.
@@ -182,13 +160,13 @@ fn losers_weight(hands: &Hands, honours: &Honours, suit: Suit) -> u16
 
 impl SuitLeads {
     fn of(hands: &Hands, trump: Trump, suit: Suit) -> SuitLeads {
-        let honours = Honours::of(hands.all_of_suit(suit));
+        let honours = Honours::of(all_of_suit(hands, suit));
         let touching = holds(hands.own, honours.second) && holds(hands.own, honours.third);
         SuitLeads {
             winners: Winners::of(hands, trump, suit, &honours),
             sequence: if touching { honours.second } else { None },
             low: losers_weight(hands, &honours, suit),
-            ease: MOST_CHOICES - hands.choices(trump, suit),
+            ease: MOST_CHOICES - choices(hands, trump, suit),
         }
     }
 
@@ -214,7 +192,7 @@ fn weigh(weights: &mut [u16; 52], leads: CardSet, suit: &SuitLeads) {
 
 /// The weights of some leads, each at its card's number.
 pub(crate) fn lead_weights(position: &Position, left: CardSet, cards: CardSet) -> [u16; 52] {
-    let hands = Hands::of(position, left);
+    let hands = Hands::of(position, left, position.to_play());
     let mut weights = [0; 52];
     for suit in Suit::ALL {
         let leads = cards.of_suit(suit);

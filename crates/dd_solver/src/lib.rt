@@ -7,6 +7,7 @@
 
 mod answer;
 mod enough;
+mod hands;
 mod key;
 mod leads;
 mod memo;
