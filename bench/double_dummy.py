@@ -1,9 +1,9 @@
 #!/usr/bin/env python3
-"""Times double dummy beside the same work in C++, plain and with a memo, and beside Bo Haglund's DDS where its library is there
-(Debian's libdds-dev), all on the same random endings in one run. First it has them agree on many endings.
+"""Times double dummy against the same work in C++, plain and with a memo, and against Bo Haglund's DDS if its library is installed
+(Debian's libdds-dev), all on the same random endings in one run. First it checks that they agree on many endings.
 
 Usage: bench/double_dummy.py [SECONDS], the least processor time of one measurement (default 0.5). It builds the programs first.
-DDS's library takes its time to start; each time is without that of a run on no ending."""
+DDS's library takes a while to start, so the time of a run on no ending is subtracted."""
 import pathlib
 import statistics
 import subprocess
@@ -15,7 +15,7 @@ HERE = pathlib.Path(__file__).resolve().parent
 OURS = [WORKLOADS, "double_dummy"]
 THEIRS = HERE / "build" / "double_dummy_baseline"
 STRAINS = ("notrump", "suit")
-PLAIN_TRICKS = 6  # plain minimax takes too long beyond
+PLAIN_TRICKS = 6  # plain minimax takes too long on more
 
 
 def build():
@@ -38,7 +38,7 @@ def theirs(who, tricks, strain):
 
 
 def seconds(program, first, endings):
-    """The processor time of a program for so many endings, and its answers."""
+    """The processor time of a program for this many endings, and its answers."""
     taken, answers = processor_seconds(program(first, endings))
     return max(taken - min(processor_seconds(program(0, 0))[0] for _ in range(2)), 1e-5), answers
 
@@ -53,7 +53,7 @@ def agree(tricks, endings, one, other):
 
 
 def agreement(dds):
-    """The solver beside plain minimax on 10,000 endings, and beside DDS on 1,000 longer ones: each need, after 0 to 7 random cards."""
+    """Compares the solver with plain minimax on 10,000 endings, and with DDS on 1,000 longer ones: each need, after 0 to 7 random cards."""
     for tricks in (3, 4, 5):
         agree(tricks, 3334, ours("needs", tricks, "any"), ours("plain-needs", tricks, "any"))
     print("10,002 endings of 3 to 5 tricks, each need after 0 to 7 cards: the solver and plain minimax agree", flush=True)
@@ -65,7 +65,7 @@ def agreement(dds):
 
 
 def each(program, tricks, strain, least, answers):
-    """Microseconds an ending, of a program that takes the number of endings; its answers go to `answers` by that number."""
+    """Microseconds per ending of a program that takes the number of endings. Its answers go to `answers` under that number."""
     endings = 50
     while True:
         taken, answer = processor_seconds(program(0, endings))
@@ -77,7 +77,7 @@ def each(program, tricks, strain, least, answers):
 
 def endings_table(least, dds):
     answers = {}
-    print("microseconds an ending")
+    print("microseconds per ending")
     print("tricks   strain      solver   C++ memo        DDS      plain  C++ plain   solver to memo   solver to DDS")
     for tricks in (4, 5, 6, 7, 8):
         for strain in STRAINS:
@@ -91,7 +91,7 @@ def endings_table(least, dds):
 
 
 def beside_dds(question, tricks, strain, endings):
-    """The solver's seconds for each of so many endings, and DDS's."""
+    """The seconds of the solver and of DDS for each of this many endings."""
     pairs = []
     for place in range(endings):
         mine, my_answer = seconds(ours(question, tricks, strain), place, 1)
@@ -116,7 +116,7 @@ def main():
     if not dds:
         return
     head = "tricks   strain  endings  most seconds  median to DDS  sum to DDS"
-    print("all cards in 20 layouts, by a solver a layout\n" + head)
+    print("all cards in 20 layouts, with a solver for each layout\n" + head)
     for tricks in (5, 6, 7, 8, 9, 10):
         for strain in STRAINS:
             report("sampling", tricks, strain, 30)

@@ -1,8 +1,9 @@
-// The work of the crate bench_double_dummy in C++: double dummy on the same random endings.
-// usage: double_dummy_baseline plain|memo|dds|needs|tricks|sampling TRICKS FIRST ENDINGS [notrump|suit]: the endings from the one with the number FIRST on
-// needs, tricks and sampling ask DDS: for the needs that declarer's side takes after 0 to 7 random cards, as bits, for its tricks, and for all
-// cards in each of 20 layouts
-// dds asks Bo Haglund's double dummy solver (Debian's libdds-dev): build with -DWITH_DDS and -ldds
+// Double dummy in C++, on the same random endings as the workload double_dummy of the crate bench_work.
+// usage: double_dummy_baseline plain|memo|dds|needs|tricks|sampling TRICKS FIRST ENDINGS [notrump|suit]
+// It takes ENDINGS endings, from the one with the number FIRST on.
+// dds, needs, tricks and sampling use Bo Haglund's double dummy solver (Debian's libdds-dev): build with -DWITH_DDS and -ldds.
+// needs prints as bits the needs that declarer's side makes after 0 to 7 random cards, tricks prints its tricks, and sampling
+// counts all cards in 20 layouts.
 #include <cstdint>
 #include <cstdio>
 #include <cstdlib>
@@ -95,7 +96,7 @@ static void play(Pos &p, int seat, int card) {
     p.trick[p.n++] = card;
     if (p.n == 4) p.leader = winner(p), p.n = 0;
 }
-// the needs that are made after some random cards, as bits
+// the needs that declarer's side makes after some random cards, as bits
 static long needs_made(Pos p, int tricks) {
     int numbers[7], played = (int)draw(8), won = 0;
     for (int &number : numbers) number = (int)draw(13);
