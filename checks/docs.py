@@ -26,19 +26,21 @@ import sys
 from collections import Counter
 
 TOP = pathlib.Path(__file__).resolve().parent.parent
-PAGES = ("README.md", "CHANGELOG.md", "CONTRIBUTING.md", "docs/**/*.md", "examples/*/README.md", "crates/*/README.md",
+PAGES = ("README.md", "CHANGELOG.md", "CONTRIBUTING.md", "docs/**/*.md", "examples/**/README.md", "crates/*/README.md",
          "cases/README.md")
 FOR_USERS = ("docs/USING.md", "docs/REFUSALS.md")
 SCRIPTS = ("alphamu", "build", ".ci/run", "bench/*.py", "checks/*", "examples/**/*.py", "examples/**/*.sbatch")
 SOURCES = ("crates/*/src/**/*.rt", "crates/*/specs/**/*.antt", "crates/*/proofs/**/*.antt")
-# Options of other programs that the pages name: of rt, GNU parallel, Slurm and git.
+# Options of other programs that the pages name: of rt, GNU parallel, Slurm, git and valgrind.
 OTHER_OPTIONS = frozenset("""--help --version --only --test --jobs --start --allow-holes --fail-alloc --anew --resume
     --resume-failed --retries --sshloginfile --workdir --array --format --eta --joblog --keep-order --colsep --time
-    --cpus-per-task --mem --output --error""".split())
+    --cpus-per-task --mem --output --error --tool""".split())
 # Exit statuses that `run` doesn't have: no list of words, no answer from the launcher, signals, `timeout` and `ssh`.
 OTHER_STATUSES = frozenset((64, 70, 124, 129, 130, 131, 137, 143, 255))
 # Names of other programs: of Slurm, ssh and rt.
 OTHER_NAMES = frozenset("JobID ExitCode ServerAliveInterval ServerAliveCountMax start_lib".split())
+# A file that FIRST-CHANGE has its reader write and remove again.
+OTHER_FILES = frozenset(("crates/card_letters/must-fail/jack_read_as_ten.edit",))
 ENDINGS = (".md", ".py", ".rt", ".antt", ".cpp", ".edit", ".sbatch")
 NAME = re.compile(r"(?:[A-Za-z]\w*::)*[A-Za-z]\w*")
 
@@ -97,7 +99,7 @@ class Repository:
     def __init__(self, top):
         self.top = top
         self.crates = read_crates((top / "crates.txt").read_text(encoding="utf-8"))
-        self.files = set(self.found_files())
+        self.files = set(self.found_files()) | OTHER_FILES
         self.folders = {parent.as_posix() for name in self.files for parent in pathlib.PurePosixPath(name).parents}
         self.scripts = "\n".join(self.text(name) for name in self.named(SCRIPTS))
         self.words = {part for name in self.files for part in re.split(r"[/.]", name)} | OTHER_NAMES
