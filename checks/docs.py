@@ -14,7 +14,7 @@ of cases/. The check fails in these cases:
 - A crate of crates.txt has no README.md, or one with another heading; or a README.md belongs to no crate.
 - ARCHITECTURE's storeys or PROVED's table lack a crate, have one twice, or have one that isn't there. A crate is above
   one that it uses, or to its left, except in PROVED.
-- A line of a walk in ARCHITECTURE has a function that its crate doesn't have.
+- A line of a walk in ARCHITECTURE has a function that its crate doesn't have, or that the crate above it doesn't call.
 - An option, a job, an exit status or the name of a fault is on neither of the pages for users, USING and REFUSALS.
 
 Prints each finding with its place. The exit status is 0 only if there is none.
@@ -51,13 +51,12 @@ def blank(found):
 
 
 class Page:
-    """A page: its text, the text outside of its fenced blocks, and its blocks."""
+    """A page: its text, and the text outside of its fenced blocks."""
 
     def __init__(self, top, path):
         self.path, self.name = path, path.relative_to(top).as_posix()
         self.text = path.read_text(encoding="utf-8")
         self.prose = re.sub(r"^```.*?^```", blank, self.text, flags=re.DOTALL | re.MULTILINE)
-        self.blocks = re.findall(r"^```\w*\n(.*?)^```", self.text, flags=re.DOTALL | re.MULTILINE)
 
     def spans(self):
         """What is in backticks, with its line."""
@@ -114,10 +113,10 @@ class Repository:
             for name in names:
                 yield (pathlib.Path(place) / name).relative_to(self.top).as_posix()
 
-    def words_of(self, crate):
-        """The words of a crate's sources and definitions, without comments."""
-        texts = [self.text(name) for name in self.named((f"crates/{crate}/src/**/*.rt", f"crates/{crate}/specs/**/*.antt"))]
-        return {word for text in texts for word in re.findall(r"\w+", re.sub(r"(?://|--).*", "", text))}
+    def sources_of(self, crate):
+        """A crate's sources and definitions, without comments."""
+        names = self.named((f"crates/{crate}/src/**/*.rt", f"crates/{crate}/specs/**/*.antt"))
+        return re.sub(r"(?://|--).*", "", "\n".join(map(self.text, names)))
 
     def named(self, patterns):
         """The files that some of the patterns name."""
@@ -189,7 +188,7 @@ def wrong_names(repository, page):
 def wrong_homes(repository, page):
     for number, line in enumerate(page.prose.split("\n"), 1):
         for name, crate in re.findall(r"`(\w+)` of `(\w+)`", line):
-            if page.name != "CHANGELOG.md" and crate in repository.crates and name not in repository.words_of(crate):
+            if page.name != "CHANGELOG.md" and crate in repository.crates and not re.search(rf"\b{name}\b", repository.sources_of(crate)):
                 yield number, f"`{name}` isn't in the crate {crate}"
 
 
@@ -242,13 +241,25 @@ def wrong_tables(repository, page, heading, in_order):
                 yield places[name][0], f"{name} comes after {used}, which it uses"
 
 
+def steps_of(page):
+    """The steps of the walks: line, function, crate, and the crate of the function that calls it, if one does."""
+    step, above = re.compile(r"( *)(\w+) {2,}(\w+)(?: {2,}.*)?"), []
+    for number, line in enumerate(page.text.split("\n"), 1):
+        if found := step.fullmatch(line):
+            indent, function, crate = len(found[1]), found[2], found[3]
+            above = [it for it in above if it[0] < indent]
+            yield number, function, crate, above[-1][1] if above else None
+            above.append((indent, crate))
+        else:
+            above = []
+
+
 def wrong_walks(repository, page):
-    walk = re.compile(r" *(\w+) {2,}(\w+)(?: {2,}.*)?")
-    for line in [line for block in page.blocks for line in block.split("\n")]:
-        if step := walk.fullmatch(line):
-            texts = [repository.text(it) for it in repository.named((f"crates/{step[2]}/src/**/*.rt",))]
-            if not any(re.search(rf"\bfn {step[1]}\b", text) for text in texts):
-                yield page.text[:page.text.find(line)].count("\n") + 1, f"{step[2]} has no function {step[1]}"
+    for number, function, crate, caller in steps_of(page):
+        if not re.search(rf"\bfn {function}\b", repository.sources_of(crate)):
+            yield number, f"{crate} has no function {function}"
+        elif caller and not re.search(rf"(?<!fn )\b{function}\(", repository.sources_of(caller)):
+            yield number, f"{caller} doesn't call {function}"
 
 
 def wrong_readmes(repository):
