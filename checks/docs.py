@@ -8,7 +8,7 @@ of cases/. The check fails in these cases:
 
 - A page names in backticks a file that isn't there, or a name such as `root_front` or `CardLine` that no source has.
   Names in docs/definitions/ are left to definitions.py, and CHANGELOG may have names that are gone.
-- A page says "`name` of `crate`", and the crate has no such name.
+- A page says "`name` of `crate`", and the crate has no such name. On a crate's own page each name is one of the crate.
 - A page names an option that neither the program nor a script has, or an exit status that nothing ends with.
 - A link, or the heading that it points to, isn't there.
 - A crate of crates.txt has no README.md, or one with another heading; or a README.md belongs to no crate.
@@ -190,6 +190,12 @@ def wrong_homes(repository, page):
         for name, crate in re.findall(r"`(\w+)` of `(\w+)`", line):
             if page.name != "CHANGELOG.md" and crate in repository.crates and not re.search(rf"\b{name}\b", repository.sources_of(crate)):
                 yield number, f"`{name}` isn't in the crate {crate}"
+    own = re.fullmatch(r"crates/(\w+)/README\.md", page.name)
+    words = set(re.findall(r"\w+", repository.sources_of(own[1]))) if own else set()
+    for number, span in page.spans() if own else ():
+        for name in filter(is_code_name, span.split()):
+            if name not in repository.crates and not set(name.split("::")) <= words:
+                yield number, f"`{span}` names {name}, which isn't in this crate"
 
 
 def wrong_options(repository, page, known):
