@@ -1,49 +1,106 @@
 #!/usr/bin/env python3
-"""moves.py [SEEDS]
+"""moves.py [BOARDS [FIRST [LAST]]]
 
-What moves cost: the processor time of alphamu's job `card` at 1 to 6 moves, with 10 and 20 layouts, where 5 to 11 tricks are left. It
-prints a line for each number of tricks and of layouts: seconds at each number of moves, the median of SEEDS boards (default 15), and in
-brackets those of the slowest board.
+What moves cost on contested boards, and what they tell. It prints a table with a row for each number of tricks left, from FIRST to LAST
+(default 7 to 13), each over BOARDS boards (default 8) with 20 layouts: the processor seconds of the job `card` with 2, 4 and 6 moves and
+with all, as the median and in brackets the slowest board. Beyond ten tricks all moves aren't tried. It also counts on how many boards the
+count that sampling believes in is too high, and on how many sampling names another card than `card` with all moves does. A board that
+takes more than LIMIT seconds is left out of these two.
 
-The boards are made as those of examples/evening are, but not chosen: declarer needs half of the tricks that are left. Each is asked once.
-Seconds are those of the processor, so that other work on the machine counts little.
+The boards are made as those of examples/evening are, from the seeds 1, 2, 3 and so on, and aren't chosen by hand. A board is contested if,
+at some level of the contract, sampling makes it in a quarter to nine tenths of the layouts; of such levels the one nearest to half is asked
+about. Seconds are those of the processor, but other work on the machine still slows them down: the last line says how much of it there was.
 
 The program must be built: ./build."""
+import os
 import pathlib
+import re
+import resource
 import statistics
+import subprocess
 import sys
 import tempfile
 
-from boards import make, needing_half
-from timing import processor_seconds
+from boards import make
 from workers import PROGRAM
 
-TRICKS, LAYOUTS, MOVES = range(5, 12), (10, 20), range(1, 7)
+LAYOUTS, MOVES, ALL, MOST_TRICKS_FOR_ALL, LIMIT = 20, (2, 4, 6), 26, 10, 100
 
 
-def seconds(deal, layouts, moves):
-    return processor_seconds([PROGRAM, "--job", "card", "--deal", deal, "--layouts", layouts, "--moves", moves, "--nodes", 2 ** 60])[0]
+def ask(job, deal, layouts, *more):
+    """Seconds of the processor and what is printed; nothing is printed if it takes too long."""
+    words = [PROGRAM, "--job", job, "--deal", deal, "--layouts", layouts, *map(str, more)]
+    before = resource.getrusage(resource.RUSAGE_CHILDREN)
+    try:
+        printed = subprocess.run(words, capture_output=True, text=True, check=True, timeout=LIMIT).stdout
+    except subprocess.TimeoutExpired:
+        printed = None
+    after = resource.getrusage(resource.RUSAGE_CHILDREN)
+    return after.ru_utime - before.ru_utime + after.ru_stime - before.ru_stime, printed
 
 
-def of_board(folder, seed, tricks, layouts):
-    """The seconds of a board at each number of moves."""
-    deal, lay = folder / "deal.pbn", folder / "layouts.lay"
-    table, lines, level = needing_half(seed, 13 - tricks, layouts)
-    make.write(deal, make.game(1, table, level))
-    make.write(lay, lines)
-    return [seconds(deal, lay, moves) for moves in MOVES]
+def sampled(deal, layouts):
+    """The card that sampling names and its count."""
+    rows = re.findall(r"^card (\S+) vector \S+ count (\d+)$", ask("fusion", deal, layouts)[1], re.M)
+    return max(((card, int(count)) for card, count in rows), key=lambda it: it[1])
+
+
+def contested(seed, tricks, deal, layouts):
+    """Writes the board of a seed at its contested level, and says what sampling believes; nothing if it isn't contested."""
+    chance = make.Chance(seed)
+    table = make.board(chance, 13 - tricks)
+    lines, found = make.layouts(table, chance, LAYOUTS), []
+    if len(lines) == LAYOUTS:
+        make.write(layouts, lines)
+        for level in range(1, 8):
+            make.write(deal, make.game(1, table, level))
+            found.append((level, *sampled(deal, layouts)))
+    found = [it for it in found if LAYOUTS / 4 <= it[2] <= LAYOUTS * 9 / 10]
+    if found:
+        level, card, count = min(found, key=lambda it: abs(it[2] - LAYOUTS / 2))
+        make.write(deal, make.game(1, table, level))
+        return card, count
+
+
+def with_all(printed, card, count):
+    """Whether sampling's count is too high, and whether another card is named."""
+    named, most = re.search(r"^card (\S+) count (\d+) of", printed, re.M).groups()
+    return int(most) < count, named != card
+
+
+def told(seconds):
+    """The median and the slowest."""
+    middle, most = ("over %d" % LIMIT if it >= LIMIT else "%.2g" % it if it < 10 else "%.0f" % it
+                    for it in (statistics.median_low(seconds), max(seconds)))
+    return f"{middle} ({most})"
+
+
+def row(tricks, boards, deal, layouts):
+    moves = [*MOVES, ALL] if tricks <= MOST_TRICKS_FOR_ALL else MOVES
+    seconds, verdicts, seed, found = {it: [] for it in moves}, [], 0, 0
+    while found < boards:
+        seed += 1
+        if believed := contested(seed, tricks, deal, layouts):
+            found += 1
+            for it in moves:
+                took, printed = ask("card", deal, layouts, "--moves", it, "--nodes", 2 ** 60)
+                seconds[it].append(took if printed else LIMIT)
+                if it == ALL and printed:
+                    verdicts.append(with_all(printed, *believed))
+    cells = [told(seconds[it]) if it in moves else "" for it in (*MOVES, ALL)]
+    counts = ["%d of %d" % (sum(it[place] for it in verdicts), len(verdicts)) if verdicts else "" for place in (0, 1)]
+    print("| " + " | ".join([str(tricks), *cells, *counts]) + " |", flush=True)
 
 
 def main():
-    seeds = int(sys.argv[1]) if len(sys.argv) > 1 else 15
-    print("tricks  layouts" + "".join("%16s" % f"{moves} move{'s' if moves > 1 else ''}" for moves in MOVES))
+    boards, first, last = map(int, sys.argv[1:] + ["8", "7", "13"][len(sys.argv) - 1:])
+    print("| " + " | ".join(["Tricks left", *(f"{it} moves" for it in MOVES), "all moves", "sampling too high", "another card"]) + " |")
+    print("|" + "---|" * (len(MOVES) + 4))
     with tempfile.TemporaryDirectory() as room:
-        for tricks in TRICKS:
-            for layouts in LAYOUTS:
-                boards = [of_board(pathlib.Path(room), seed, tricks, layouts) for seed in range(1, seeds + 1)]
-                told = ("%.3f (%.2f)" % (statistics.median(column), max(column)) for column in zip(*boards))
-                print("%6d%9d" % (tricks, layouts) + "".join("%16s" % it for it in told), flush=True)
-    print(f"again: bench/moves.py {seeds}")
+        for tricks in range(first, last + 1):
+            row(tricks, boards, pathlib.Path(room) / "deal.pbn", pathlib.Path(room) / "layouts.lay")
+    print(f"again: bench/moves.py {boards} {first} {last}; {os.cpu_count()} processors, "
+          f"{os.getloadavg()[2]:.1f} processes at work or waiting in the last quarter of an hour")
 
 
 if __name__ == "__main__":

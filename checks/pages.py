@@ -16,7 +16,7 @@ import subprocess
 import sys
 
 TOP = pathlib.Path(__file__).resolve().parent.parent
-PAGES = [TOP / "README.md", TOP / "docs" / "USING.md", TOP / "docs" / "PROGRAMS.md", *sorted(TOP.glob("examples/*/README.md"))]
+PAGES = [*(TOP / it for it in ("README.md", "docs/USING.md", "docs/REFUSALS.md", "docs/PROGRAMS.md")), *sorted(TOP.glob("examples/**/README.md"))]
 COMMAND = re.compile(r"^    ((?:\./alphamu|examples/|(?:grep|awk|timeout|cat|/usr/games/dealer) )\S*.*)$")
 
 
