@@ -127,10 +127,12 @@ def through_pipe(file, size, spoil=None):
 
 
 def feed(path, content, size):
+    """Writes into a pipe, slowly at first, so that the reader gets no more than that at a time."""
     try:
         with open(path, "wb", buffering=0) as pipe:
             for at in range(0, len(content), size):
                 pipe.write(content[at:at + size])
+                time.sleep(0.03 if at < 3 * size else 0)
     except BrokenPipeError:
         pass
 

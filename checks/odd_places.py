@@ -283,9 +283,13 @@ def names():
 
 # Signals. Keys of a terminal send theirs to the launcher and all that it started.
 
-def met_by(name, delay, by_key):
+def met_by(name, delay, by_key, by_pipe=False):
+    """The signal comes while the launcher or the toolchain is at work, or while a pipe is waited for."""
     def trial(place):
         place.add_toolchain(WAITS)
+        if by_pipe:
+            os.remove(place.work + "/deal.pbn")
+            os.mkfifo(place.work + "/deal.pbn")
         process = place.start(words())
         time.sleep(delay)
         (os.killpg if by_key else os.kill)(process.pid, getattr(signal, "SIG" + name))
@@ -344,6 +348,8 @@ def signals():
     for delay in (0, 0.002, 0.005, 0.01, 0.02, 0.04, 0.08, 0.2, 0.6):
         for name, by_key in (("INT", True), ("QUIT", True), ("HUP", False), ("TERM", False)):
             yield f"{name} after {delay} s", met_by(name, delay, by_key)
+    for name, by_key in (("INT", True), ("TERM", False)):
+        yield f"{name} while a pipe is waited for", met_by(name, 1, by_key, by_pipe=True)
     yield "KILL for the launcher", launcher_killed
     yield "KILL for what it started", worker_killed
 
