@@ -1,10 +1,14 @@
 """The two sides of bench/double_dummy.py: alphamu, by the processor time of a run less that of an idle one, and DDS, by its own clock."""
+import pathlib
 import subprocess
 
 from timing import processor_seconds
 
-RUNS = 5
+HERE = pathlib.Path(__file__).resolve().parent
+BASELINE = HERE / "build" / "double_dummy_baseline"
+RUNS = 7
 ENOUGH = 0.3
+NOISE = 2e-4
 
 
 def least(timed):
@@ -17,10 +21,20 @@ def least(timed):
 
 
 def less_idle(words, idle_words):
-    """The least seconds of a program without those of an idle run, and what it prints."""
+    """The least seconds of a program without those of an idle run, though not less than NOISE, and what it prints."""
     idle = least(lambda: processor_seconds(idle_words))[0]
     seconds, told = least(lambda: processor_seconds(words))
-    return max(seconds - idle, 1e-5), told
+    return max(seconds - idle, NOISE), told
+
+
+def build_baseline():
+    """Builds the program in C++, and says whether DDS is there."""
+    BASELINE.parent.mkdir(exist_ok=True)
+    words = ["g++", "-O2", "-march=x86-64-v2", "-o", BASELINE, HERE / "double_dummy_baseline.cpp"]
+    has_dds = subprocess.run(words + ["-DWITH_DDS", "-ldds"], stderr=subprocess.DEVNULL).returncode == 0
+    if not has_dds:
+        subprocess.run(words, check=True)
+    return has_dds
 
 
 def as_number(cards):
@@ -30,8 +44,8 @@ def as_number(cards):
 class Dds:
     """A process that asks DDS one question after another. It clears DDS's memory before each, and times DDS's calls alone."""
 
-    def __init__(self, program):
-        self.process = subprocess.Popen([program, "lines"], stdin=subprocess.PIPE, stdout=subprocess.PIPE, text=True)
+    def __init__(self):
+        self.process = subprocess.Popen([BASELINE, "lines"], stdin=subprocess.PIPE, stdout=subprocess.PIPE, text=True)
 
     def ask(self, question, deal, layouts, need=0):
         hands = [as_number(hand) for hand in (deal.declarer, deal.dummy, *(hand for layout in layouts for hand in layout))]
