@@ -170,38 +170,50 @@ impl SuitLeads {
         }
     }
 
-    // What a lead weighs. Of like cards the lowest goes first.
-    fn weight(&self, card: Card) -> u16 {
-        let worth = if self.winners.have(card) {
-            57
-        } else if is_card(card, self.sequence) {
+    // What a lead is worth: most if it wins, and more if it was best at such a turn before.
+    fn worth(&self, card: Card, best_leads: CardSet) -> u16
+        ensures { result ≤ 157 }
+    {
+        let was_best = best_leads.has(card);
+        if self.winners.have(card) {
+            return if was_best { 157 } else { 57 };
+        }
+        let worth = if is_card(card, self.sequence) {
             self.low + 36
         } else {
             self.low
         };
-        self.ease + worth + u16::from(14 - card.rank().number())
+        if was_best { worth + 40 } else { worth }
+    }
+
+    // What a lead weighs. Of like cards the lowest goes first.
+    fn weight(&self, card: Card, best_leads: CardSet) -> u16 {
+        self.ease + self.worth(card, best_leads) + u16::from(14 - card.rank().number())
+    }
+
+    // Weighs some leads of the suit.
+    fn weigh(&self, weights: &mut [u16; 52], leads: CardSet, best_leads: CardSet) {
+        for card in leads {
+            weights[usize::from(card.number())] = self.weight(card, best_leads);
+        }
     }
 }
 
-// Weighs the leads of one suit.
-fn weigh(weights: &mut [u16; 52], leads: CardSet, suit: &SuitLeads) {
-    for card in leads {
-        weights[usize::from(card.number())] = suit.weight(card);
-    }
-}
-
-/// The weights of some leads, each at its card's number.
-pub(crate) fn lead_weights(position: &Position, left: CardSet, cards: CardSet) -> [u16; 52] {
+/// The weights of some leads, each at its card's number. Those that were best at
+/// such a turn before weigh more.
+pub(crate) fn lead_weights(
+    position: &Position,
+    left: CardSet,
+    cards: CardSet,
+    best_leads: CardSet,
+) -> [u16; 52] {
     let hands = Hands::of(position, left, position.to_play());
     let mut weights = [0; 52];
     for suit in Suit::ALL {
         let leads = cards.of_suit(suit);
         if !leads.is_empty() {
-            weigh(
-                &mut weights,
-                leads,
-                &SuitLeads::of(&hands, position.trump, suit),
-            );
+            let weighed = SuitLeads::of(&hands, position.trump, suit);
+            weighed.weigh(&mut weights, leads, best_leads);
         }
     }
     weights

@@ -5,7 +5,7 @@ ghost use Rattle.card_sets.specs.SetWords.{has_card, IsSubset};
 use crate::leads::lead_weights;
 use crate::plays::{likely_plays, longest_side_suit};
 use card_sets::{Card, CardSet, Seat};
-use trick_rules::Position;
+use trick_rules::{Position, Trump};
 
 /// How many turns to lead are told apart.
 pub(crate) const TURNS: usize = 784;
@@ -52,8 +52,8 @@ fn heaviest(weights: &[u16; 52], cards: CardSet) -> Option<Card>
 /// Which of some cards go before the others.
 #[derive(Clone, Copy)]
 pub(crate) enum Order {
-    /// The best lead of another position, if it is among them. Nothing is said of the others yet.
-    Begun(Option<Card>),
+    /// The best lead of another position. Nothing is said of the others yet.
+    Begun(Card),
     /// The heaviest lead, by the weight at its card's number.
     Leads([u16; 52]),
     /// Those in the first set, and of these, or of all if none is, those in the second.
@@ -61,10 +61,12 @@ pub(crate) enum Order {
 }
 
 impl Order {
-    // The order without a best lead.
-    fn of(position: &Position, left: CardSet, cards: CardSet) -> Order {
-        if position.trick.cards.is_empty() {
-            Order::Leads(lead_weights(position, left, cards))
+    // The order of all these cards.
+    fn of(position: &Position, left: CardSet, cards: CardSet, best_leads: CardSet) -> Order {
+        if cards.count() < 2 {
+            Order::Plays(cards, cards)
+        } else if position.trick.cards.is_empty() {
+            Order::Leads(lead_weights(position, left, cards, best_leads))
         } else {
             Order::Plays(
                 likely_plays(position, left, cards),
@@ -73,30 +75,27 @@ impl Order {
         }
     }
 
-    /// An order for some cards. If the best lead of this turn is among them, it goes first, and the
-    /// others are weighed only once it has failed.
+    /// An order for some cards. With trumps the best lead of this turn weighs more. At no trump it
+    /// goes first if it is among them, and the others are weighed only once it has failed.
     pub(crate) fn begun(
         position: &Position,
         left: CardSet,
         cards: CardSet,
         best_lead: Option<Card>,
     ) -> Order {
-        let begins = match best_lead {
-            Some(card) => cards.has(card),
-            None => false,
-        };
-        if begins || cards.count() < 2 {
-            Order::Begun(best_lead)
-        } else {
-            Order::of(position, left, cards)
+        match best_lead {
+            Some(card) if position.trump == Trump::NoTrump && cards.has(card) => {
+                Order::Begun(card)
+            }
+            Some(card) => Order::of(position, left, cards, CardSet::empty().with(card)),
+            None => Order::of(position, left, cards, CardSet::empty()),
         }
     }
 
-    /// The whole order, for the cards that are left.
-    pub(crate) fn whole(&self, position: &Position, left: CardSet, cards: CardSet) -> Order {
-        match self {
-            Order::Begun(_) if cards.count() > 1 => Order::of(position, left, cards),
-            _ => *self,
+    /// Orders the cards that are left, if only the first is known.
+    pub(crate) fn complete(&mut self, position: &Position, left: CardSet, cards: CardSet) {
+        if let Order::Begun(_) = self {
+            *self = Order::of(position, left, cards, CardSet::empty());
         }
     }
 
@@ -105,7 +104,7 @@ impl Order {
         ensures { MatchOption result (cards ≡ []) (λ card. has_card cards card ≡ true) }
     {
         match self {
-            Order::Begun(Some(card)) if cards.has(*card) => Some(*card),
+            Order::Begun(card) if cards.has(*card) => Some(*card),
             Order::Begun(_) => cards.first(),
             Order::Leads(weights) => heaviest(weights, cards),
             Order::Plays(first, second) => narrowed(narrowed(cards, *first), *second).first(),

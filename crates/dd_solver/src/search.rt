@@ -125,7 +125,7 @@ fn best_of(
         }
         counting = joined(counting, part);
         rest = without_like(rest, card, part);
-        order = order.whole(position, left, rest);
+        order.complete(position, left, rest);
     }
     Answer {
         made: !ours,
