@@ -55,7 +55,7 @@ impl WideFronts {
         ensures found { IfOk result (λ found. IsTrue found ↔ HasFront self.now node.now moves) }
         ensures front { IfOk result (λ found. IsTrue found → IsFrontAt node.now moves out.new) }
         ensures unchanged { IfOk result (λ found. found ≡ false → out.new ≡ out.old) }
-        ensures err { OnErr result (out.new ≡ out.old) }
+        ensures err { OnErr result ((out.new ≡ out.old) × HasFront self.now node.now moves) }
         ensures succeeds { HasSpareRoom out.old most_wide_vectors → IsOk result }
         ensures width { out.new.width ≡ out.old.width }
         ensures room { out.old.room ≤ out.new.room }
