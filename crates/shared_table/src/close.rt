@@ -48,7 +48,7 @@ impl SharedTable {
     }
 
     /// How each shard ended: the list that it has at this call, or that another pass is inside. The
-    /// pass counts which, as a look does. Where memory is wanted, the table is dropped.
+    /// pass counts which, as a look does. If an allocation fails, the table is dropped.
     pub fn close(self, pass: &mut Pass) -> Result<ClosedTable, AllocError>
         requires pass { IsPassOf self pass.old }
         ensures ends { IfOk result (λ closed. AreEnds (table_plan self) (view_of pass.old)

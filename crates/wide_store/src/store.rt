@@ -1,4 +1,4 @@
-//! A shared table, and beside it the fronts that are too wide for it.
+//! A shared table, together with the fronts that are too wide for it.
 ghost use Rattle.std.specs.Prelude.{◌≡◌, ◌≢◌, ◌≤◌, [], length};
 ghost use Rattle.pareto_fronts.specs.FrontValue.{HasSpareRoom};
 ghost use Rattle.front_table.specs.Proven.{IsFrontAt};
@@ -15,7 +15,7 @@ use shared_table::SharedStore;
 use std::alloc::Global;
 use trick_rules::Node;
 
-/// A shared table with a pass of it, and beside it the fronts of more than 64 vectors, for one
+/// A shared table with a pass of it, together with the fronts of more than 64 vectors, for one
 /// caller.
 #[derive(Drop)]
 pub struct WideStore<'a> {
@@ -50,8 +50,8 @@ impl FrontStore for WideStore<'_> {
     ghost grown_more = { λ early middle late h k.
         HasGrown-more early.inner middle.inner late.inner h k };
 
-    /// A hit if the wide fronts have one and there is room for it. If they have none, it is as the
-    /// table answers. If they have one and memory is wanted for room, it is a miss.
+    /// A hit if the wide fronts have one and there is room for it. If they have none, the table
+    /// answers. If they have one and an allocation fails for room, it is a miss.
     fn look(&mut self, node: &Node, moves: u8, out: &mut Front) -> Look
         requires width { out.old.width ≡ length node.now.lefts }
         requires room { most_entry_vectors ≤ out.old.room }
@@ -76,8 +76,8 @@ impl FrontStore for WideStore<'_> {
         }
     }
 
-    /// Puts an entry of at most 64 vectors into the table, and keeps a wider one beside it, if it
-    /// has at most 512.
+    /// Puts an entry of at most 64 vectors into the table, and keeps a wider one outside it, if
+    /// that has at most 512.
     fn put(&mut self, entry: ProvenFront) -> Put
         ensures back { HandsBack entry result }
         ensures wide { IsTooWide entry
