@@ -12,7 +12,6 @@ use Rattle.trick_rules.specs.Play.{after, is_declarers, is_over, legal_in, makes
 use Rattle.trick_rules.specs.Play.Makes.{ended, some_card, each_card}
 use Rattle.trick_rules.specs.Nodes.{NodeValue, IsNode, states, choices, child, child_mask}
 use Rattle.trick_rules.proofs.PlayLaws as play
-use Rattle.strategy_games.specs.Games.{mask}
 use Rattle.strategy_games.specs.Plans.{Plan, Replies, Stop, Play, Hear, NoReply, Reply, cards_of, stops, FitEach, ends, ends_each, wins, wins_vector, CanWin, IsFront}
 use Rattle.strategy_games.proofs.Lists.{Contains-here, Contains-there}
 use Rattle.strategy_games.proofs.Fronts.{front_single}

@@ -4,6 +4,7 @@ use Rattle.cut_rules.specs.declared.CutRules.{CutRules}
 use Rattle.cut_rules.specs.Rules.{no_cuts}
 use Rattle.alphamu_core.specs.declared.answers.SearchFault.{SearchFault}
 use Rattle.alphamu_core.specs.declared.answers.SearchFault.TheVariants.{Spent}
+use Rattle.alphamu_core.specs.declared.budget.Entered.{Entered}
 
 -- a search that makes no cut, over a store that never has a front, enters each node of the tree
 abbrev pub EntersEach : CutRules → Bool → Type 0
@@ -17,3 +18,9 @@ pub record Costs {T : Type 0} (Each : Type 0) (size before after : ℕ) (result 
   pub entered : IfOk result (λ _. after < before)
   pub never_rises : after ≤ before
   pub falls : before ≤ after + size
+
+-- a search with this budget entered one node at least, and no more nodes than the budget allows
+pub record IsWithin (nodes : ℕ) (entered : Entered) : Type 0 where
+  pub budget : entered.nodes ≡ nodes
+  pub some : 1 ≤ entered.count
+  pub most : entered.count ≤ nodes

@@ -1,4 +1,5 @@
 pub mod Findings
+pub mod Budgets
 pub mod Costs
 pub mod Limits
 pub mod Judging

@@ -14,6 +14,6 @@ mod results;
 mod walk;
 
 pub use answers::{Found, RootFault, SearchFault};
-pub use budget::Budget;
+pub use budget::{Budget, Entered};
 pub use exact::exact_front;
 pub use node_search::search;

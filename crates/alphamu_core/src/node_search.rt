@@ -20,7 +20,7 @@ use trick_rules::Node;
 ///
 /// A list of vectors, alpha, may spare work: a node may be left where alpha dominates what every
 /// strategy wins there. The store may hold fronts already, and may be given some. The budget pays
-/// for each node that is entered.
+/// for each node that is entered: no more nodes are entered than it still allows, by any rules.
 pub fn search<S: FrontStore>(
     alloc: Global,
     store: &mut S,
@@ -38,12 +38,14 @@ pub fn search<S: FrontStore>(
 
     // Each node entered costs one.
     ensures spent { IsErrOf result SearchFault.Spent
-        → budget.old < tree_size bridge node.now moves }
+        → budget.old.left < tree_size bridge node.now moves }
     ensures counts { rules ≡ no_cuts → S.blind ≡ true
-        → IfOk result (λ _. budget.new + tree_size bridge node.now moves ≡ budget.old) }
-    ensures entered { IfOk result (λ _. budget.new < budget.old) }
-    ensures never_rises { budget.new ≤ budget.old }
-    ensures falls { budget.old ≤ budget.new + tree_size bridge node.now moves }
+        → IfOk result (λ _. budget.new.left + tree_size bridge node.now moves
+        ≡ budget.old.left) }
+    ensures entered { IfOk result (λ _. budget.new.left < budget.old.left) }
+    ensures never_rises { budget.new.left ≤ budget.old.left }
+    ensures falls { budget.old.left ≤ budget.new.left + tree_size bridge node.now moves }
+    ensures nodes { budget.new.nodes ≡ budget.old.nodes }
 
     ensures grown { S.grown store.old store.new }
 {

@@ -38,7 +38,8 @@ pub fn visit<S: FrontStore>(
     requires room { most_entry_vectors ≤ scratch.old.room }
     ensures answer { IfOk result (IsAnswer node moves alpha.now.vectors rules) }
     ensures costs { Costs (EntersEach rules S.blind) (tree_size bridge node moves)
-        budget.old budget.new result }
+        budget.old.left budget.new.left result }
+    ensures nodes { budget.new.nodes ≡ budget.old.nodes }
     ensures room { most_entry_vectors ≤ scratch.new.room }
     ensures grown { S.grown store.old store.new }
 {
@@ -70,7 +71,8 @@ fn open<S: FrontStore>(
     requires goes_on { stops bridge node moves ≡ false }
     ensures answer { IfOk result (IsAnswer node moves alpha.now.vectors rules) }
     ensures costs { Costs (EntersEach rules S.blind) (tree_size bridge node moves)
-        (budget.old + 1) budget.new result }
+        (budget.old.left + 1) budget.new.left result }
+    ensures nodes { budget.new.nodes ≡ budget.old.nodes }
     ensures room { most_entry_vectors ≤ scratch.new.room }
     ensures grown { S.grown store.old store.new }
 {
@@ -107,7 +109,8 @@ fn by_cards<S: FrontStore>(
     requires none { rules ≡ no_cuts → upper.now ≡ None }
     ensures answer { IfOk result (IsAnswer node.now moves alpha.now.vectors rules) }
     ensures costs { Costs (EntersEach rules S.blind) (tree_size bridge node.now moves)
-        (budget.old + 1) budget.new result }
+        (budget.old.left + 1) budget.new.left result }
+    ensures nodes { budget.new.nodes ≡ budget.old.nodes }
     ensures room { most_entry_vectors ≤ scratch.new.room }
     ensures grown { S.grown store.old store.new }
 {
@@ -144,7 +147,8 @@ fn at_declarer<S: FrontStore>(
     requires none { rules ≡ no_cuts → upper.now ≡ None }
     ensures answer { IfOk result (IsAnswer node.now moves alpha.now.vectors rules) }
     ensures costs { Costs (EntersEach rules S.blind) (tree_size bridge node.now moves)
-        (budget.old + 1) budget.new result }
+        (budget.old.left + 1) budget.new.left result }
+    ensures nodes { budget.new.nodes ≡ budget.old.nodes }
     ensures room { most_entry_vectors ≤ scratch.new.room }
     ensures grown { S.grown store.old store.new }
 {
@@ -191,7 +195,8 @@ fn at_defender<S: FrontStore>(
     requires theirs { bridge.is_ours node.now ≡ false }
     ensures answer { IfOk result (IsAnswer node.now moves alpha.now.vectors rules) }
     ensures costs { Costs (EntersEach rules S.blind) (tree_size bridge node.now moves)
-        (budget.old + 1) budget.new result }
+        (budget.old.left + 1) budget.new.left result }
+    ensures nodes { budget.new.nodes ≡ budget.old.nodes }
     ensures room { most_entry_vectors ≤ scratch.new.room }
     ensures grown { S.grown store.old store.new }
 {

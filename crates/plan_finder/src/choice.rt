@@ -3,12 +3,13 @@ ghost use Rattle.std.specs.Prelude.{◌≡◌, ◌≤◌, ℕ, true, false, IfOk
 ghost use Rattle.trick_rules.specs.Nodes.{IsNode, most_moves};
 ghost use Rattle.strategy_games.specs.Plans.{stops};
 ghost use Rattle.strategy_tree.specs.Bridge.{bridge};
+ghost use Rattle.alphamu_core.specs.Costs.{IsWithin};
 ghost use Rattle.plan_finder.specs.Choices.{IsFirstChoice, IsChoiceSpentAt};
 ghost use Rattle.plan_finder.specs.Targets.{IsOfFront};
 
 use crate::misses::misses;
 use crate::searches::pick_of;
-use alphamu_core::{RootFault, SearchFault};
+use alphamu_core::{Entered, RootFault, SearchFault};
 use card_sets::Card;
 use dd_solver::Solver;
 use front_table::FrontStore;
@@ -16,12 +17,14 @@ use std::alloc::Global;
 use trick_rules::Node;
 use win_vectors::WinVector;
 
-/// A card of declarer's side, the node after it, and the vector that the plan goes on with there.
+/// A card of declarer's side, the node after it, the vector that the plan goes on with there, and the
+/// most nodes that a search for it entered.
 #[derive(Drop)]
 pub struct Choice {
     pub card: Card,
     pub child: Node,
     pub vector: WinVector,
+    pub most: Entered,
 }
 
 /// The first card after which some vector of the front dominates this one.
@@ -41,11 +44,13 @@ pub fn first_choice<S: FrontStore>(
     requires ours { bridge.is_ours node.now ≡ true }
     requires vector { IsOfFront node.now moves vector.now }
     ensures first { IfOk result (IsFirstChoice node.now moves vector.now) }
+    ensures within { IfOk result (λ choice. IsWithin nodes choice.most) }
     ensures spent { (card : ℕ) → IsErrOf result (RootFault.Spent card)
         → IsChoiceSpentAt node.now moves vector.now nodes card }
     ensures grown { S.grown store.old store.new }
 {
     let misses = misses(alloc, vector, cuts)?;
+    let mut most = None;
     let mut cards = node.choices();
     'cards: while let Some(card) = cards.pop_first() {
         let (child, _) = node.child(alloc, card)?;
@@ -60,14 +65,18 @@ pub fn first_choice<S: FrontStore>(
             &misses,
             cuts,
         ) {
-            Ok(Some(above)) => {
-                return Ok(Choice {
-                    card,
-                    child,
-                    vector: above,
-                });
+            Ok(picked) => {
+                let entered = picked.entered.larger(most);
+                most = Some(entered);
+                if let Some(above) = picked.vector {
+                    return Ok(Choice {
+                        card,
+                        child,
+                        vector: above,
+                        most: entered,
+                    });
+                }
             }
-            Ok(None) => {}
             Err(fault) => return Err(at_card(fault, card)),
         }
     }

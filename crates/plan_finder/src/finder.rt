@@ -1,20 +1,28 @@
 //! The chosen plan in memory.
-ghost use Rattle.std.specs.Prelude.{◌≡◌, ◌≤◌, ℕ, true, IfOk, IsErrOf};
+ghost use Rattle.std.specs.Prelude.{◌≡◌, ◌≤◌, ℕ, true, IfOk, IfSome, IsErrOf};
 ghost use Rattle.trick_rules.specs.Nodes.{most_moves};
 ghost use Rattle.strategy_games.specs.Choosing.{IsChosenPlan};
 ghost use Rattle.strategy_tree.specs.Bridge.{bridge};
 ghost use Rattle.strategy_tree.specs.PlanMeaning.{plan_of};
+ghost use Rattle.alphamu_core.specs.Costs.{IsWithin};
 ghost use Rattle.plan_finder.specs.Targets.{IsOfFront};
 ghost use Rattle.plan_finder.specs.SpentPlans.{IsPlanSpentAt};
 
 use crate::writer::PlanWriter;
-use alphamu_core::RootFault;
+use alphamu_core::{Entered, RootFault};
 use dd_solver::Solver;
 use front_table::FrontStore;
 use std::alloc::Global;
 use strategy_tree::{Plan, read_plan};
 use trick_rules::Node;
 use win_vectors::WinVector;
+
+/// A plan, and the most nodes that a search for it entered, if there was a search.
+#[derive(Drop)]
+pub struct FoundPlan {
+    pub plan: Plan,
+    pub most: Option<Entered>,
+}
 
 /// The plan that is printed for a target: a vector of the front of a node where declarer's side is
 /// to play, with 1 to 26 moves.
@@ -35,25 +43,26 @@ pub fn plan_for<S: FrontStore>(
     target: &WinVector,
     nodes: u64,
     cuts: bool,
-) -> Result<Plan, RootFault>
+) -> Result<FoundPlan, RootFault>
     requires ours { bridge.is_ours node.now ≡ true }
     requires a_move { 1 ≤ moves }
     requires few_moves { moves ≤ most_moves }
     requires target { IsOfFront node.now moves target.now }
     ensures plan { IfOk result
-        (λ plan. IsChosenPlan bridge (plan_of plan) node.now moves target.now) }
+        (λ found. IsChosenPlan bridge (plan_of found.plan) node.now moves target.now) }
+    ensures within { IfOk result (λ found. IfSome found.most (IsWithin nodes)) }
     ensures spent { (card : ℕ) → IsErrOf result (RootFault.Spent card)
         → IsPlanSpentAt node.now moves target.now nodes card }
     ensures grown { S.grown store.old store.new }
 {
     let _position = node.position();
     let mut out = PlanWriter::new(alloc);
-    match out.push_plan(store, solver, node, moves, target, nodes, cuts) {
-        Ok(()) => {}
+    let most = match out.push_plan(store, solver, node, moves, target, nodes, cuts) {
+        Ok(most) => most,
         Err(fault) => return Err(fault),
-    }
+    };
     match read_plan(alloc, out.bytes(), 0) {
-        Ok((plan, _)) => Ok(plan),
+        Ok((plan, _)) => Ok(FoundPlan { plan, most }),
         Err(_) => Err(RootFault::Memory),
     }
 }

@@ -12,5 +12,5 @@ mod searches;
 mod writer;
 mod written;
 
-pub use finder::plan_for;
+pub use finder::{FoundPlan, plan_for};
 pub use writer::PlanWriter;

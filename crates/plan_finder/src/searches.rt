@@ -5,9 +5,10 @@ ghost use Rattle.strategy_games.specs.Plans.{tree_size};
 ghost use Rattle.strategy_games.specs.Choosing.{IsPick};
 ghost use Rattle.strategy_tree.specs.Bridge.{bridge};
 ghost use Rattle.front_table.specs.Proven.{IsFrontAt};
+ghost use Rattle.alphamu_core.specs.Costs.{IsWithin};
 ghost use Rattle.plan_finder.specs.Choices.{AreMisses, KeepsNone};
 
-use alphamu_core::{Budget, Found, SearchFault, search};
+use alphamu_core::{Budget, Entered, Found, SearchFault, search};
 use cut_rules::{CutRules, Stop};
 use dd_solver::Solver;
 use front_table::FrontStore;
@@ -15,6 +16,21 @@ use pareto_fronts::Front;
 use std::alloc::Global;
 use trick_rules::Node;
 use win_vectors::WinVector;
+
+/// The first vector of a front that dominates another, if there is one, and how many nodes its search
+/// entered.
+#[derive(Drop)]
+pub struct Picked {
+    pub vector: Option<WinVector>,
+    pub entered: Entered,
+}
+
+/// The front of a node, and how many nodes its search entered.
+#[derive(Drop)]
+pub struct WholeFront {
+    pub front: Front,
+    pub entered: Entered,
+}
 
 // The rules of a search: each cut, or none.
 fn rules_of(cuts: bool) -> CutRules {
@@ -37,19 +53,21 @@ pub fn pick_of<S: FrontStore>(
     nodes: u64,
     misses: &Front,
     cuts: bool,
-) -> Result<Option<WinVector>, SearchFault>
+) -> Result<Picked, SearchFault>
     requires few_moves { moves ≤ most_moves }
     requires width { length vector.now ≡ length node.now.lefts }
     requires alpha_width { misses.now.width ≡ length node.now.lefts }
     requires misses { AreMisses vector.now misses.now.vectors }
     ensures picked { IfOk result (λ found.
-        IfSome found (IsPick bridge node.now moves vector.now)) }
-    ensures none { IfOk result (λ found. found ≡ None → KeepsNone node.now moves vector.now) }
+        IfSome found.vector (IsPick bridge node.now moves vector.now)) }
+    ensures none { IfOk result (λ found. found.vector ≡ None
+        → KeepsNone node.now moves vector.now) }
+    ensures within { IfOk result (λ found. IsWithin nodes found.entered) }
     ensures spent { IsErrOf result SearchFault.Spent → nodes < tree_size bridge node.now moves }
     ensures grown { S.grown store.old store.new }
 {
     let mut budget = Budget::new(nodes);
-    match search(
+    let found = search(
         alloc,
         store,
         solver,
@@ -58,9 +76,17 @@ pub fn pick_of<S: FrontStore>(
         moves,
         misses,
         rules_of(cuts),
-    )? {
-        Found::Exact(front) => Ok(front.pick(vector)),
-        Found::Below => Ok(None),
+    )?;
+    let entered = budget.entered();
+    match found {
+        Found::Exact(front) => Ok(Picked {
+            vector: front.pick(vector),
+            entered,
+        }),
+        Found::Below => Ok(Picked {
+            vector: None,
+            entered,
+        }),
     }
 }
 
@@ -73,15 +99,16 @@ pub fn whole_front<S: FrontStore>(
     moves: u8,
     nodes: u64,
     cuts: bool,
-) -> Result<Front, SearchFault>
+) -> Result<WholeFront, SearchFault>
     requires { moves ≤ most_moves }
-    ensures front { IfOk result (IsFrontAt node.now moves) }
+    ensures front { IfOk result (λ whole. IsFrontAt node.now moves whole.front) }
+    ensures within { IfOk result (λ whole. IsWithin nodes whole.entered) }
     ensures spent { IsErrOf result SearchFault.Spent → nodes < tree_size bridge node.now moves }
     ensures grown { S.grown store.old store.new }
 {
     let mut budget = Budget::new(nodes);
     let alpha = Front::new(alloc, node.width());
-    match search(
+    let found = search(
         alloc,
         store,
         solver,
@@ -90,8 +117,10 @@ pub fn whole_front<S: FrontStore>(
         moves,
         &alpha,
         rules_of(cuts),
-    )? {
-        Found::Exact(front) => Ok(front),
+    )?;
+    let entered = budget.entered();
+    match found {
+        Found::Exact(front) => Ok(WholeFront { front, entered }),
         Found::Below => unreachable!(),
     }
 }

@@ -1,8 +1,9 @@
 //! The chosen plan as text, from the root to the leaves.
-ghost use Rattle.std.specs.Prelude.{◌≡◌, ◌<◌, ◌≤◌, [], ℕ, true, false, OnOk, IsErrOf};
+ghost use Rattle.std.specs.Prelude.{◌≡◌, ◌<◌, ◌≤◌, [], ℕ, true, false, OnOk, IfOk, IfSome, IsErrOf};
 ghost use Rattle.trick_rules.specs.Nodes.{IsNode, most_moves};
 ghost use Rattle.strategy_games.specs.Plans.{stops, tree_size};
 ghost use Rattle.strategy_tree.specs.Bridge.{bridge};
+ghost use Rattle.alphamu_core.specs.Costs.{IsWithin};
 ghost use Rattle.plan_finder.specs.Targets.{IsOfFront};
 ghost use Rattle.plan_finder.specs.SpentPlans.{IsPlanSpentAt};
 ghost use Rattle.plan_finder.specs.Written.{IsPlanWritten, AreRepliesWritten};
@@ -11,7 +12,7 @@ use crate::choice::{at_card, first_choice, without_card};
 use crate::plan_lines::{push_hear, push_on, push_play, push_stop};
 use crate::searches::whole_front;
 use crate::writer::PlanWriter;
-use alphamu_core::{RootFault, SearchFault};
+use alphamu_core::{Entered, RootFault, SearchFault};
 use dd_solver::Solver;
 use front_table::FrontStore;
 use std::alloc::Global;
@@ -22,6 +23,8 @@ impl PlanWriter {
     /// Adds the lines of the plan that `plan_for` gives for a target. What was written before, for
     /// vectors of this front or of others, is copied in place of a search. Refused as `plan_for`
     /// is; some of the lines may be written then.
+    ///
+    /// The answer is the most nodes that a search for the plan entered, if there was a search.
     pub fn push_plan<S: FrontStore>(
         &mut self,
         store: &mut S,
@@ -31,13 +34,14 @@ impl PlanWriter {
         target: &WinVector,
         nodes: u64,
         cuts: bool,
-    ) -> Result<(), RootFault>
+    ) -> Result<Option<Entered>, RootFault>
         requires ours { bridge.is_ours node.now ≡ true }
         requires a_move { 1 ≤ moves }
         requires few_moves { moves ≤ most_moves }
         requires target { IsOfFront node.now moves target.now }
         ensures plan { OnOk result
             (IsPlanWritten node.now moves target.now self.old self.new) }
+        ensures within { IfOk result (λ most. IfSome most (IsWithin nodes)) }
         ensures spent { (card : ℕ) → IsErrOf result (RootFault.Spent card)
             → IsPlanSpentAt node.now moves target.now nodes card }
         ensures grown { S.grown store.old store.new }
@@ -58,19 +62,20 @@ fn write_plan<S: FrontStore>(
     target: &WinVector,
     nodes: u64,
     cuts: bool,
-) -> Result<(), RootFault>
+) -> Result<Option<Entered>, RootFault>
     requires ours { bridge.is_ours node.now ≡ true }
     requires a_move { 1 ≤ moves }
     requires few_moves { moves ≤ most_moves }
     requires target { IsOfFront node.now moves target.now }
     ensures plan { OnOk result (IsPlanWritten node.now moves target.now out.old out.new) }
+    ensures within { IfOk result (λ most. IfSome most (IsWithin nodes)) }
     ensures spent { (card : ℕ) → IsErrOf result (RootFault.Spent card)
         → IsPlanSpentAt node.now moves target.now nodes card }
     ensures grown { S.grown store.old store.new }
 {
     if node.stops(moves) {
         push_stop(out)?;
-        return Ok(());
+        return Ok(None);
     }
     prove!(target.width() == node.width());
     let first = first_choice(alloc, store, solver, node, moves, target, nodes, cuts)?;
@@ -86,7 +91,7 @@ fn write_plan<S: FrontStore>(
         nodes,
         cuts,
     ) {
-        Ok(()) => Ok(()),
+        Ok(most) => Ok(Some(first.most.larger(most))),
         Err(fault) => Err(at_card(fault, first.card)),
     }
 }
@@ -103,17 +108,18 @@ fn write_below<S: FrontStore>(
     vector: &WinVector,
     nodes: u64,
     cuts: bool,
-) -> Result<(), SearchFault>
+) -> Result<Option<Entered>, SearchFault>
     requires few_moves { moves ≤ most_moves }
     requires a_node { IsNode node.now }
     requires vector { IsOfFront node.now moves vector.now }
     ensures plan { OnOk result (IsPlanWritten node.now moves vector.now out.old out.new) }
+    ensures within { IfOk result (λ most. IfSome most (IsWithin nodes)) }
     ensures spent { IsErrOf result SearchFault.Spent → nodes < tree_size bridge node.now moves }
     ensures grown { S.grown store.old store.new }
 {
     if node.stops(moves) {
         push_stop(out)?;
-        return Ok(());
+        return Ok(None);
     }
     if node.is_ours() {
         return write_remembered(out, alloc, store, solver, node, moves, vector, nodes, cuts);
@@ -135,24 +141,25 @@ fn write_remembered<S: FrontStore>(
     vector: &WinVector,
     nodes: u64,
     cuts: bool,
-) -> Result<(), SearchFault>
+) -> Result<Option<Entered>, SearchFault>
     requires ours { bridge.is_ours node.now ≡ true }
     requires a_move { 1 ≤ moves }
     requires few_moves { moves ≤ most_moves }
     requires a_node { IsNode node.now }
     requires vector { IsOfFront node.now moves vector.now }
     ensures plan { OnOk result (IsPlanWritten node.now moves vector.now out.old out.new) }
+    ensures within { IfOk result (λ most. IfSome most (IsWithin nodes)) }
     ensures spent { IsErrOf result SearchFault.Spent → nodes < tree_size bridge node.now moves }
     ensures grown { S.grown store.old store.new }
 {
     if out.push_again(node, moves, vector)? {
-        return Ok(());
+        return Ok(None);
     }
     let start = out.len();
     match write_plan(out, alloc, store, solver, node, moves, vector, nodes, cuts) {
-        Ok(()) => {
+        Ok(most) => {
             out.remember(node, moves, vector, start)?;
-            Ok(())
+            Ok(most)
         }
         Err(fault) => Err(without_card(fault)),
     }
@@ -170,7 +177,7 @@ fn write_replies<S: FrontStore>(
     vector: &WinVector,
     nodes: u64,
     cuts: bool,
-) -> Result<(), SearchFault>
+) -> Result<Option<Entered>, SearchFault>
     requires few_moves { moves ≤ most_moves }
     requires a_node { IsNode node.now }
     requires goes_on { stops bridge node.now moves ≡ false }
@@ -178,19 +185,22 @@ fn write_replies<S: FrontStore>(
     requires vector { IsOfFront node.now moves vector.now }
     ensures replies { OnOk result
         (AreRepliesWritten node.now moves vector.now [] out.old out.new) }
+    ensures within { IfOk result (λ most. IfSome most (IsWithin nodes)) }
     ensures spent { IsErrOf result SearchFault.Spent → nodes < tree_size bridge node.now moves }
     ensures grown { S.grown store.old store.new }
 {
+    let mut most = None;
     let mut cards = node.choices();
     'cards: while let Some(card) = cards.pop_first() {
         let (child, mask) = node.child(alloc, card)?;
-        let front = whole_front(alloc, store, solver, &child, moves, nodes, cuts)?;
+        let whole = whole_front(alloc, store, solver, &child, moves, nodes, cuts)?;
         let part = vector.restrict(mask);
-        let above = front.pick(&part).unwrap();
+        let above = whole.front.pick(&part).unwrap();
         push_on(out, card)?;
-        write_below(
+        let below = write_below(
             out, alloc, store, solver, &child, moves, &above, nodes, cuts,
         )?;
+        most = Some(whole.entered.larger(most).larger(below));
     }
-    Ok(())
+    Ok(most)
 }

@@ -42,7 +42,7 @@ fn planned<S: FrontStore>(
     let mut solver = Solver::new(alloc);
     let mut entries = Vec::new(alloc);
     for vector in vectors {
-        let plan = plan_for(
+        let found = plan_for(
             alloc,
             store,
             &mut solver,
@@ -54,7 +54,7 @@ fn planned<S: FrontStore>(
         )?;
         entries.push(Entry {
             vector: *vector,
-            plan,
+            plan: found.plan,
         })?;
     }
     Ok(entries)

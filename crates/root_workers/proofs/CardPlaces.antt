@@ -11,6 +11,7 @@ use Rattle.strategy_games.specs.Plans.{IsFront, CanWin}
 use Rattle.strategy_games.proofs.Lists.{Contains-here, Contains-nil, Contains-there, Contains-append_first}
 use Rattle.strategy_tree.specs.Bridge.{bridge}
 use Rattle.front_table.specs.Proven.{IsFrontAt}
+use Rattle.alphamu_core.specs.declared.budget.Entered.{Entered}
 use Rattle.root_workers.specs.declared.rounds.Round.{Round}
 use Rattle.root_workers.specs.declared.places.Known.{Known}
 use Rattle.root_workers.specs.declared.places.Known.TheVariants.{Exact}
@@ -87,8 +88,8 @@ all_joined P true xs ys h k = All-append P xs ys h k
 all_joined P false xs ys h k = h
 
 -- what is known where it is a front
-pub exact_front : (r : Round) (place : ℕ) (known : Known) (front : FrontValue) → known ≡ Exact front → (at : IsKnownAt r place known) → IsFrontAt (child r.node.now at.card) (r.moves - 1) front
-exact_front r place known front is at = (subst (λ (k : Known). IsKnownAfter r (take place (choices r.node.now)) at.card k) is at.known_is).0
+pub exact_front : (r : Round) (place : ℕ) (known : Known) (front : FrontValue) (entered : Entered) → known ≡ Exact front entered → (at : IsKnownAt r place known) → IsFrontAt (child r.node.now at.card) (r.moves - 1) front
+exact_front r place known front entered is at = (subst (λ (k : Known). IsKnownAfter r (take place (choices r.node.now)) at.card k) is at.known_is).0
 
 -- nothing is won yet
 pub none_won : (r : Round) (cards : List ℕ) (vectors : List Vector) → vectors ≡ [] → AreWonAfter r cards vectors

@@ -6,3 +6,4 @@ pub mod CardPlaces
 pub mod Founds
 pub mod Causes
 pub mod Stopped
+pub mod KnownCards

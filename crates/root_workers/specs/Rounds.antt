@@ -8,6 +8,10 @@ use Rattle.strategy_tree.specs.Bridge.{bridge}
 use Rattle.cut_rules.specs.declared.Stop.TheVariants.{Never}
 use Rattle.cut_rules.specs.Rules.{no_cuts}
 use Rattle.front_table.specs.Proven.{IsFrontAt}
+use Rattle.alphamu_core.specs.Costs.{IsWithin}
+use Rattle.alphamu_core.specs.declared.answers.Found.{Found}
+use Rattle.alphamu_core.specs.declared.answers.Found.TheVariants as found
+use Rattle.alphamu_core.specs.declared.budget.Entered.{Entered}
 use Rattle.shared_table.specs.declared.Pass.{Pass}
 use Rattle.shared_table.specs.Passes.{view_of}
 use Rattle.shared_table.specs.Stores.{HasGrownAt}
@@ -41,10 +45,15 @@ size_after r card = tree_size bridge (child r.node.now card) (r.moves - 1)
 abbrev pub AreWonAfter : Round → List ℕ → List Vector → Type 0
 AreWonAfter r cards vectors = (v : Vector) → Contains vectors v → WinsByCard bridge r.node.now (r.moves - 1) cards v
 
+-- what a search tells of a card
+abbrev pub known_as : Found → Entered → Known
+known_as (found.Exact front) entered = Exact front entered
+known_as found.Below entered = Below entered
+
 -- what is known of a card by itself and the cards before it
 abbrev pub IsKnownAfter : Round → List ℕ → ℕ → Known → Type 0
-IsKnownAfter r earlier card (Exact front) = IsFrontAt (child r.node.now card) (r.moves - 1) front × (IsPlainRound r → size_after r card ≤ r.nodes)
-IsKnownAfter r earlier card Below = IsCoveredBefore r.node.now r.moves earlier card × (r.rules ≢ no_cuts)
+IsKnownAfter r earlier card (Exact front entered) = IsFrontAt (child r.node.now card) (r.moves - 1) front × (IsPlainRound r → size_after r card ≤ r.nodes) × IsWithin r.nodes entered
+IsKnownAfter r earlier card (Below entered) = IsCoveredBefore r.node.now r.moves earlier card × (r.rules ≢ no_cuts) × IsWithin r.nodes entered
 IsKnownAfter r earlier card Spent = r.nodes < size_after r card
 
 -- what is known of the root card at a place, counted from 0

@@ -5,12 +5,13 @@ ghost use Rattle.trick_rules.specs.Nodes.{choices, child, most_moves};
 ghost use Rattle.strategy_tree.specs.Bridge.{bridge};
 ghost use Rattle.cut_rules.specs.Rules.{no_cuts};
 ghost use Rattle.alphamu_core.specs.Findings.{IsFound, IsExact};
+ghost use Rattle.alphamu_core.specs.Costs.{IsWithin};
 ghost use Rattle.shared_table.specs.Passes.{IsPassOf};
 ghost use Rattle.root_workers.specs.Rounds.{IsPlainRound, HasSeenMore, size_after};
 
 use crate::rounds::Round;
-use crate::searches::after_card;
-use alphamu_core::{Found, RootFault};
+use crate::searches::{Finding, after_card};
+use alphamu_core::RootFault;
 use card_sets::Card;
 use dd_solver::Solver;
 use front_table::NoStore;
@@ -24,16 +25,17 @@ pub fn search_card(
     pass: &mut Pass,
     card: Card,
     alpha: &Front,
-) -> Result<Found, RootFault>
+) -> Result<Finding, RootFault>
     requires pass { IsPassOf round.now.table.now pass.old }
     requires card { Contains (choices round.now.node.now) card }
     requires ours { bridge.is_ours round.now.node.now ≡ true }
     requires width { alpha.now.width ≡ length round.now.node.now.lefts }
     requires some_moves { 1 ≤ round.now.moves }
     requires few_moves { round.now.moves ≤ most_moves }
-    ensures found { IfOk result (IsFound (child round.now.node.now card) (round.now.moves - 1)
-        alpha.now.vectors) }
-    ensures exact { round.now.rules ≡ no_cuts → IfOk result IsExact }
+    ensures found { IfOk result (λ searched. IsFound (child round.now.node.now card)
+        (round.now.moves - 1) alpha.now.vectors searched.found) }
+    ensures exact { round.now.rules ≡ no_cuts → IfOk result (λ searched. IsExact searched.found) }
+    ensures within { IfOk result (λ searched. IsWithin round.now.nodes searched.entered) }
     ensures fits { IsPlainRound round.now
         → IfOk result (λ _. size_after round.now card ≤ round.now.nodes) }
     ensures spent { (other : ℕ) → IsErrOf result (RootFault.Spent other)

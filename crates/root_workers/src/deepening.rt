@@ -1,9 +1,10 @@
 //! Rounds with a move more each, by as many workers as are asked for.
-ghost use Rattle.std.specs.Prelude.{◌≡◌, ◌≢◌, ◌≤◌, ℕ, ⊤, true, false, IfOk, IsErrOf, length};
+ghost use Rattle.std.specs.Prelude.{◌≡◌, ◌≢◌, ◌≤◌, ℕ, ⊤, true, false, IfOk, IfSome, IsErrOf, length};
 ghost use Rattle.trick_rules.specs.Nodes.{most_moves};
 ghost use Rattle.strategy_games.specs.Choosing.{IsBestWeight, IsNamedByWeight};
 ghost use Rattle.strategy_tree.specs.Bridge.{bridge};
 ghost use Rattle.front_table.specs.Proven.{IsFrontAt};
+ghost use Rattle.alphamu_core.specs.Costs.{IsWithin};
 ghost use Rattle.shared_table.specs.Passes.{IsPassOf};
 ghost use Rattle.root_workers.specs.Roots.{IsSpentAt, IsFirstSpentAt, AllFit};
 ghost use Rattle.root_workers.specs.Plain.{IsPlain, HasWorkers};
@@ -15,7 +16,7 @@ use crate::merge::run_round;
 use crate::root::Options;
 use crate::rounds::{Round, RoundFront};
 use crate::searches::double_dummy;
-use alphamu_core::RootFault;
+use alphamu_core::{Entered, RootFault};
 use am_outside::Gate;
 use card_sets::CardSet;
 use cut_rules::{CutRules, Stop};
@@ -54,11 +55,13 @@ fn solvers_for(alloc: Global, workers: u32, node: &Node) -> Result<Vec<Solver>, 
     Ok(solvers)
 }
 
-// What the rounds so far leave to the next one: the front, and the root cards for its workers.
+// What the rounds so far leave to the next one: the front, the root cards for its workers, and the
+// most nodes that one of their searches entered.
 #[derive(Drop)]
 struct Before {
     front: Front,
     ahead: CardSet,
+    most: Option<Entered>,
 }
 
 // The front by rounds: with no moves it is double dummy, and each round has a move more. With it the
@@ -84,6 +87,7 @@ fn deepened<R: Threads + Sync, G: Gate>(
     requires few { length solvers.old ≤ 64 }
     requires pass { IsPassOf table.now pass.old }
     ensures front { IfOk result (λ before. IsFrontAt node.now moves before.front) }
+    ensures within { IfOk result (λ before. IfSome before.most (IsWithin options.now.nodes)) }
     ensures spent { (card : ℕ) → IsErrOf result (RootFault.Spent card)
         → IsSpentAt node.now moves options.now.nodes card }
     ensures pass { IsPassOf table.now pass.new }
@@ -91,6 +95,7 @@ fn deepened<R: Threads + Sync, G: Gate>(
 {
     let mut front = double_dummy(alloc, &mut NoStore, &mut solvers[0], node)?;
     let mut ahead = CardSet::empty();
+    let mut most = None;
     for fewer in 0..moves {
         let round = Round {
             alloc,
@@ -111,9 +116,10 @@ fn deepened<R: Threads + Sync, G: Gate>(
             stop
         };
         ahead = next_ahead(node, &next, next_stop);
+        most = Some(next.most.larger(most));
         front = next.front;
     }
-    Ok(Before { front, ahead })
+    Ok(Before { front, ahead, most })
 }
 
 // The last round with cuts, after those with fewer moves.
@@ -147,6 +153,7 @@ fn cut_rounds<R: Threads + Sync, G: Gate>(
         root.card) }
     ensures weight { IfOk result (λ root. IsBestWeight bridge weights.now node.now moves
         root.weight) }
+    ensures within { IfOk result (λ root. IsWithin options.now.nodes root.most) }
     ensures spent { (card : ℕ) → IsErrOf result (RootFault.Spent card)
         → IsSpentAt node.now moves options.now.nodes card }
     ensures pass { IsPassOf table.now pass.new }
@@ -177,7 +184,9 @@ fn cut_rounds<R: Threads + Sync, G: Gate>(
         looks: options.table,
         ahead: less.ahead,
     };
-    run_round(rt, &round, gate, solvers, pass)
+    let mut last = run_round(rt, &round, gate, solvers, pass)?;
+    last.most = last.most.larger(less.most);
+    Ok(last)
 }
 
 // The only round without cuts.
@@ -207,6 +216,7 @@ fn whole_round<R: Threads + Sync, G: Gate>(
         root.card) }
     ensures weight { IfOk result (λ root. IsBestWeight bridge weights.now node.now moves
         root.weight) }
+    ensures within { IfOk result (λ root. IsWithin options.now.nodes root.most) }
     ensures fits { options.now.table ≡ false
         → IfOk result (λ _. AllFit node.now moves options.now.nodes) }
     ensures spent { (card : ℕ) → IsErrOf result (RootFault.Spent card)
@@ -262,6 +272,7 @@ pub fn rounds<R: Threads + Sync, G: Gate>(
         root.card) }
     ensures weight { IfOk result (λ root. IsBestWeight bridge weights.now node.now moves
         root.weight) }
+    ensures within { IfOk result (λ root. IsWithin options.now.nodes root.most) }
     ensures fits { IsPlain options.now
         → IfOk result (λ _. AllFit node.now moves options.now.nodes) }
     ensures spent { (card : ℕ) → IsErrOf result (RootFault.Spent card)

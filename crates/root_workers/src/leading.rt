@@ -5,7 +5,7 @@ ghost use Rattle.cut_rules.specs.Stops.{IsGreatestWeight};
 ghost use Rattle.root_workers.specs.Leaders.{leader};
 
 use crate::rounds::RoundFront;
-use alphamu_core::Found;
+use alphamu_core::{Entered, Found};
 use card_sets::Card;
 use cut_rules::{Stop, greatest_weight, same_front_stop, same_weight_stop};
 use pareto_fronts::Front;
@@ -74,16 +74,18 @@ pub fn is_enough(stop: Stop, front: &Front, best: u32, less: &Front, weights: &W
 }
 
 /// What a round found.
-pub fn found(front: Front, best: (Card, u32), founds: Vec<Found>) -> RoundFront
+pub fn found(front: Front, best: (Card, u32), founds: Vec<Found>, most: Entered) -> RoundFront
     ensures front { result.front ≡ front }
     ensures card { result.card ≡ best.0 }
     ensures weight { result.weight ≡ best.1 }
     ensures founds { result.founds ≡ founds }
+    ensures most { result.most ≡ most }
 {
     RoundFront {
         front,
         card: best.0,
         weight: best.1,
         founds,
+        most,
     }
 }

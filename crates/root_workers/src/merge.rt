@@ -9,6 +9,7 @@ ghost use Rattle.strategy_tree.specs.Bridge.{bridge};
 ghost use Rattle.cut_rules.specs.Rules.{no_cuts};
 ghost use Rattle.front_table.specs.Proven.{IsFrontAt};
 ghost use Rattle.alphamu_core.specs.Findings.{IsFound, IsExact};
+ghost use Rattle.alphamu_core.specs.Costs.{IsWithin};
 ghost use Rattle.shared_table.specs.Passes.{IsPassOf};
 ghost use Rattle.root_workers.specs.Roots.{IsSpentAt, IsFirstSpentAt, AllFit};
 ghost use Rattle.root_workers.specs.Founds.{AreFound};
@@ -18,6 +19,7 @@ use crate::cards::search_card;
 use crate::leading::{found, is_enough, with_card};
 use crate::places::{Known, Place, taken};
 use crate::rounds::{Round, RoundFront};
+use crate::searches::Finding;
 use crate::share::{Done, share};
 use alphamu_core::{Found, RootFault};
 use am_outside::Gate;
@@ -39,7 +41,7 @@ fn after_place<G: Gate>(
     place: u32,
     card: Card,
     alpha: &Front,
-) -> Result<Found, RootFault>
+) -> Result<Finding, RootFault>
     requires round { IsRound round.now }
     requires pass { IsPassOf round.now.table.now pass.old }
     requires right { All (IsRight round.now) places.old.items }
@@ -47,9 +49,10 @@ fn after_place<G: Gate>(
     requires won { IsFrontOf (WinsByCard bridge round.now.node.now (round.now.moves - 1)
         (take place (choices round.now.node.now))) alpha.now.vectors }
     requires width { alpha.now.width ≡ length round.now.node.now.lefts }
-    ensures found { IfOk result (IsFound (child round.now.node.now card) (round.now.moves - 1)
-        alpha.now.vectors) }
-    ensures exact { round.now.rules ≡ no_cuts → IfOk result IsExact }
+    ensures found { IfOk result (λ searched. IsFound (child round.now.node.now card)
+        (round.now.moves - 1) alpha.now.vectors searched.found) }
+    ensures exact { round.now.rules ≡ no_cuts → IfOk result (λ searched. IsExact searched.found) }
+    ensures within { IfOk result (λ searched. IsWithin round.now.nodes searched.entered) }
     ensures fits { IsPlainRound round.now
         → IfOk result (λ _. size_after round.now card ≤ round.now.nodes) }
     ensures spent { (other : ℕ) → IsErrOf result (RootFault.Spent other)
@@ -59,8 +62,14 @@ fn after_place<G: Gate>(
     ensures grown { HasSeenMore pass.old pass.new }
 {
     match taken(round, places, place) {
-        Some(Known::Exact(won)) => Ok(Found::Exact(won)),
-        Some(Known::Below) => Ok(Found::Below),
+        Some(Known::Exact(won, entered)) => Ok(Finding {
+            found: Found::Exact(won),
+            entered,
+        }),
+        Some(Known::Below(entered)) => Ok(Finding {
+            found: Found::Below,
+            entered,
+        }),
         Some(Known::Spent) => Err(RootFault::Spent(card)),
         None => {
             gate.enter(0, card);
@@ -95,6 +104,7 @@ pub fn best_over<G: Gate>(
     ensures founds { round.now.rules.stop ≢ Stop.SameWeight → IfOk result (λ root.
         AreFound round.now.node.now round.now.moves (round.now.rules ≢ no_cuts)
         root.founds.items) }
+    ensures within { IfOk result (λ root. IsWithin round.now.nodes root.most) }
     ensures fits { IsPlainRound round.now
         → IfOk result (λ _. AllFit round.now.node.now round.now.moves round.now.nodes) }
     ensures spent { (card : ℕ) → IsErrOf result (RootFault.Spent card)
@@ -108,17 +118,21 @@ pub fn best_over<G: Gate>(
     let mut front = Front::new(round.alloc, round.node.width());
     let mut best = None;
     let mut founds = Vec::new(round.alloc);
+    let mut most = None;
     let mut place = 0;
     let mut cards = round.node.choices();
     'cards: while let Some(card) = cards.pop_first() {
         let below = after_place(round, gate, solver, pass, &mut places, place, card, &front)?;
         place += 1;
-        match below {
+        let entered = below.entered.larger(most);
+        most = Some(entered);
+        let outcome = below.found;
+        match outcome {
             Found::Exact(won) => {
                 let lead = with_card(&mut front, round.weights, best, card, &won)?;
                 founds.push(Found::Exact(won))?;
                 if is_enough(round.rules.stop, &front, lead.1, round.less, round.weights) {
-                    return Ok(found(front, lead, founds));
+                    return Ok(found(front, lead, founds, entered));
                 }
                 best = Some(lead);
             }
@@ -126,7 +140,7 @@ pub fn best_over<G: Gate>(
         }
     }
     match best {
-        Some(best) => Ok(found(front, best, founds)),
+        Some(best) => Ok(found(front, best, founds, most.unwrap())),
         None => unreachable!(),
     }
 }
@@ -152,6 +166,7 @@ pub fn run_round<R: Threads + Sync, G: Gate>(
     ensures founds { round.now.rules.stop ≢ Stop.SameWeight → IfOk result (λ root.
         AreFound round.now.node.now round.now.moves (round.now.rules ≢ no_cuts)
         root.founds.items) }
+    ensures within { IfOk result (λ root. IsWithin round.now.nodes root.most) }
     ensures fits { IsPlainRound round.now
         → IfOk result (λ _. AllFit round.now.node.now round.now.moves round.now.nodes) }
     ensures spent { (card : ℕ) → IsErrOf result (RootFault.Spent card)

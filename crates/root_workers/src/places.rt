@@ -1,20 +1,35 @@
 //! What workers know of root cards.
 ghost use Rattle.std.specs.Prelude.{◌≡◌, ◌<◌, All, IfSome, length, slice_index_or};
-ghost use Rattle.root_workers.specs.Rounds.{IsKnownAt, IsRight};
+ghost use Rattle.root_workers.specs.Rounds.{IsKnownAt, IsRight, known_as};
 ghost use Rattle.root_workers.specs.declared.places.Place.{Place};
 
 use crate::rounds::Round;
+use crate::searches::Finding;
+use alphamu_core::{Entered, Found};
 use pareto_fronts::Front;
 
-/// What is known of a root card.
+/// What is known of a root card, and how many nodes its search entered.
 #[derive(Drop)]
 pub enum Known {
     /// The front after it.
-    Exact(Front),
+    Exact(Front, Entered),
     /// The cards before it cover what is won after it.
-    Below,
+    Below(Entered),
     /// The tree after it is too large.
     Spent,
+}
+
+impl Known {
+    /// What a search tells of a card.
+    pub fn of(searched: Finding) -> Known
+        ensures { result ≡ known_as searched.found searched.entered }
+    {
+        let entered = searched.entered;
+        match searched.found {
+            Found::Exact(front) => Known::Exact(front, entered),
+            Found::Below => Known::Below(entered),
+        }
+    }
 }
 
 /// A root card by its place in card order, counted from 0, and what is known of it.

@@ -4,6 +4,7 @@ ghost use Rattle.trick_rules.specs.Nodes.{most_moves};
 ghost use Rattle.strategy_games.specs.Choosing.{IsBestWeight, IsNamedByWeight};
 ghost use Rattle.strategy_tree.specs.Bridge.{bridge};
 ghost use Rattle.front_table.specs.Proven.{IsFrontAt};
+ghost use Rattle.alphamu_core.specs.Costs.{IsWithin};
 ghost use Rattle.shared_table.specs.Passes.{IsPassOf};
 ghost use Rattle.root_workers.specs.Roots.{IsSpentAt, IsFirstSpentAt, AllFit};
 ghost use Rattle.root_workers.specs.Plain.{IsPlain, HasWorkers};
@@ -12,7 +13,7 @@ ghost use Rattle.root_workers.specs.Reports.{AreReports, course_of};
 
 use crate::deepening::rounds;
 use crate::reports::{CardReport, Reported, reports};
-use alphamu_core::RootFault;
+use alphamu_core::{Entered, RootFault};
 use am_outside::Gate;
 use card_sets::Card;
 use cut_rules::Stop;
@@ -44,6 +45,8 @@ pub struct RootFront {
     pub card: Card,
     pub weight: u32,
     pub cards: Vec<CardReport>,
+    /// The most nodes that one search of a root card entered, in all rounds.
+    pub most: Entered,
 }
 
 /// The card to play at a root, and the weight of the layouts that it wins.
@@ -51,6 +54,8 @@ pub struct RootFront {
 pub struct RootCard {
     pub card: Card,
     pub weight: u32,
+    /// The most nodes that one search of a root card entered, in all rounds.
+    pub most: Entered,
 }
 
 /// The front of a node where declarer's side is to play, with 1 to 26 moves; the first card after
@@ -90,6 +95,7 @@ pub fn root_front<R: Threads + Sync, G: Gate>(
         root.weight) }
     ensures cards { IfOk result (λ root. AreReports (course_of node.now moves options.now
         table.now pass.old pass.new) root.cards.items) }
+    ensures within { IfOk result (λ root. IsWithin options.now.nodes root.most) }
     ensures fits { IsPlain options.now
         → IfOk result (λ _. AllFit node.now moves options.now.nodes) }
     ensures spent { (card : ℕ) → IsErrOf result (RootFault.Spent card)
@@ -117,6 +123,7 @@ pub fn root_front<R: Threads + Sync, G: Gate>(
         card: found.card,
         weight: found.weight,
         cards,
+        most: found.most,
     })
 }
 
@@ -144,6 +151,7 @@ pub fn root_card<R: Threads + Sync, G: Gate>(
         root.card) }
     ensures weight { IfOk result (λ root. IsBestWeight bridge weights.now node.now moves
         root.weight) }
+    ensures within { IfOk result (λ root. IsWithin options.now.nodes root.most) }
     ensures fits { IsPlain options.now
         → IfOk result (λ _. AllFit node.now moves options.now.nodes) }
     ensures spent { (card : ℕ) → IsErrOf result (RootFault.Spent card)
@@ -161,5 +169,6 @@ pub fn root_card<R: Threads + Sync, G: Gate>(
     Ok(RootCard {
         card: found.card,
         weight: found.weight,
+        most: found.most,
     })
 }

@@ -1,5 +1,5 @@
 //! What a round asks of each worker, and what it finds.
-use alphamu_core::Found;
+use alphamu_core::{Entered, Found};
 use card_sets::{Card, CardSet};
 use cut_rules::CutRules;
 use pareto_fronts::Front;
@@ -27,12 +27,13 @@ pub struct Round<'a> {
     pub ahead: CardSet,
 }
 
-/// What a round finds: the front, the card that leads with its weight, and what was found after each
-/// root card, in card order, as far as the round went.
+/// What a round finds: the front, the card that leads with its weight, what was found after each root
+/// card, in card order, as far as the round went, and the most nodes that one of its searches entered.
 #[derive(Drop)]
 pub struct RoundFront {
     pub front: Front,
     pub card: Card,
     pub weight: u32,
     pub founds: Vec<Found>,
+    pub most: Entered,
 }

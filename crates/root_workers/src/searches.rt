@@ -7,8 +7,9 @@ ghost use Rattle.strategy_tree.specs.Bridge.{bridge};
 ghost use Rattle.cut_rules.specs.Rules.{no_cuts};
 ghost use Rattle.front_table.specs.Proven.{IsFrontAt};
 ghost use Rattle.alphamu_core.specs.Findings.{IsFound, IsExact};
+ghost use Rattle.alphamu_core.specs.Costs.{IsWithin};
 
-use alphamu_core::{Budget, Found, RootFault, SearchFault, exact_front, search};
+use alphamu_core::{Budget, Entered, Found, RootFault, SearchFault, exact_front, search};
 use card_sets::Card;
 use cut_rules::CutRules;
 use dd_solver::Solver;
@@ -16,6 +17,13 @@ use front_table::FrontStore;
 use pareto_fronts::Front;
 use std::alloc::Global;
 use trick_rules::Node;
+
+/// What a search found, and how many nodes it entered.
+#[derive(Drop)]
+pub struct Finding {
+    pub found: Found,
+    pub entered: Entered,
+}
 
 /// Searches a node within so many nodes.
 pub fn searched<S: FrontStore>(
@@ -27,18 +35,24 @@ pub fn searched<S: FrontStore>(
     nodes: u64,
     alpha: &Front,
     rules: CutRules,
-) -> Result<Found, SearchFault>
+) -> Result<Finding, SearchFault>
     requires width { alpha.now.width ≡ length node.now.lefts }
     requires few_moves { moves ≤ most_moves }
-    ensures found { IfOk result (IsFound node.now moves alpha.now.vectors) }
-    ensures exact { rules ≡ no_cuts → IfOk result IsExact }
+    ensures found { IfOk result (λ searched. IsFound node.now moves alpha.now.vectors
+        searched.found) }
+    ensures exact { rules ≡ no_cuts → IfOk result (λ searched. IsExact searched.found) }
+    ensures within { IfOk result (λ searched. IsWithin nodes searched.entered) }
     ensures fits { rules ≡ no_cuts → S.blind ≡ true
         → IfOk result (λ _. tree_size bridge node.now moves ≤ nodes) }
     ensures spent { IsErrOf result SearchFault.Spent → nodes < tree_size bridge node.now moves }
     ensures grown { S.grown store.old store.new }
 {
     let mut budget = Budget::new(nodes);
-    search(alloc, store, solver, &mut budget, node, moves, alpha, rules)
+    let found = search(alloc, store, solver, &mut budget, node, moves, alpha, rules)?;
+    Ok(Finding {
+        found,
+        entered: budget.entered(),
+    })
 }
 
 /// What a search finds after a root card, with so many moves left, within so many nodes.
@@ -52,13 +66,15 @@ pub fn after_card<S: FrontStore>(
     nodes: u64,
     alpha: &Front,
     rules: CutRules,
-) -> Result<Found, RootFault>
+) -> Result<Finding, RootFault>
     requires card { Contains (choices node.now) card }
     requires ours { bridge.is_ours node.now ≡ true }
     requires width { alpha.now.width ≡ length node.now.lefts }
     requires few_moves { moves ≤ most_moves }
-    ensures found { IfOk result (IsFound (child node.now card) moves alpha.now.vectors) }
-    ensures exact { rules ≡ no_cuts → IfOk result IsExact }
+    ensures found { IfOk result (λ searched. IsFound (child node.now card) moves
+        alpha.now.vectors searched.found) }
+    ensures exact { rules ≡ no_cuts → IfOk result (λ searched. IsExact searched.found) }
+    ensures within { IfOk result (λ searched. IsWithin nodes searched.entered) }
     ensures fits { rules ≡ no_cuts → S.blind ≡ true
         → IfOk result (λ _. tree_size bridge (child node.now card) moves ≤ nodes) }
     ensures spent { (other : ℕ) → IsErrOf result (RootFault.Spent other)
@@ -67,7 +83,7 @@ pub fn after_card<S: FrontStore>(
 {
     let (child, _) = node.child(alloc, card)?;
     match searched(alloc, store, solver, &child, moves, nodes, alpha, rules) {
-        Ok(found) => Ok(found),
+        Ok(searched) => Ok(searched),
         Err(SearchFault::Spent) => Err(RootFault::Spent(card)),
         Err(SearchFault::Memory) => Err(RootFault::Memory),
     }

@@ -9,7 +9,7 @@ use crate::alpha::{Own, is_enough_before, known_before, no_card};
 use crate::cards::search_card;
 use crate::places::{Known, Place};
 use crate::rounds::Round;
-use alphamu_core::{Found, RootFault};
+use alphamu_core::RootFault;
 use am_outside::Gate;
 use card_sets::Card;
 use dd_solver::Solver;
@@ -57,8 +57,7 @@ fn known_of<G: Gate>(
     let found = search_card(round, solver, pass, card, &alpha);
     gate.leave(worker, card);
     match found {
-        Ok(Found::Exact(front)) => Ok(Some(Known::Exact(front))),
-        Ok(Found::Below) => Ok(Some(Known::Below)),
+        Ok(searched) => Ok(Some(Known::of(searched))),
         Err(RootFault::Spent(_)) if round.rules.bound => Ok(None),
         Err(RootFault::Spent(_)) => Ok(Some(Known::Spent)),
         Err(RootFault::Memory) => Err(AllocError),
@@ -72,7 +71,7 @@ fn add_own(round: &Round, own: &mut Own, place: u32, known: &Known) -> Result<()
     requires known { IsKnownAt round.now place known.now }
     ensures { IsOwn round.now own.new }
 {
-    if let Known::Exact(front) = known {
+    if let Known::Exact(front, _) = known {
         if own.next <= u64::from(place) {
             own.front.union(front)?;
             own.next = u64::from(place) + 1;

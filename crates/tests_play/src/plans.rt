@@ -4,11 +4,10 @@ use alphamu_core::{RootFault, exact_front};
 use byte_text::Text;
 use dd_solver::Solver;
 use front_table::NoStore;
-use plan_finder::plan_for;
+use plan_finder::{FoundPlan, plan_for};
 use std::alloc::Global;
 use std::process::Abort;
 use std::test::Fail;
-use strategy_tree::Plan;
 
 /// The plan with two moves that wins the second layout, by searches that may each enter `nodes`
 /// nodes.
@@ -17,7 +16,7 @@ fn second_plan(
     alloc: Global,
     nodes: u64,
     cuts: bool,
-) -> Result<Result<Plan, RootFault>, Fail> {
+) -> Result<Result<FoundPlan, RootFault>, Fail> {
     let root = node_of(rt, alloc, GUESS)?;
     assert!(rt; root.is_ours() && !root.position().over());
     let mut solver = Solver::new(alloc);
@@ -43,9 +42,11 @@ fn the_jack_goes_on_the_seven(rt: HostRuntime) -> Result<(), Fail> {
     let lines =
         "play S2\nhear 3\non S7\nplay SJ\nstop\non SQ\nplay SK\nstop\non SA\nplay SJ\nstop\n";
     for cuts in [false, true] {
-        let plan = second_plan(&rt, rt.alloc(), 10, cuts)??;
+        let found = second_plan(&rt, rt.alloc(), 10, cuts)??;
         let mut text = Text::new(rt.alloc());
-        plan.lines(rt.alloc(), &mut text)?;
+        found.plan.lines(rt.alloc(), &mut text)?;
+        let most = found.most.expect(&rt, "the plan was searched for");
+        assert!(rt; cuts || most.count() == 10);
         assert_eq!(rt; text.bytes(), lines.as_bytes());
     }
     Ok(())

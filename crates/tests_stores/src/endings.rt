@@ -10,7 +10,7 @@ use trick_rules::{Node, Position, Trump};
 /// The numbers of the cards that the defenders hold: S4 S6 ST H3 H4 HJ HK C5.
 const UNSEEN: [u8; 8] = [2, 4, 8, 14, 15, 22, 24, 42];
 
-fn set_of(cards: &[u8]) -> CardSet {
+pub fn set_of(cards: &[u8]) -> CardSet {
     let mut set = CardSet::empty();
     for card in cards {
         if *card < 52 {

@@ -3,7 +3,7 @@
 ghost use Rattle.shared_table.specs.Passes.{IsPassOf};
 
 use crate::endings::{after_seven, guess, spade};
-use crate::gates::Meeting;
+use crate::gates::{Count, Meeting};
 use alphamu_core::RootFault;
 use am_outside::{Gate, OpenGate};
 use card_sets::Card;
@@ -122,6 +122,7 @@ fn both(two: Outcome, three: Outcome) -> [CardReport; 2] {
 fn without_a_table_no_front_is_kept(rt: HostRuntime) -> Result<(), Fail> {
     let node = guess(&rt, rt.alloc())?;
     let root = front_of(&rt, rt.alloc(), &node, 2, &WAYS[0], &OpenGate)??;
+    assert!(rt; root.most.count() == 10 && root.most.nodes() == 10);
     let off = Outcome::Exact(Stored::Off);
     assert_eq!(rt; root.cards.as_slice(), both(off, off).as_slice());
     Ok(())
@@ -185,6 +186,39 @@ fn the_three_is_skipped(rt: HostRuntime) -> Result<(), Fail> {
         assert_eq!(rt; root.cards.len(), 2);
         assert_eq!(rt; root.cards[1].outcome, Outcome::Skipped);
     }
+    Ok(())
+}
+
+// The three isn't searched.
+#[test]
+fn the_front_stops_the_loop(rt: HostRuntime) -> Result<(), Fail> {
+    let node = guess(&rt, rt.alloc())?;
+    let gate = Count::new();
+    let root = front_of(&rt, rt.alloc(), &node, 1, &WAYS[1], &gate)??;
+    assert!(rt; root.card == spade(2) && root.weight == 2 && root.front.len() == 1);
+    assert_eq!(rt; gate.entered(), 1);
+    Ok(())
+}
+
+// With one move the jack wins one layout and the king the other: two searches. No card wins more
+// with two moves, so that the jack is enough for the card to play, though not for the front.
+#[test]
+fn the_weight_stops_the_loop(rt: HostRuntime) -> Result<(), Fail> {
+    let alloc = rt.alloc();
+    let node = after_seven(&rt, alloc)?;
+    let weights = Weights::equal(node.width());
+    assert!(rt; node.is_ours() && !node.position().over() && weights.width() == node.width());
+    let (table, mut pass) = SharedTable::new(alloc, 1, 64)?;
+    let gate = Count::new();
+    let found = root_card(
+        &rt, alloc, &node, 2, &weights, &WAYS[1], &table, &mut pass, &gate,
+    )?;
+    assert!(rt; found.card == spade(11) && found.weight == 1);
+    assert_eq!(rt; gate.entered(), 3);
+    let gate = Count::new();
+    let root = front_of(&rt, alloc, &node, 2, &WAYS[1], &gate)??;
+    assert_eq!(rt; root.front.len(), 2);
+    assert_eq!(rt; gate.entered(), 4);
     Ok(())
 }
 

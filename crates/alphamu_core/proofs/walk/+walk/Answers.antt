@@ -23,7 +23,8 @@ use Rattle.alphamu_core.proofs.walk.+walk.Goals as goal
 pub at_declarer-cards-init : goal.at_declarer-cards-init
 at_declarer-cards-init g t c = record {
   so = ours_none c.args.node.now (c.args.moves - 1) c.cards_to_try-cards.result c.new-front.result c.cards_to_try-cards.ensures.enough c.new-front.ensures.empty (c.new-front.ensures.width ∙ c.width.ensures.value);
-  paid = paid_none (EntersEach c.args.rules g.S.FrontStore.blind) c.args.node.now (c.args.moves - 1) c.cards_to_try-cards.result c.args.budget.now c.cards_to_try-cards.ensures.enough (λ each. c.cards_to_try-cards.ensures.each each.0);
+  paid = paid_none (EntersEach c.args.rules g.S.FrontStore.blind) c.args.node.now (c.args.moves - 1) c.cards_to_try-cards.result c.args.budget.now.left c.cards_to_try-cards.ensures.enough (λ each. c.cards_to_try-cards.ensures.each each.0);
+  nodes = refl;
   room = c.requires.room;
   grown = g.met.S.FrontStore.grown_none c.args.store.now;
 }
@@ -79,6 +80,7 @@ pub at_declarer-cards-preserved : goal.at_declarer-cards-preserved
 at_declarer-cards-preserved g t c = record {
   so = ours_more c.args.node.now (c.args.moves - 1) c.cards.invariant.so c.in-Some.ensures c.in_ok-child.ensures.node c.in_ok-found.found c.args.rules c.unite.new.front c.in_ok-found.ensures.answer c.in_ok-unite.ensures.united c.in_ok-unite.ensures.width;
   paid = paid_more (EntersEach c.args.rules g.S.FrontStore.blind) c.args.node.now (c.args.moves - 1) c.cards.invariant.paid c.in-Some.ensures c.in_ok-child.ensures.node c.in_ok-found.found c.in_ok-found.ensures.costs;
+  nodes = c.in_ok-found.ensures.nodes ∙ c.cards.invariant.nodes;
   room = c.in_ok-found.ensures.room;
   grown = g.met.S.FrontStore.grown_more c.args.store.now c.cards.store c.visit.new.store c.cards.invariant.grown c.in_ok-found.ensures.grown;
 }
@@ -87,6 +89,7 @@ pub at_declarer-cards-preserved-else-is_reached : goal.at_declarer-cards-preserv
 at_declarer-cards-preserved-else-is_reached g t c = record {
   so = ours_more c.args.node.now (c.args.moves - 1) c.cards.invariant.so c.in-Some.ensures c.in_ok-child.ensures.node c.in_ok-found.found c.args.rules c.unite.new.front c.in_ok-found.ensures.answer c.in_ok-unite.ensures.united c.in_ok-unite.ensures.width;
   paid = paid_more (EntersEach c.args.rules g.S.FrontStore.blind) c.args.node.now (c.args.moves - 1) c.cards.invariant.paid c.in-Some.ensures c.in_ok-child.ensures.node c.in_ok-found.found c.in_ok-found.ensures.costs;
+  nodes = c.in_ok-found.ensures.nodes ∙ c.cards.invariant.nodes;
   room = c.in_ok-found.ensures.room;
   grown = g.met.S.FrontStore.grown_more c.args.store.now c.cards.store c.visit.new.store c.cards.invariant.grown c.in_ok-found.ensures.grown;
 }
@@ -95,6 +98,7 @@ pub at_declarer-cards-preserved-else-is_reached-2 : goal.at_declarer-cards-prese
 at_declarer-cards-preserved-else-is_reached-2 g t c = record {
   so = ours_more c.args.node.now (c.args.moves - 1) c.cards.invariant.so c.in-Some.ensures c.in_ok-child.ensures.node c.in_ok-found.found c.args.rules c.unite.new.front c.in_ok-found.ensures.answer c.in_ok-unite.ensures.united c.in_ok-unite.ensures.width;
   paid = paid_more (EntersEach c.args.rules g.S.FrontStore.blind) c.args.node.now (c.args.moves - 1) c.cards.invariant.paid c.in-Some.ensures c.in_ok-child.ensures.node c.in_ok-found.found c.in_ok-found.ensures.costs;
+  nodes = c.in_ok-found.ensures.nodes ∙ c.cards.invariant.nodes;
   room = c.in_ok-found.ensures.room;
   grown = g.met.S.FrontStore.grown_more c.args.store.now c.cards.store c.visit.new.store c.cards.invariant.grown c.in_ok-found.ensures.grown;
 }
@@ -113,7 +117,8 @@ at_declarer-returns-clause-costs g t c =
 pub at_defender-cards-init : goal.at_defender-cards-init
 at_defender-cards-init g t c = record {
   so = theirs_none c.args.node.now c.args.moves c.cards_to_try-cards.result c.new-joiner.result c.width.result c.cards_to_try-cards.ensures.enough c.width.ensures.value c.new-joiner.ensures.width c.new-joiner.ensures.front c.new-joiner.ensures.covered;
-  paid = paid_none (EntersEach c.args.rules g.S.FrontStore.blind) c.args.node.now c.args.moves c.cards_to_try-cards.result c.args.budget.now c.cards_to_try-cards.ensures.enough (λ each. c.cards_to_try-cards.ensures.each each.0);
+  paid = paid_none (EntersEach c.args.rules g.S.FrontStore.blind) c.args.node.now c.args.moves c.cards_to_try-cards.result c.args.budget.now.left c.cards_to_try-cards.ensures.enough (λ each. c.cards_to_try-cards.ensures.each each.0);
+  nodes = refl;
   room = c.requires.room;
   grown = g.met.S.FrontStore.grown_none c.args.store.now;
 }
@@ -180,6 +185,7 @@ at_defender-cards-preserved g t c =
     record {
       so = theirs_more c.args.node.now c.args.moves c.cards.invariant.so (taken_first _ _ _ c.in-Some.ensures.value) c.in_ok-child.ensures.node c.add.new.self c.in-Exact.won c.in_ok-child.mask c.width.ensures.a_node c.in_ok-child.ensures.mask answer c.in_ok-add.ensures.front c.in_ok-add.ensures.width c.in_ok-add.ensures.covered;
       paid = paid_more (EntersEach c.args.rules g.S.FrontStore.blind) c.args.node.now c.args.moves c.cards.invariant.paid (taken_first _ _ _ c.in-Some.ensures.value) c.in_ok-child.ensures.node c.in_ok-won.field-0 c.in_ok-won.ensures.costs;
+      nodes = c.in_ok-won.ensures.nodes ∙ c.cards.invariant.nodes;
       room = c.in_ok-won.ensures.room;
       grown = g.met.S.FrontStore.grown_more c.args.store.now c.cards.store c.visit.new.store c.cards.invariant.grown c.in_ok-won.ensures.grown;
     }
@@ -203,25 +209,25 @@ at_defender-returns-clause-costs g t c =
 pub open-returns-in_err-found-clause-costs : goal.open-returns-in_err-found-clause-costs
 open-returns-in_err-found-clause-costs g t c =
     let some = tree_size-positive c.args.node c.args.moves in
-    costs_memory (EntersEach c.args.rules g.S.FrontStore.blind) (tree_size bridge c.args.node c.args.moves) (c.args.budget.now + 1) c.args.budget.now c.from_residual.result c.from_residual.ensures.1 (omega arith) (omega arith)
+    costs_memory (EntersEach c.args.rules g.S.FrontStore.blind) (tree_size bridge c.args.node c.args.moves) (c.args.budget.now.left + 1) c.args.budget.now.left c.from_residual.result c.from_residual.ensures.1 (omega arith) (omega arith)
 
 pub open-returns-in-Settled-clause-costs : goal.open-returns-in-Settled-clause-costs
 open-returns-in-Settled-clause-costs g t c =
     let some = tree_size-positive c.args.node c.args.moves in
-    costs_one (EntersEach c.args.rules g.S.FrontStore.blind) (tree_size bridge c.args.node c.args.moves) (c.args.budget.now + 1) c.args.budget.now c.in-Settled.found
+    costs_one (EntersEach c.args.rules g.S.FrontStore.blind) (tree_size bridge c.args.node c.args.moves) (c.args.budget.now.left + 1) c.args.budget.now.left c.in-Settled.found
     (λ each. absurd (subst (λ limit. IsUnknown limit) c.in-Settled.is (c.in_ok-found.ensures.unknown each.0 each.1))) some refl
 
 pub visit-returns-in_err-enter-clause-costs : goal.visit-returns-in_err-enter-clause-costs
 visit-returns-in_err-enter-clause-costs g t c =
-    costs_none (EntersEach c.args.rules g.S.FrontStore.blind) (tree_size bridge c.args.node c.args.moves) c.args.budget.now c.enter.new.self c.from_residual.result c.in_err-enter.field-0.0 c.from_residual.ensures.1 (tree_size-positive c.args.node c.args.moves) c.in_err-enter.ensures.spent.0 c.in_err-enter.ensures.spent.1
+    costs_none (EntersEach c.args.rules g.S.FrontStore.blind) (tree_size bridge c.args.node c.args.moves) c.args.budget.now.left c.enter.new.self.left c.from_residual.result c.in_err-enter.field-0.0 c.from_residual.ensures.1 (tree_size-positive c.args.node c.args.moves) c.in_err-enter.ensures.spent.0 c.in_err-enter.ensures.spent.1
 
 pub visit-returns-in_err-leaf-clause-costs : goal.visit-returns-in_err-leaf-clause-costs
 visit-returns-in_err-leaf-clause-costs g t c =
     let some = tree_size-positive c.args.node c.args.moves in
     let paid = c.in_ok-enter.ensures.paid in
-    costs_memory (EntersEach c.args.rules g.S.FrontStore.blind) (tree_size bridge c.args.node c.args.moves) c.args.budget.now c.enter.new.self c.from_residual-in_err-leaf.result c.from_residual-in_err-leaf.ensures.1 (omega arith) (omega arith)
+    costs_memory (EntersEach c.args.rules g.S.FrontStore.blind) (tree_size bridge c.args.node c.args.moves) c.args.budget.now.left c.enter.new.self.left c.from_residual-in_err-leaf.result c.from_residual-in_err-leaf.ensures.1 (omega arith) (omega arith)
 
 pub visit-returns-in_ok-leaf-clause-costs : goal.visit-returns-in_ok-leaf-clause-costs
 visit-returns-in_ok-leaf-clause-costs g t c =
-    costs_one (EntersEach c.args.rules g.S.FrontStore.blind) (tree_size bridge c.args.node c.args.moves) c.args.budget.now c.enter.new.self c.in_ok-leaf.field-0
+    costs_one (EntersEach c.args.rules g.S.FrontStore.blind) (tree_size bridge c.args.node c.args.moves) c.args.budget.now.left c.enter.new.self.left c.in_ok-leaf.field-0
     (λ each. sizes.at_stop c.args.node c.args.moves (stopped c.args.node c.args.moves (sym c.stops.ensures ∙ c.if-stops.true))) (tree_size-positive c.args.node c.args.moves) c.in_ok-enter.ensures.paid

@@ -23,20 +23,24 @@ pick_of-requires-clause-alpha_width g c =
     c.in_ok-misses.ensures.width
     ∙ same_width c.args.node.now c.args.moves c.args.vector.now c.cards.invariant.so c.in-Some.ensures.value c.in_ok-child.ensures.node c.requires.ours c.requires.vector
 
-pub returns-in-Ok-Some-clause-first : goal.returns-in-Ok-Some-clause-first
-returns-in-Ok-Some-clause-first g c =
-    let pick = subst (λ found. IfSome found (IsPick bridge c.in_ok-child.child (c.args.moves - 1) c.args.vector.now)) c.in-Ok-Some.field-0-is c.in-Ok-Some.ensures.picked in
-    let found = first_found c.args.node.now c.args.moves c.args.vector.now c.cards.invariant.so c.in-Some.ensures.value c.in_ok-child.ensures.node c.in-Ok-Some.above pick in
+pub returns-in-Some-vector-clause-first : goal.returns-in-Some-vector-clause-first
+returns-in-Some-vector-clause-first g c =
+    let pick = subst (λ found. IfSome found (IsPick bridge c.in_ok-child.child (c.args.moves - 1) c.args.vector.now)) c.in-Some-vector.is c.in-Ok.ensures.picked in
+    let found = first_found c.args.node.now c.args.moves c.args.vector.now c.cards.invariant.so c.in-Some.ensures.value c.in_ok-child.ensures.node c.in-Some-vector.above pick in
     record { first = found.0; after = c.in_ok-child.ensures.node; goes_on_with = found.1 }
 
-pub returns-in-Ok-Some-clause-grown : goal.returns-in-Ok-Some-clause-grown
-returns-in-Ok-Some-clause-grown g c =
+pub returns-in-Some-vector-clause-grown : goal.returns-in-Some-vector-clause-grown
+returns-in-Some-vector-clause-grown g c =
     g.met.S.FrontStore.grown_more c.args.store.now c.cards.store c.pick_of.new.store c.cards.invariant.grown c.pick_of.ensures.grown
+
+pub returns-in-Some-vector-clause-within : goal.returns-in-Some-vector-clause-within
+returns-in-Some-vector-clause-within g c = c.larger-entered.ensures.within c.args.nodes c.in-Ok.ensures.within c.cards.invariant.most
 
 pub cards-preserved : goal.cards-preserved
 cards-preserved g c = record {
-  so = none_more c.args.node.now c.args.moves c.args.vector.now c.cards.invariant.so c.in-Some.ensures.value c.in_ok-child.ensures.node (c.in-Ok-None.ensures.none c.in-Ok-None.field-0-is);
+  so = none_more c.args.node.now c.args.moves c.args.vector.now c.cards.invariant.so c.in-Some.ensures.value c.in_ok-child.ensures.node (c.in-Ok.ensures.none c.in_default-vector.is);
   grown = g.met.S.FrontStore.grown_more c.args.store.now c.cards.store c.pick_of.new.store c.cards.invariant.grown c.pick_of.ensures.grown;
+  most = c.larger-entered.ensures.within c.args.nodes c.in-Ok.ensures.within c.cards.invariant.most;
 }
 
 pub unreachable-requires : goal.unreachable-requires

@@ -7,10 +7,10 @@ use Rattle.plan_finder.proofs.searches.pick_of.Goals as goal
 pub returns-in-Exact-clause-none : goal.returns-in-Exact-clause-none
 returns-in-Exact-clause-none g c =
     none_of_found c.args.node.now c.args.moves c.args.vector.now c.in-Exact.front
-    (subst (λ (f : Found). IsFound c.args.node.now c.args.moves c.args.misses.now.vectors f) c.in-Exact.is c.in_ok-front.ensures.found)
+    (subst (λ (f : Found). IsFound c.args.node.now c.args.moves c.args.misses.now.vectors f) c.in-Exact.is c.in_ok-found.ensures.found)
     c.pick.result c.pick.ensures.found
 
 pub returns-in-Below-clause-none : goal.returns-in-Below-clause-none
 returns-in-Below-clause-none g c = λ _.
     below_keeps_none c.args.node.now c.args.moves c.args.vector.now c.args.misses.now.vectors c.requires.misses
-    (subst (λ (f : Found). IsFound c.args.node.now c.args.moves c.args.misses.now.vectors f) c.in-Below.is c.in_ok-front.ensures.found)
+    (subst (λ (f : Found). IsFound c.args.node.now c.args.moves c.args.misses.now.vectors f) c.in-Below.is c.in_ok-found.ensures.found)

@@ -90,15 +90,16 @@ pub write_replies-cards-init : goal.write_replies-cards-init
 write_replies-cards-init g t c = record {
   written = none_written c.args.node.now c.args.moves c.args.vector.now c.choices-cards.result c.args.out.now (replied_none c.args.node.now c.args.moves c.args.vector.now c.choices-cards.result c.choices-cards.ensures);
   grown = g.met.S.FrontStore.grown_none c.args.store.now;
+  most = tt;
 }
 
 pub write_replies-child-requires : goal.write_replies-child-requires
 write_replies-child-requires g t c = has_card-from_Contains _ _ (next_reply c.args.node.now c.args.moves c.args.vector.now (so_far c.args.node.now c.args.moves c.args.vector.now c.cards.invariant.written) c.in-Some.ensures.value)
 
-pub write_replies-returns-in_err-front-clause-spent : goal.write_replies-returns-in_err-front-clause-spent
-write_replies-returns-in_err-front-clause-spent g t c = λ e.
-    let fault = passed_on c.from_residual-in_err-front.result c.in_err-front.field-0.0 Spent c.from_residual-in_err-front.ensures.1 e in
-    spent_below c.args.node.now c.args.moves c.args.vector.now (so_far c.args.node.now c.args.moves c.args.vector.now c.cards.invariant.written) c.in-Some.ensures.value c.in_ok-child.ensures.node c.args.nodes c.requires.a_node c.requires.goes_on c.requires.theirs (c.in_err-front.ensures.spent (ap Err fault))
+pub write_replies-returns-in_err-whole-clause-spent : goal.write_replies-returns-in_err-whole-clause-spent
+write_replies-returns-in_err-whole-clause-spent g t c = λ e.
+    let fault = passed_on c.from_residual-in_err-whole.result c.in_err-whole.field-0.0 Spent c.from_residual-in_err-whole.ensures.1 e in
+    spent_below c.args.node.now c.args.moves c.args.vector.now (so_far c.args.node.now c.args.moves c.args.vector.now c.cards.invariant.written) c.in-Some.ensures.value c.in_ok-child.ensures.node c.args.nodes c.requires.a_node c.requires.goes_on c.requires.theirs (c.in_err-whole.ensures.spent (ap Err fault))
 
 pub write_replies-restrict-part-requires-clause-same_width : goal.write_replies-restrict-part-requires-clause-same_width
 write_replies-restrict-part-requires-clause-same_width g t c =
@@ -111,49 +112,53 @@ write_replies-restrict-part-requires-clause-not_empty g t c =
 pub write_replies-pick-requires : goal.write_replies-pick-requires
 write_replies-pick-requires g t c =
     ap (λ (v : Vector). length v) c.restrict-part.ensures
-    ∙ part_width c.args.node.now c.args.moves c.args.vector.now (so_far c.args.node.now c.args.moves c.args.vector.now c.cards.invariant.written) c.in-Some.ensures.value c.in_ok-child.ensures.node _ c.in_ok-child.ensures.mask c.in_ok-front.front c.in_ok-front.ensures.front c.requires.vector
+    ∙ part_width c.args.node.now c.args.moves c.args.vector.now (so_far c.args.node.now c.args.moves c.args.vector.now c.cards.invariant.written) c.in-Some.ensures.value c.in_ok-child.ensures.node _ c.in_ok-child.ensures.mask c.in_ok-whole.whole.front c.in_ok-whole.ensures.front c.requires.vector
 
 pub write_replies-unwrap-above-requires : goal.write_replies-unwrap-above-requires
 write_replies-unwrap-above-requires g t c =
-    let covered = part_above c.args.node.now c.args.moves c.args.vector.now (so_far c.args.node.now c.args.moves c.args.vector.now c.cards.invariant.written) c.in-Some.ensures.value c.in_ok-child.ensures.node _ c.in_ok-child.ensures.mask c.in_ok-front.front c.in_ok-front.ensures.front
+    let covered = part_above c.args.node.now c.args.moves c.args.vector.now (so_far c.args.node.now c.args.moves c.args.vector.now c.cards.invariant.written) c.in-Some.ensures.value c.in_ok-child.ensures.node _ c.in_ok-child.ensures.mask c.in_ok-whole.whole.front c.in_ok-whole.ensures.front
     c.requires.a_node c.requires.goes_on c.requires.theirs c.requires.vector in
-    c.pick.ensures.found.1 (subst (λ (t : Vector). Covers c.in_ok-front.front.vectors t) (sym c.restrict-part.ensures) covered)
+    c.pick.ensures.found.1 (subst (λ (t : Vector). Covers c.in_ok-whole.whole.front.vectors t) (sym c.restrict-part.ensures) covered)
 
 pub write_replies-write_below-requires : goal.write_replies-write_below-requires
 write_replies-write_below-requires g t c κs within =
     let so = so_far c.args.node.now c.args.moves c.args.vector.now c.cards.invariant.written in
     let less = fewer_below c.args.node.now c.args.moves c.args.vector.now so c.in-Some.ensures.value c.in_ok-child.ensures.node c.requires.a_node in
-    let first = subst (λ (o : Option Vector). IfSome o (IsFirstAbove c.in_ok-front.front.vectors c.restrict-part.result)) c.unwrap-above.ensures c.pick.ensures.first in
-    let of = above_of c.args.node.now c.args.moves c.args.vector.now so c.in-Some.ensures.value c.in_ok-child.ensures.node _ c.in_ok-child.ensures.mask c.in_ok-front.front c.in_ok-front.ensures.front c.restrict-part.ensures first in
+    let first = subst (λ (o : Option Vector). IfSome o (IsFirstAbove c.in_ok-whole.whole.front.vectors c.restrict-part.result)) c.unwrap-above.ensures c.pick.ensures.first in
+    let of = above_of c.args.node.now c.args.moves c.args.vector.now so c.in-Some.ensures.value c.in_ok-child.ensures.node _ c.in_ok-child.ensures.mask c.in_ok-whole.whole.front c.in_ok-whole.ensures.front c.restrict-part.ensures first in
     (omega arith, (within, (c.requires.few_moves, (node_below c.args.node.now c.args.moves c.args.vector.now so c.in-Some.ensures.value c.in_ok-child.ensures.node c.requires.a_node, of))))
 
-pub write_replies-returns-in_err-write_below-clause-spent : goal.write_replies-returns-in_err-write_below-clause-spent
-write_replies-returns-in_err-write_below-clause-spent g t c = λ e.
-    let fault = passed_on c.from_residual-in_err-write_below.result c.in_err-write_below.field-0.0 Spent c.from_residual-in_err-write_below.ensures.1 e in
-    spent_below c.args.node.now c.args.moves c.args.vector.now (so_far c.args.node.now c.args.moves c.args.vector.now c.cards.invariant.written) c.in-Some.ensures.value c.in_ok-child.ensures.node c.args.nodes c.requires.a_node c.requires.goes_on c.requires.theirs (c.in_err-write_below.ensures.spent (ap Err fault))
+pub write_replies-returns-in_err-below-clause-spent : goal.write_replies-returns-in_err-below-clause-spent
+write_replies-returns-in_err-below-clause-spent g t c = λ e.
+    let fault = passed_on c.from_residual-in_err-below.result c.in_err-below.field-0.0 Spent c.from_residual-in_err-below.ensures.1 e in
+    spent_below c.args.node.now c.args.moves c.args.vector.now (so_far c.args.node.now c.args.moves c.args.vector.now c.cards.invariant.written) c.in-Some.ensures.value c.in_ok-child.ensures.node c.args.nodes c.requires.a_node c.requires.goes_on c.requires.theirs (c.in_err-below.ensures.spent (ap Err fault))
 
-pub write_replies-returns-in_err-front-clause-grown : goal.write_replies-returns-in_err-front-clause-grown
-write_replies-returns-in_err-front-clause-grown g t c = g.met.S.FrontStore.grown_more c.args.store.now c.cards.store c.whole_front.new.store c.cards.invariant.grown c.in_err-front.ensures.grown
+pub write_replies-returns-in_err-whole-clause-grown : goal.write_replies-returns-in_err-whole-clause-grown
+write_replies-returns-in_err-whole-clause-grown g t c = g.met.S.FrontStore.grown_more c.args.store.now c.cards.store c.whole_front.new.store c.cards.invariant.grown c.in_err-whole.ensures.grown
 
 pub write_replies-returns-in_err-push_on-clause-grown : goal.write_replies-returns-in_err-push_on-clause-grown
-write_replies-returns-in_err-push_on-clause-grown g t c = g.met.S.FrontStore.grown_more c.args.store.now c.cards.store c.whole_front.new.store c.cards.invariant.grown c.in_ok-front.ensures.grown
+write_replies-returns-in_err-push_on-clause-grown g t c = g.met.S.FrontStore.grown_more c.args.store.now c.cards.store c.whole_front.new.store c.cards.invariant.grown c.in_ok-whole.ensures.grown
 
-pub write_replies-returns-in_err-write_below-clause-grown : goal.write_replies-returns-in_err-write_below-clause-grown
-write_replies-returns-in_err-write_below-clause-grown g t c =
+pub write_replies-returns-in_err-below-clause-grown : goal.write_replies-returns-in_err-below-clause-grown
+write_replies-returns-in_err-below-clause-grown g t c =
     let grown = g.met.S.FrontStore.grown_more in
-    grown c.args.store.now c.whole_front.new.store c.write_below.new.store (grown c.args.store.now c.cards.store c.whole_front.new.store c.cards.invariant.grown c.in_ok-front.ensures.grown) c.in_err-write_below.ensures.grown
+    grown c.args.store.now c.whole_front.new.store c.write_below.new.store (grown c.args.store.now c.cards.store c.whole_front.new.store c.cards.invariant.grown c.in_ok-whole.ensures.grown) c.in_err-below.ensures.grown
 
 pub write_replies-cards-preserved : goal.write_replies-cards-preserved
 write_replies-cards-preserved g t c =
-    let first = subst (λ (o : Option Vector). IfSome o (IsFirstAbove c.in_ok-front.front.vectors c.restrict-part.result)) c.unwrap-above.ensures c.pick.ensures.first in
+    let first = subst (λ (o : Option Vector). IfSome o (IsFirstAbove c.in_ok-whole.whole.front.vectors c.restrict-part.result)) c.unwrap-above.ensures c.pick.ensures.first in
     let grown = g.met.S.FrontStore.grown_more in
     let so = so_far c.args.node.now c.args.moves c.args.vector.now c.cards.invariant.written in
-    let plan = c.in_ok-write_below.ensures.plan in
+    let plan = c.in_ok-below.ensures.plan in
     record {
       written = one_more_written c.args.node.now c.args.moves c.args.vector.now c.cards.invariant.written _ c.push_on.new.out c.write_below.new.out _ _ _ c.in_ok-push_on.ensures plan
-          (replied_more c.args.node.now c.args.moves c.args.vector.now so c.in-Some.ensures.value c.in_ok-child.ensures.node _ c.in_ok-child.ensures.mask c.in_ok-front.front c.in_ok-front.ensures.front c.restrict-part.ensures first plan.plan plan.chosen);
-      grown = grown c.args.store.now c.whole_front.new.store c.write_below.new.store (grown c.args.store.now c.cards.store c.whole_front.new.store c.cards.invariant.grown c.in_ok-front.ensures.grown) c.in_ok-write_below.ensures.grown;
+          (replied_more c.args.node.now c.args.moves c.args.vector.now so c.in-Some.ensures.value c.in_ok-child.ensures.node _ c.in_ok-child.ensures.mask c.in_ok-whole.whole.front c.in_ok-whole.ensures.front c.restrict-part.ensures first plan.plan plan.chosen);
+      grown = grown c.args.store.now c.whole_front.new.store c.write_below.new.store (grown c.args.store.now c.cards.store c.whole_front.new.store c.cards.invariant.grown c.in_ok-whole.ensures.grown) c.in_ok-below.ensures.grown;
+      most = c.larger-in-Some.ensures.within c.args.nodes (c.larger.ensures.within c.args.nodes c.in_ok-whole.ensures.within c.cards.invariant.most) c.in_ok-below.ensures.within;
     }
 
 pub write_replies-returns-clause-replies : goal.write_replies-returns-clause-replies
 write_replies-returns-clause-replies g t c = all_written c.args.node.now c.args.moves c.args.vector.now c.cards.invariant.written c.in_default.ensures.value.0
+
+pub write_replies-returns-clause-within : goal.write_replies-returns-clause-within
+write_replies-returns-clause-within g t c = c.cards.invariant.most

@@ -1,5 +1,6 @@
-use Rattle.std.proofs.Common.{◌+◌, ◌*◌, length}
+use Rattle.std.proofs.Common.{◌+◌, ◌*◌, length, IfSome}
 use Rattle.trick_rules.specs.Play.{cards_left}
+use Rattle.alphamu_core.specs.Costs.{IsWithin}
 use Rattle.plan_finder.specs.Written.{AreRepliesWritten}
 use Rattle.plan_finder.proofs.written.+write.Given as goal
 
@@ -20,6 +21,7 @@ abbrev pub invariant-write_replies-cards : goal.invariant-write_replies-cards
 invariant-write_replies-cards g l = record {
   written : AreRepliesWritten l.node l.moves l.vector l.cards l.fn.out l.out;
   grown : g.S.FrontStore.grown l.fn.store l.store;
+  most : IfSome l.most (IsWithin l.nodes);
 }
 
 abbrev pub decreases-write_replies-cards : goal.decreases-write_replies-cards

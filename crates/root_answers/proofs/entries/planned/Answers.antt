@@ -18,14 +18,14 @@ pub plan_for-requires-clause-target : goal.plan_for-requires-clause-target
 plan_for-requires-clause-target g c =
     target_here c.args.node.now c.args.moves c.args.vectors.now c.loop-vector.vector-index c.vector-item.result c.requires.targets c.loop-vector-test.true c.vector-item.is
 
-pub returns-in_err-plan-clause-spent : goal.returns-in_err-plan-clause-spent
-returns-in_err-plan-clause-spent g c = λ card e.
+pub returns-in_err-found-clause-spent : goal.returns-in_err-found-clause-spent
+returns-in_err-found-clause-spent g c = λ card e.
     let passed = c.from_residual in
-    let spent = c.in_err-plan.ensures.spent card (ap Err (passed_on passed.result c.in_err-plan.field-0.0 (Spent card) passed.ensures.1 e)) in
+    let spent = c.in_err-found.ensures.spent card (ap Err (passed_on passed.result c.in_err-found.field-0.0 (Spent card) passed.ensures.1 e)) in
     (spent.choice, spent.larger)
 
-pub returns-in_err-plan-clause-grown : goal.returns-in_err-plan-clause-grown
-returns-in_err-plan-clause-grown g c = g.met.S.FrontStore.grown_more c.args.store.now c.loop-vector.store c.plan_for.new.store c.loop-vector.invariant.grown c.plan_for.ensures.grown
+pub returns-in_err-found-clause-grown : goal.returns-in_err-found-clause-grown
+returns-in_err-found-clause-grown g c = g.met.S.FrontStore.grown_more c.args.store.now c.loop-vector.store c.plan_for.new.store c.loop-vector.invariant.grown c.plan_for.ensures.grown
 
 pub returns-in_err-push-clause-grown : goal.returns-in_err-push-clause-grown
 returns-in_err-push-clause-grown g c = g.met.S.FrontStore.grown_more c.args.store.now c.loop-vector.store c.plan_for.new.store c.loop-vector.invariant.grown c.plan_for.ensures.grown
@@ -33,7 +33,7 @@ returns-in_err-push-clause-grown g c = g.met.S.FrontStore.grown_more c.args.stor
 pub loop-vector-preserved : goal.loop-vector-preserved
 loop-vector-preserved g c = record {
   planned = one_more_planned c.args.node.now c.args.moves c.args.vectors.now c.loop-vector.vector-index c.vector-item.result _ c.loop-vector.entries.items c.push.new.self.items
-      c.loop-vector.invariant.planned c.loop-vector-test.true c.vector-item.is c.in_ok-plan.ensures.plan c.in_ok-push.ensures.items;
+      c.loop-vector.invariant.planned c.loop-vector-test.true c.vector-item.is c.in_ok-found.ensures.plan c.in_ok-push.ensures.items;
   grown = g.met.S.FrontStore.grown_more c.args.store.now c.loop-vector.store c.plan_for.new.store c.loop-vector.invariant.grown c.plan_for.ensures.grown;
 }
 

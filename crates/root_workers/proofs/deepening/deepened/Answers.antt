@@ -35,6 +35,7 @@ loop-fewer-preserved g c = record {
   pass = c.run_round.ensures.pass;
   grown = seen_more c.args.pass.now c.loop-fewer.pass c.run_round.new.pass c.loop-fewer.invariant.grown c.run_round.ensures.grown;
   front = c.in_ok-next.ensures.front (λ e. let no : SameFront ≡ SameWeight = sym (ap (λ (r : CutRules). r.stop) c.all.ensures) ∙ e in cc);
+  most = c.larger.ensures.within c.args.options.now.nodes c.in_ok-next.ensures.within c.loop-fewer.invariant.most;
 }
 
 pub returns-clause-front : goal.returns-clause-front

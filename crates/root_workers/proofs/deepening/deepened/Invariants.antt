@@ -1,3 +1,5 @@
+use Rattle.std.proofs.Common.{IfSome}
+use Rattle.alphamu_core.specs.Costs.{IsWithin}
 use Rattle.front_table.specs.Proven.{IsFrontAt}
 use Rattle.shared_table.specs.Passes.{IsPassOf}
 use Rattle.root_workers.specs.Rounds.{HasSeenMore}
@@ -8,4 +10,5 @@ invariant-loop-fewer g l = record {
   pass : IsPassOf l.table l.pass;
   grown : HasSeenMore l.fn.pass l.pass;
   front : IsFrontAt l.node l.fewer l.front;
+  most : IfSome l.most (IsWithin l.options.nodes);
 }

@@ -1,4 +1,4 @@
-use Rattle.std.proofs.Common.{◌≡◌, ◌∙◌, ◌-◌, ◌+◌, ℕ, suc, List, length, Err, arith, ap, refl, sym, subst}
+use Rattle.std.proofs.Common.{◌≡◌, ◌∙◌, ◌-◌, ◌+◌, ℕ, suc, None, ◌⊎◌, List, length, Err, arith, ap, refl, sym, subst, inl, inr}
 use Rattle.trick_rules.specs.Nodes.{choices, child}
 use Rattle.card_sets.proofs.SetCounts.{length-le_52}
 use Rattle.card_sets.proofs.Sets.{IsCardSet-cards_where}
@@ -26,6 +26,8 @@ cards-init g c =
       right = c.requires.right;
       founds = subst (λ (fs : List Found). AreFoundSoFar r.node.now r.moves (MakesCuts r) fs) (sym c.new-founds.ensures.items) (none_found r.node.now r.moves (MakesCuts r));
       counted = ap length c.new-founds.ensures.items;
+      most = tt;
+      searched = inl refl;
       so = root_none_at r.node.now (r.moves - 1) r.weights.now r.nodes (IsPlainRound r) c.choices-cards.result c.new-front.result c.choices-cards.ensures c.new-front.ensures.empty (c.new-front.ensures.width ∙ c.width.ensures.value);
     }
 
@@ -158,6 +160,8 @@ cards-preserved-in-Exact g c =
       right = c.after_place.ensures.right;
       founds = founds_more r c.cards.founds.items c.push.new.self.items (Exact c.in-Exact.won) c.cards.place c.in_ok-push-in-Exact.ensures.items c.cards.invariant.founds c.cards.invariant.counted here;
       counted = counted_push r c.cards.founds.items c.push.new.self.items (Exact c.in-Exact.won) c.cards.place c.in_ok-push-in-Exact.ensures.items c.cards.invariant.counted;
+      most = c.larger-entered.ensures.within r.nodes c.in_ok-below.ensures.within c.cards.invariant.most;
+      searched = inr refl;
       so = root_with_at n (r.moves - 1) r.weights.now c.cards.invariant.so.0 c.in-Some.ensures.value (child n c.in-Some.card) c.in-Exact.won c.with_card.new.front c.in_ok-lead-in-Exact.lead c.cards.place c.cards.invariant.so.1 refl
           (subst (λ (f : Found). IsFound (child n c.in-Some.card) (r.moves - 1) c.cards.front.vectors f) c.in-Exact.is c.in_ok-below.ensures.found)
           c.in_ok-below.ensures.fits c.in_ok-lead-in-Exact.ensures.leads c.in_ok-lead-in-Exact.ensures.union c.in_ok-lead-in-Exact.ensures.width;
@@ -178,6 +182,8 @@ cards-preserved g c =
       right = c.after_place.ensures.right;
       founds = founds_more r c.cards.founds.items c.push-in-Below.new.self.items Below c.cards.place c.in_ok-push-in-Below.ensures.items c.cards.invariant.founds c.cards.invariant.counted here;
       counted = counted_push r c.cards.founds.items c.push-in-Below.new.self.items Below c.cards.place c.in_ok-push-in-Below.ensures.items c.cards.invariant.counted;
+      most = c.larger-entered.ensures.within r.nodes c.in_ok-below.ensures.within c.cards.invariant.most;
+      searched = inr refl;
       so = root_covered_at n (r.moves - 1) r.weights.now c.cards.invariant.so.0 c.in-Some.ensures.value c.width.ensures.a_node (child n c.in-Some.card) c.cards.place c.cards.invariant.so.1 refl
           below (λ plain. cut plain.cuts);
     }
@@ -217,3 +223,13 @@ pub returns-clause-founds : goal.returns-clause-founds
 returns-clause-founds g c = λ other.
     rw (c.found-in-Some-best.ensures.founds)
     (founds_of_all c.args.round.now c.cards.invariant.so.0 c.cards.founds.items c.cards.invariant.founds (c.cards.invariant.counted ∙ c.cards.invariant.so.1) c.in_default.ensures.value.0)
+
+pub unwrap-requires : goal.unwrap-requires
+unwrap-requires g c = elim c.cards.invariant.searched [
+  | inl none ↦ absurd (let no = sym none ∙ c.in-Some-best.is in cc)
+  | inr some ↦ some
+]
+
+pub returns-then-is_enough-clause-within : goal.returns-then-is_enough-clause-within
+returns-then-is_enough-clause-within g c =
+    rw (c.found.ensures.most) (c.larger-entered.ensures.within c.args.round.now.nodes c.in_ok-below.ensures.within c.cards.invariant.most)

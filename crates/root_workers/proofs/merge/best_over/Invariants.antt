@@ -1,4 +1,6 @@
-use Rattle.std.proofs.Common.{◌≡◌, ◌-◌, length, All}
+use Rattle.std.proofs.Common.{◌≡◌, ◌-◌, ◌⊎◌, None, IfSome, length, All}
+use Rattle.std.specs.Prelude.{IsSome}
+use Rattle.alphamu_core.specs.Costs.{IsWithin}
 use Rattle.shared_table.specs.Passes.{IsPassOf}
 use Rattle.root_workers.specs.Rounds.{IsPlainRound, IsRight, HasSeenMore}
 use Rattle.cut_rules.specs.Rules.{no_cuts}
@@ -13,6 +15,8 @@ invariant-cards g l = record {
   right : All (IsRight l.round) l.places.items;
   founds : AreFoundSoFar l.round.node.now l.round.moves (l.round.rules ≡ no_cuts → ⊥) l.founds.items;
   counted : length l.founds.items ≡ l.place;
+  most : IfSome l.most (IsWithin l.round.nodes);
+  searched : (l.best ≡ None) ⊎ IsSome l.most;
   so : (so : RootSoFar l.round.node.now (l.round.moves - 1) l.round.weights.now l.round.nodes (IsPlainRound l.round) l.cards l.front l.best) × (l.place ≡ length so.tried);
 }
 

@@ -1,0 +1,235 @@
+//! How many nodes a search enters where one cut, or the store, spares the rest of a small tree. Each
+//! test fails if the search lacks what the test is named after.
+//!
+//! The numbers are counted by hand. Declarer holds SK SJ, and dummy leads S2 from S3 S2. Left has
+//! SQ S5 or SA S5, so Right may play S7 in both layouts, SQ in one and SA in the other. After each
+//! of the three declarer has two cards, and then no move is left: 1 + 3 * (1 + 2) = 10 nodes.
+use crate::endings::set_of;
+use alphamu_core::{Budget, Found, search};
+use card_sets::{Card, Seat};
+use cut_rules::{CutRules, Stop};
+use dd_solver::Solver;
+use front_table::{FrontStore, LocalStore, NoStore};
+use pareto_fronts::Front;
+use std::alloc::{AllocError, Global};
+use std::process::Abort;
+use std::test::Fail;
+use trick_rules::{Node, Position, Trump};
+use win_vectors::WinVector;
+
+/// Declarer's cards: SK SJ.
+const KING_JACK: [u8; 2] = [9, 11];
+
+/// The defenders' cards where declarer has these: S5 S7 SQ SA.
+const QUEEN_ACE: [u8; 4] = [3, 5, 10, 12];
+
+/// The hands of Left: SQ S5 and SA S5.
+const HANDS: [[u8; 2]; 2] = [[3, 10], [3, 12]];
+
+/// Dummy leads from S3 S2, and this many of the two tricks are needed. Left has one of the hands.
+fn root(
+    rt: &impl Abort,
+    alloc: Global,
+    declarer: &[u8],
+    unseen: &[u8],
+    need: u8,
+    hands: &[[u8; 2]],
+) -> Result<Node, AllocError> {
+    let position = Position::between_tricks(
+        set_of(declarer),
+        set_of(&[0, 1]),
+        set_of(unseen),
+        Seat::Dummy,
+        need,
+        Trump::NoTrump,
+    )
+    .expect(rt, "the ending is sound");
+    let mut lefts = Vec::new(alloc);
+    for hand in hands {
+        let left = set_of(hand);
+        assert!(rt; position.fits(left) && lefts.len() < 64);
+        lefts.push(left)?;
+    }
+    assert!(rt; !lefts.is_empty());
+    Node::new(alloc, position, lefts.as_slice())
+}
+
+/// The root where one trick is needed.
+fn guess(rt: &impl Abort, alloc: Global) -> Result<Node, AllocError> {
+    root(rt, alloc, &KING_JACK, &QUEEN_ACE, 1, &HANDS)
+}
+
+/// The node after a card, by its number.
+fn after(rt: &impl Abort, alloc: Global, node: &Node, number: u8) -> Result<Node, AllocError> {
+    assert!(rt; number < 52);
+    let card = Card::from_number(number);
+    assert!(rt; node.choices().has(card));
+    let (child, _) = node.child(alloc, card)?;
+    Ok(child)
+}
+
+/// The front of the vectors whose bits these are, the first layout first.
+fn front_of(alloc: Global, bits: &[[bool; 2]]) -> Result<Front, AllocError> {
+    let mut front = Front::new(alloc, 2);
+    for [first, second] in bits {
+        front.insert(WinVector::none(2).set(0, *first).set(1, *second))?;
+    }
+    Ok(front)
+}
+
+/// How many nodes a search enters, and whether it finds the front.
+fn entered<S: FrontStore>(
+    rt: &impl Abort,
+    alloc: Global,
+    store: &mut S,
+    node: &Node,
+    moves: u8,
+    alpha: &Front,
+    rules: CutRules,
+) -> (u64, bool) {
+    assert!(rt; alpha.width() == node.width() && moves <= 26);
+    let mut budget = Budget::new(1000);
+    let mut solver = Solver::new(alloc);
+    match search(
+        alloc,
+        store,
+        &mut solver,
+        &mut budget,
+        node,
+        moves,
+        alpha,
+        rules,
+    ) {
+        Ok(Found::Exact(_)) => (budget.entered().count(), true),
+        Ok(Found::Below) => (budget.entered().count(), false),
+        Err(_) => panic!(rt; "the search ended with no answer"),
+    }
+}
+
+/// The same with each cut, and with neither a store nor anything won before.
+fn with_cuts(rt: &impl Abort, alloc: Global, node: &Node, moves: u8) -> (u64, bool) {
+    let none = Front::new(alloc, node.width());
+    let rules = CutRules::all(Stop::Never);
+    entered(rt, alloc, &mut NoStore, node, moves, &none, rules)
+}
+
+/// The same with no cuts, over a store.
+fn over<S: FrontStore>(
+    rt: &impl Abort,
+    alloc: Global,
+    store: &mut S,
+    node: &Node,
+    moves: u8,
+) -> (u64, bool) {
+    let none = Front::new(alloc, node.width());
+    entered(rt, alloc, store, node, moves, &none, CutRules::none())
+}
+
+// After S7 declarer wins one layout or the other, so that the two vectors of alpha cover what is
+// left: 1 + (1 + 2). Else SQ and SA are entered too.
+#[test]
+fn early_cut(rt: HostRuntime) -> Result<(), Fail> {
+    let alloc = rt.alloc();
+    let node = after(&rt, alloc, &guess(&rt, alloc)?, 0)?;
+    let alpha = front_of(alloc, &[[true, false], [false, true]])?;
+    let rules = CutRules::all(Stop::Never);
+    let found = entered(&rt, alloc, &mut NoStore, &node, 1, &alpha, rules);
+    assert_eq!(rt; found, (4, false));
+    Ok(())
+}
+
+// Alpha wins both layouts, and double dummy can't win more. Else S7 and what follows it are entered
+// before the early cut.
+#[test]
+fn cut_by_double_dummy(rt: HostRuntime) -> Result<(), Fail> {
+    let alloc = rt.alloc();
+    let node = after(&rt, alloc, &guess(&rt, alloc)?, 0)?;
+    let alpha = front_of(alloc, &[[true, true]])?;
+    let rules = CutRules::all(Stop::Never);
+    let found = entered(&rt, alloc, &mut NoStore, &node, 1, &alpha, rules);
+    assert_eq!(rt; found, (1, false));
+    Ok(())
+}
+
+// With a move the node wins one layout or the other, which alpha covers. With two it can't win more,
+// and the store says so. Double dummy alone promises both layouts.
+#[test]
+fn cut_by_fewer_moves(rt: HostRuntime) -> Result<(), Fail> {
+    let alloc = rt.alloc();
+    let node = after(&rt, alloc, &guess(&rt, alloc)?, 0)?;
+    let mut store = LocalStore::new(alloc, 64);
+    assert_eq!(rt; over(&rt, alloc, &mut store, &node, 1), (10, true));
+    let alpha = front_of(alloc, &[[true, false], [false, true]])?;
+    let rules = CutRules::all(Stop::Never);
+    let found = entered(&rt, alloc, &mut store, &node, 2, &alpha, rules);
+    assert_eq!(rt; found, (1, false));
+    Ok(())
+}
+
+// With two tricks needed neither layout can be made.
+#[test]
+fn no_layout_can_be_made(rt: HostRuntime) -> Result<(), Fail> {
+    let alloc = rt.alloc();
+    let node = root(&rt, alloc, &KING_JACK, &QUEEN_ACE, 2, &HANDS)?;
+    assert_eq!(rt; with_cuts(&rt, alloc, &node, 2), (1, true));
+    Ok(())
+}
+
+// After SQ or SA one layout is left: 1 + (1 + 2) + 1 + 1. Else declarer's cards are entered after
+// them too.
+#[test]
+fn one_layout_is_settled(rt: HostRuntime) -> Result<(), Fail> {
+    let alloc = rt.alloc();
+    let node = after(&rt, alloc, &guess(&rt, alloc)?, 0)?;
+    assert_eq!(rt; with_cuts(&rt, alloc, &node, 1), (6, true));
+    let node = root(&rt, alloc, &KING_JACK, &QUEEN_ACE, 1, &HANDS[..1])?;
+    assert_eq!(rt; with_cuts(&rt, alloc, &node, 2), (1, true));
+    Ok(())
+}
+
+// S3 and S2 are equal: 1 + 6 nodes, as above after S2. Else the other card is entered too.
+#[test]
+fn equal_cards_once(rt: HostRuntime) -> Result<(), Fail> {
+    let alloc = rt.alloc();
+    let node = guess(&rt, alloc)?;
+    assert_eq!(rt; with_cuts(&rt, alloc, &node, 2), (7, true));
+    Ok(())
+}
+
+// Declarer has SA SJ. After S2 and S7 the ace wins both layouts, which is all that double dummy
+// promises: 1 + 1 nodes. Else the jack is entered too.
+#[test]
+fn a_card_that_reaches_the_bound(rt: HostRuntime) -> Result<(), Fail> {
+    let alloc = rt.alloc();
+    let hands = [[3, 10], [3, 11]];
+    let node = root(&rt, alloc, &[9, 12], &[3, 5, 10, 11], 1, &hands)?;
+    let node = after(&rt, alloc, &after(&rt, alloc, &node, 0)?, 5)?;
+    assert_eq!(rt; with_cuts(&rt, alloc, &node, 1), (2, true));
+    Ok(())
+}
+
+// Of the 1 + 10 + 10 nodes below the root the store spares all but the first after S2.
+#[test]
+fn an_inner_node_is_looked_up(rt: HostRuntime) -> Result<(), Fail> {
+    let alloc = rt.alloc();
+    let node = guess(&rt, alloc)?;
+    let mut store = LocalStore::new(alloc, 64);
+    let two = after(&rt, alloc, &node, 0)?;
+    assert_eq!(rt; over(&rt, alloc, &mut NoStore, &node, 2), (21, true));
+    assert_eq!(rt; over(&rt, alloc, &mut store, &two, 1), (10, true));
+    assert_eq!(rt; over(&rt, alloc, &mut store, &node, 2), (12, true));
+    Ok(())
+}
+
+// A search of the root leaves the front after S2 in the store, and its own.
+#[test]
+fn an_inner_node_is_put(rt: HostRuntime) -> Result<(), Fail> {
+    let alloc = rt.alloc();
+    let node = guess(&rt, alloc)?;
+    let mut store = LocalStore::new(alloc, 64);
+    assert_eq!(rt; over(&rt, alloc, &mut store, &node, 2), (21, true));
+    let two = after(&rt, alloc, &node, 0)?;
+    assert_eq!(rt; over(&rt, alloc, &mut store, &two, 1), (1, true));
+    assert_eq!(rt; over(&rt, alloc, &mut store, &node, 2), (1, true));
+    Ok(())
+}
