@@ -1,12 +1,14 @@
 #!/usr/bin/env python3
 """Times the jobs `prove` and `audit` on endings whose log has at most a sixteenth of the bytes that a log may have, and `audit` on
-that log repeated until it has a quarter of these bytes and all of them: 4 and 16 MiB.
+the same log repeated until it has 4 MiB, and 16 MiB, which is the limit.
 
-A log is repeated whole, each time with the numbers of its lines raised, so that it is valid still. It prints the bytes of the
-log itself and its lines, the time of `audit` to that of `prove`, the bytes a second of the longest log, the time a byte of the
-longest log to that of the one a quarter as long, and the least stack that serves for the log itself and for the longest one.
+A log is repeated whole, each time with the numbers of its lines raised, so that it stays valid. For each ending the script prints
+the bytes and lines of the log itself, the time of `audit` as a multiple of that of `prove`, the bytes per second of the longest log,
+its time per byte as a multiple of that of the 4 MiB log, and the smallest stack that is enough for the log itself and for the
+longest one.
 
-Usage: bench/audit.py [RUNS], how often each is timed (default 3); the least counts. The program is built first where needed."""
+Usage: bench/audit.py [RUNS], the number of times that each is timed (default 3); the fastest counts. It builds the program first if
+that is needed."""
 import pathlib
 import subprocess
 import sys
@@ -21,7 +23,7 @@ ENDINGS = [(4, 8, 3, 1), (5, 20, 3, 2), (5, 64, 3, 4)]
 
 
 def raised(line, by):
-    """A line whose numbers are greater by so many."""
+    """The line with its numbers raised."""
     rule, path, moves, cites, vectors = line.split(" ")
     if cites != "-":
         cites = ",".join(str(int(number) + by) for number in cites.split(","))
@@ -29,7 +31,7 @@ def raised(line, by):
 
 
 def repeated(log, most):
-    """The log as many times as this many bytes have room for, and how many lines it has then."""
+    """The log, repeated as often as fits into this many bytes, and how many lines it then has."""
     first, *lines, end = log.splitlines()
     written, room, count = [], most - len(first) - len(end) - 2, 0
     while True:
@@ -76,7 +78,7 @@ def row(ending, folder, runs):
 def main():
     runs = int(sys.argv[1]) if len(sys.argv) > 1 else 3
     if subprocess.run([BUILD]).returncode != 0:
-        sys.exit("no program")
+        sys.exit("the program could not be built")
     print("ending                layouts    bytes    lines  to prove  bytes/second  a byte, 16 to 4     stack  of 16 MiB")
     with tempfile.TemporaryDirectory() as folder:
         for tricks, layouts, moves, seed in ENDINGS:

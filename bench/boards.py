@@ -4,16 +4,16 @@
 Times alphamu's job `boards` with 1, 2 and 4 workers on evenings of 24 boards, in one run on one machine, and prints ratios of wall
 clock: the best of RUNS runs (default 3).
 
-- The evening of examples/evening, after six tricks, whose boards were chosen: one was passed out.
-- Evenings of 24 boards that were not chosen, made by the same rules from other seeds, after five tricks; declarer needs half of what
-  is left.
+- The evening of examples/evening after six tricks. Its boards were chosen, and one was passed out.
+- Evenings of 24 boards that were not chosen, made by the same rules from other seeds, after five tricks. Declarer needs half of the
+  tricks that are left.
 
-Beside them stands what four runs of the whole evening with one worker each, side by side, do in the time of one alone: four workers can
-hardly do better than four runs that share nothing, and on processors that share a core, or with other work, these stay below 4. And how
-long the longest board takes by itself, as a part of the evening: with 4 workers nothing is faster than that.
+The last columns give the bounds. One shows how much four separate runs of the whole evening, with one worker each, get done in the time
+of one run alone: four workers can hardly do better than four runs that share nothing. On processors that share a core, or on a busy
+machine, that stays below 4. The other shows the longest board's share of the evening: no number of workers is faster than that board.
 
-All runs of an evening must print the same bytes. On a machine with fewer than four processors, or one that does other work, the ratios
-say little: it prints how many processors there are and how much other work waits.
+All runs of an evening must print the same bytes. The ratios mean little on a machine with fewer than four processors or with other
+work, so the script prints the number of processors and how many processes are running or waiting.
 
 The program must be built: ./build."""
 import os
@@ -38,14 +38,14 @@ def chosen(folder):
 
 
 def needing_half(seed, played, layouts):
-    """A board after so many tricks, its layouts, and the level at which half of the tricks that are left are needed, or the nearest."""
+    """A board after this many tricks, its layouts, and the level at which declarer needs half of the tricks that are left, or the nearest."""
     chance = make.Chance(seed)
     table = make.board(chance, played)
     return table, make.layouts(table, chance, layouts), min(7, max(1, table.taken() + (13 - played) // 2 - 6))
 
 
 def by_chance(played, first):
-    """Writes an evening of such boards."""
+    """Writes an evening of these boards."""
     def write(folder):
         games = []
         for number in range(1, BOARDS + 1):
@@ -57,7 +57,7 @@ def by_chance(played, first):
 
 
 def longest_part(folder, moves):
-    """The part of the evening's time that its longest board takes, by the processor."""
+    """The share of the evening's processor time that the longest board takes."""
     games = (folder / "evening.pbn").read_text().split("\n\n")
     took = []
     for number, game in enumerate(games, 1):
@@ -88,7 +88,7 @@ def row(name, write, moves, runs):
 
 def main():
     runs = int(sys.argv[1]) if len(sys.argv) > 1 else 3
-    print(f"{os.cpu_count()} processors, {os.getloadavg()[0]:.1f} processes at work or waiting before the run")
+    print(f"{os.cpu_count()} processors, {os.getloadavg()[0]:.1f} processes running or waiting before the run")
     print("evening               moves  one worker  2 workers 4 workers  four runs  user, 4 to 1  longest board")
     for moves in (4, 6):
         row("the chosen one", chosen, moves, runs)

@@ -1,17 +1,17 @@
 #!/usr/bin/env python3
-"""Times how the job `check` reads and judges a report of 16 MiB and one of a quarter of that, and prints the bytes a second,
-and the time a byte of the longer beside the shorter. Then it tries how small a stack serves.
+"""Times how the job `check` reads and judges a report of 4 MiB and one of 16 MiB, which is the limit. Prints the bytes per second,
+and the time per byte of the longer report as a multiple of that of the shorter. Then it finds the smallest stack that is enough.
 
-A report is what the job `solve` prints of an ending, with its plans repeated until the length that a report may have is full.
-Each must be found good. What a report of a single plan takes is not counted. One ending has small plans and one has large
-ones.
+A report is what the job `solve` prints about an ending, with its plans repeated until it is long enough. `check` must call each
+report good. The time for a report of a single plan is subtracted. One ending has small plans and one has large ones.
 
-The stack is shown by the least limit that serves, in steps of 4 KiB: for a report of a single plan and for the one of 16 MiB;
-for the deepest strategy, 52 levels, which plays out a whole deal; for a plan of 64 levels, which can't be a strategy, and is
-refused by its node at level 52; and for one of 65 levels, which isn't read. Where the system has setarch, each run's stack
-begins at the same place; else the numbers differ from run to run by up to 8 KiB.
+The stack is given as the smallest limit that is enough, in steps of 4 KiB: for a report of a single plan and for the one of 16 MiB;
+for the deepest strategy, 52 levels, which plays out a whole deal; for a plan of 64 levels, which can't be a strategy and is refused
+at its node at level 52; and for a plan of 65 levels, which isn't read. If the system has setarch, the stack begins at the same place
+in each run; otherwise the numbers differ from run to run by up to 8 KiB.
 
-Usage: bench/check.py [RUNS], how often each is timed (default 5); the least counts. The program is built first where needed."""
+Usage: bench/check.py [RUNS], the number of times that each is timed (default 5); the fastest counts. It builds the program first if
+that is needed."""
 import functools
 import itertools
 import pathlib
@@ -45,7 +45,7 @@ class Report:
         return f"{self.head}front {len(plans)}\n{''.join(plans)}{self.end}"
 
     def filled(self, length):
-        """The plans again and again, as many as this length has room for."""
+        """The plans again and again, as many as fit into this length."""
         room = length - len(self.of([])) - len(str(length))
         plans = []
         for plan in itertools.cycle(self.plans):
@@ -71,7 +71,7 @@ class Problem:
         return Report(output(self.words("solve", "--moves", moves)))
 
     def written(self, name, text):
-        """The words that judge a report of this text."""
+        """The words that have a report of this text judged."""
         path = self.folder / name
         path.write_text(text)
         return self.words("check", "--report", path)
@@ -82,7 +82,7 @@ def good(plans):
 
 
 def seconds(words, plans):
-    """Seconds of the processor. It stops where the plans aren't found good."""
+    """Seconds of the processor. The script ends if the plans aren't called good."""
     taken, told = processor_seconds(words)
     if told != good(plans)[1]:
         sys.exit(f"{words}: {told!r}")
@@ -91,25 +91,25 @@ def seconds(words, plans):
 
 @functools.cache
 def with_one_start():
-    """The words that have a program's stack begin at the same place in each run; none where the system hasn't them."""
+    """The words that make a program's stack begin at the same place in each run; none if the system has no such command."""
     words = ["setarch", "-R"]
     able = shutil.which(words[0]) and subprocess.run([*words, "true"], capture_output=True).returncode == 0
     return words if able else []
 
 
 def serves(words, told, stack):
-    """Whether the program says this, with its exit status, on a stack of so many KiB."""
+    """Whether the program ends with this output and exit status on a stack of this many KiB."""
     limited = [*with_one_start(), "bash", "-c", 'ulimit -S -s "$0" && exec "$@"', str(stack), *words]
     done = subprocess.run(limited, capture_output=True, text=True)
     return (done.returncode, done.stdout, done.stderr) == told
 
 
 def least_stack(words, told, least=STEP):
-    """The least stack in KiB on which the program says this, where none below `least` is tried."""
+    """The smallest stack in KiB, from `least` on, on which the program ends with this output and exit status."""
     high = least
     while not serves(words, told, high):
         if high > MOST_STACK:
-            sys.exit(f"{words}: {told!r} isn't said on a stack of {high} KiB")
+            sys.exit(f"{words}: expected {told!r} on a stack of {high} KiB")
         high *= 2
     low = max(high // 2, least - STEP)
     while high - low > STEP:
@@ -140,9 +140,9 @@ def judged(ending, folder, runs):
 
 
 def forced_play():
-    """South has to take all thirteen tricks and leads from the bottom of each suit, so that each trick is lost but where both
-    defenders play low. West, East and South hold a card each for each round of a suit, in this order of rank; North's are
-    below them."""
+    """South has to take all thirteen tricks and leads from the bottom of each suit, so South loses each trick unless both
+    defenders play low. West, East and South each hold a card for each round of a suit, in this order of rank; North's cards
+    are below them."""
     west, north, east, south = [], [], [], []
     for suit, rounds in ((SPADES, 4), (HEARTS, 3), (DIAMONDS, 3), (CLUBS, 3)):
         low = 13 - 3 * rounds
@@ -153,8 +153,8 @@ def forced_play():
 
 
 def lines_of_play(hands, trick, moves, last):
-    """The lines of a plan in which declarer's side plays its lowest legal card, and which ends with `last` once the moves are
-    used up. The hands are those of South, West, North and East, and South is to lead, or has led the trick."""
+    """The lines of a plan in which declarer's side always plays its lowest legal card, and which ends with `last` when the moves
+    are used up. The hands are those of South, West, North and East. South is to lead, or has led to the trick."""
     if len(trick) == 4:
         taker = max(range(4), key=lambda seat: (trick[seat] // 13 == trick[0] // 13, trick[seat]))
         if taker % 2 == 1:
@@ -179,14 +179,14 @@ def name_of(card):
 
 
 def deep_stacks(folder):
-    """Prints the stacks of plans as deep as they may be."""
+    """Prints the stacks for the deepest plans."""
     ending, hands = forced_play()
     problem = Problem(folder, ending)
     report = problem.solved(1)
     report.head = report.head.replace("\nmoves 1\n", f"\nmoves {ending.moves}\n")
 
     def written(levels):
-        """The words for a plan of so many levels, with the place of the last of them among its lines, counted from 1."""
+        """The words for a plan of this many levels, and the place of the last level among the lines, counted from 1."""
         last = ["play S2"] * (levels - 52) + ["stop"]
         lines = lines_of_play(hands, [], ending.moves, last)
         nodes = [place for place, line in enumerate(lines, 1) if not line.startswith("on ")]

@@ -1,14 +1,15 @@
 #!/usr/bin/env python3
-"""Times the program alphamu with cuts and table beside a search in C++ with cuts and table, in one run, and prints ratios.
+"""Times alphamu, with cuts and table, against a search in C++ that has both too, in one run, and prints ratios.
 
 The baseline, cuts_baseline.cpp, is αμ as an engineer writes it in an afternoon: early cuts, double dummy as a bound, deepening at the
-root, one of equal cards, and a table and a memo without bound. It finds the front alone. The program by the job `solve` finds the same
-front, which is compared, and a plan for each vector; by the job `card` it finds the card to play.
+root, one of equal cards, and a table and a memo without bound. It finds only the front. alphamu's job `solve` finds the front and a plan
+for each vector, and the script compares the fronts; the job `card` finds the card to play.
 
-The endings have 5 to 8 tricks and 4, 20 and 64 layouts: random ones, whose fronts mostly have one vector, and ones that were looked for,
-with fronts of 5 to about 100 vectors at three moves. A question that takes the baseline more than LIMIT seconds is left out, and counted.
+The endings have 5 to 8 tricks and 4, 20 and 64 layouts. Some are random, and mostly have fronts of one vector. The others were searched
+for, and have fronts of 5 to about 100 vectors at three moves. A question that takes the baseline more than LIMIT seconds is left out,
+and counted.
 
-Of the search alone, from the root, it counts the nodes that are entered at three moves with cuts and a store and with neither.
+For the search alone, from the root, the script counts the nodes entered at three moves, with cuts and a store and with neither.
 
 Usage: bench/cuts.py [MOVES], the most moves (default 6). It builds the workloads first; the program must be built: ./build."""
 import math
@@ -35,7 +36,7 @@ def endings():
 
 
 def seconds_of(words, least=0.2):
-    """The best of runs until they took this long together, three at the least where they are short."""
+    """The best of several runs, which together take this long; of at least three if they are short."""
     taken, told = processor_seconds(words)
     times = [taken]
     while sum(times) < least and len(times) < 3:
@@ -44,7 +45,7 @@ def seconds_of(words, least=0.2):
 
 
 def compared(ending, folder, moves):
-    """The seconds of the baseline, of `solve` and of `card`, and the length of the front; none beyond the limit."""
+    """The seconds of the baseline, of `solve` and of `card`, and the length of the front; none if the baseline takes longer than the limit."""
     deal, layouts = folder / "deal.pbn", folder / "layouts.lay"
     deal.write_text(ending.deal)
     layouts.write_text(ending.layouts)
@@ -72,7 +73,7 @@ def nodes_of(ending, folder, kind, moves=3):
 
 
 def print_nodes(folder):
-    """The nodes at three moves, of the endings of 5 to 7 tricks."""
+    """The nodes at three moves in the endings of 5 to 7 tricks."""
     shares = []
     for ending in endings():
         if not ending.name.startswith("8"):

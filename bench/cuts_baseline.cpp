@@ -1,5 +1,5 @@
-// A search of αμ in C++ with cuts and a table, as an engineer writes it in an afternoon, as a measure for alphamu.
-// Double dummy at the leaves has a memo without bound, or is DDS with --dds where it is compiled with -DWITH_DDS and -ldds.
+// αμ in C++ with cuts and a table, as an engineer writes it in an afternoon: a baseline for alphamu.
+// Double dummy at the leaves has a memo without bound. Compiled with -DWITH_DDS and -ldds, it is DDS if --dds is given.
 // usage: cuts_baseline DEAL LAYOUTS MOVES [--dds] [--no-table] [--no-cuts]
 // It reads a deal file of five lines (Deal, Declarer, Contract, EndNeed, EndLead) and a layout file, and prints the vectors
 // of the front, then how many nodes, hits and leaves there were, and seconds.
@@ -34,8 +34,8 @@ struct Pos {
 static int trump = 4; // 4: none
 static int width_all;
 static inline int seat_to_play(const Pos &p) { return (p.leader + p.n) & 3; }
-static inline int tricks_left(const Pos &p) { // the present trick counted
-    // the seat to play has not played to the trick, so its side's hand has t cards
+static inline int tricks_left(const Pos &p) { // with the present trick
+    // the seat to play has not played to the trick, so its hand has as many cards as there are tricks left
     int s = seat_to_play(p);
     if (s == 0)
         return pop(p.decl);
@@ -96,7 +96,7 @@ struct KeyHash {
 };
 static std::unordered_map<Key, bool, KeyHash> memo;
 static u64 representatives(u64 moves,
-                           u64 rest) { // one of each run of equal cards: rest = all other cards still in play
+                           u64 rest) { // one of each run of equal cards; rest: all other cards still in play
     u64 out = 0;
     for (int s = 0; s < 4; s++) {
         u64 m = moves & suit_mask(s);
@@ -233,7 +233,7 @@ static NodeKey key_of(const Pos &p, const std::vector<u64> &l, int m) {
     k.k.insert(k.k.end(), l.begin(), l.end());
     return k;
 }
-// exact front, or nothing where alpha covers it (below = true)
+// the exact front, or nothing if alpha covers it (below = true)
 static Front search(const Pos &p, const std::vector<u64> &L, int m, const Front &alpha, bool &below) {
     nodes++;
     below = false;

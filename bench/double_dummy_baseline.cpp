@@ -1,17 +1,26 @@
-// The work of the crate bench_double_dummy in C++: double dummy on the same random endings.
-// usage: double_dummy_baseline plain|memo|dds|needs|tricks|sampling TRICKS FIRST ENDINGS [notrump|suit]: the endings from the one with the number FIRST on
-// needs, tricks and sampling ask DDS: for the needs that declarer's side takes after 0 to 7 random cards, as bits, for its tricks, and for all
-// cards in each of 20 layouts
-// dds asks Bo Haglund's double dummy solver (Debian's libdds-dev): build with -DWITH_DDS and -ldds
+// Double dummy in C++, for bench/double_dummy.py: plain minimax, minimax with a memo, and Bo Haglund's DDS (Debian's
+// libdds-dev; build with -DWITH_DDS and -ldds).
+// usage: double_dummy_baseline plain|memo|dds|needs TRICKS FIRST ENDINGS [notrump|suit]
+//     random endings, the same as those of the crate bench_work, from the one with the number FIRST on: whether declarer's
+//     side takes the need; `needs` asks DDS which needs it takes after 0 to 7 random cards, as bits
+// usage: double_dummy_baseline lines
+//     asks DDS what each line of the input asks: QUESTION TRUMP NEED LAYOUTS DECLARER DUMMY, then LEFT RIGHT for each layout.
+//     Hands are sums of 2 to the power of a card's number, from 0 for the two of spades to 51 for the ace of clubs; TRUMP is
+//     0 to 3 for spades to clubs, 4 for no trump; declarer leads. It answers with the seconds of the processor and
+//     tricks   the tricks that declarer's side takes, in one call
+//     needs    the same, asked for 1 trick, 2 tricks and so on until there are too many
+//     cards    for each layout the cards that reach the need
 #include <cstdint>
 #include <cstdio>
 #include <cstdlib>
 #include <cstring>
+#include <ctime>
 #include <unordered_map>
+#include <vector>
 #ifdef WITH_DDS
 #include <dds/dll.h>
 #else
-struct futureTricks { int cards, equals[13], score[13]; };
+struct futureTricks { int cards, suit[13], rank[13], equals[13], score[13]; };
 #endif
 using u64 = uint64_t;
 static u64 state = 20191118;
@@ -112,34 +121,71 @@ static long needs_made(Pos p, int tricks) {
     for (int need = 1; need <= tricks; need++) needs |= (long)(need <= total) << need;
     return needs;
 }
-// how many of declarer's cards keep the tricks of the first of 20 layouts, summed over the layouts
-static long sampled(const Pos &first, int tricks) {
-    u64 unseen = first.hand[1] | first.hand[3];
-    long made = 0;
-    int need = 0;
-    for (int layout = 0; layout < 20; layout++) {
-        Pos p = first;
-        if (layout) {
-            u64 used = ~unseen;
-            p.hand[1] = 0;
-            random_hand(p.hand[1], used, tricks);
-            p.hand[3] = unseen & ~p.hand[1];
-        }
-        futureTricks found = ask(p, -1, 3);
-        if (!layout) need = found.score[0] > 1 ? found.score[0] : 1;
-        for (int i = 0; i < found.cards; i++)
-            if (found.score[i] >= need) made += 1 + __builtin_popcount(found.equals[i]);
+// the cards of declarer that reach the need
+static u64 cards_that_make(const Pos &p) {
+    futureTricks found = ask(p, p.need, 2);
+    u64 cards = 0;
+    for (int i = 0; i < found.cards; i++)
+        if (found.score[i] >= p.need) cards |= (u64)(found.equals[i] >> 2 | 1 << (found.rank[i] - 2)) << 13 * found.suit[i];
+    return cards;
+}
+static u64 tricks_by_needs(Pos p) {
+    int tricks = __builtin_popcountll(p.hand[0]), taken = 0;
+    for (p.need = 1; p.need <= tricks && makes_dds(p); p.need++) taken = p.need;
+    return taken;
+}
+// DDS answers a deal that it was asked before from its memory; a small deal with other trumps in between clears it.
+static void clear_memory(int trump) {
+    Pos p{};
+    u64 used = 0;
+    for (u64 &hand : p.hand) random_hand(hand, used, 5);
+    p.trump = trump == 4 ? 0 : 4;
+    ask(p, -1, 1);
+}
+static double processor_seconds() {
+    timespec now;
+    clock_gettime(CLOCK_PROCESS_CPUTIME_ID, &now);
+    return now.tv_sec + 1e-9 * now.tv_nsec;
+}
+struct Question { char kind[8]; std::vector<Pos> layouts; };
+// the next line of the input
+static bool read_question(Question &question) {
+    Pos p{};
+    int layouts;
+    if (scanf("%7s%d%d%d%lu%lu", question.kind, &p.trump, &p.need, &layouts, &p.hand[0], &p.hand[2]) != 6) return false;
+    question.layouts.assign(layouts, p);
+    for (Pos &layout : question.layouts)
+        if (scanf("%lu%lu", &layout.hand[1], &layout.hand[3]) != 2) return false;
+    return true;
+}
+static std::vector<u64> answers_of(const Question &question) {
+    const Pos &first = question.layouts[0];
+    if (!strcmp(question.kind, "tricks")) return {(u64)ask(first, -1, 1).score[0]};
+    if (!strcmp(question.kind, "needs")) return {tricks_by_needs(first)};
+    std::vector<u64> answers;
+    for (const Pos &layout : question.layouts) answers.push_back(cards_that_make(layout));
+    return answers;
+}
+static void answer_lines() {
+    for (Question question; read_question(question);) {
+        clear_memory(question.layouts[0].trump);
+        double begun = processor_seconds();
+        std::vector<u64> answers = answers_of(question);
+        printf("%.9f", processor_seconds() - begun);
+        for (u64 answer : answers) printf(" %lu", answer);
+        puts("");
+        fflush(stdout);
     }
-    return made;
 }
 int main(int argc, char **argv) {
+#ifdef WITH_DDS
+    SetMaxThreads(1);
+#endif
+    if (argc == 2 && !strcmp(argv[1], "lines")) return answer_lines(), 0;
     if (argc != 5 && argc != 6) return 2;
     use_memo = !strcmp(argv[1], "memo");
     bool use_dds = !strcmp(argv[1], "dds");
     const char *strain = argc == 6 ? argv[5] : "";
-#ifdef WITH_DDS
-    SetMaxThreads(1);
-#endif
     int tricks = atoi(argv[2]);
     long first = atol(argv[3]), endings = atol(argv[4]);
     u64 answers = 0;
@@ -153,10 +199,7 @@ int main(int argc, char **argv) {
         p.need = 1 + draw(tricks);
         if (i < first) continue;
         memo.clear();
-        long answer = !strcmp(argv[1], "sampling") ? sampled(p, tricks)
-            : !strcmp(argv[1], "needs") ? needs_made(p, tricks)
-            : !strcmp(argv[1], "tricks") ? ask(p, -1, 1).score[0]
-            : use_dds ? makes_dds(p) : makes(p);
+        long answer = !strcmp(argv[1], "needs") ? needs_made(p, tricks) : use_dds ? makes_dds(p) : makes(p);
         answers = answers * 31 + (u64)answer;
     }
     printf("%llu\n", (unsigned long long)answers);

@@ -1,5 +1,5 @@
 #!/usr/bin/env python3
-"""Times fronts and joins beside the same work over std::vector in C++, in one run, and prints the ratios.
+"""Times fronts and joins against the same work over std::vector in C++, in one run, and prints the ratios.
 
 Usage: bench/fronts.py [SECONDS], the least processor time of one measurement (default 0.5). It builds both programs first.
 """

@@ -1,5 +1,5 @@
-// The workloads of crates/bench_fronts over std::vector, in C++: fronts of 64-bit vectors, and joins of two fronts.
-// The arguments: inserts or joins, how many vectors a front has, and how many rounds. It prints what bench_fronts prints.
+// The workload fronts of the crate bench_work, in C++ over std::vector: fronts of 64-bit vectors, and joins of two fronts.
+// usage: fronts_baseline inserts|joins VECTORS ROUNDS. It prints what the workload prints.
 #include <algorithm>
 #include <cstdint>
 #include <cstdio>
@@ -11,7 +11,7 @@ using Vectors = std::vector<uint64_t>;
 
 static bool dominates(uint64_t u, uint64_t v) { return (v & ~u) == 0; }
 
-// More ones first; among equal counts, the vector with a 1 at the first layout (the lowest bit) where the two differ.
+// More ones first; with equal counts, the vector that has the 1 at the first layout (the lowest bit) in which the two differ.
 static bool precedes(uint64_t u, uint64_t v) {
     int mine = __builtin_popcountll(u), other = __builtin_popcountll(v);
     if (mine != other) return mine > other;

@@ -1,9 +1,9 @@
 #!/usr/bin/env python3
 """gate.py [--log FILE] [--table FILE]
 
-Runs `rt ci` at the top of the repository and tells where its time goes: for each crate the seconds of the processor
-that its proof, the proof of its tests and its must-fail edits take. What the toolchain prints goes to the log. Run it
-with nothing else beside it. The sum of all is exact; a row is read off twice a second, so it may miss that much of
+Runs `rt ci` at the top of the repository and shows where its time goes: for each crate, the seconds of the processor
+that its proof, the proof of its tests and its must-fail edits take. What the toolchain prints goes to the log. Run
+nothing else at the same time. The sum of all is exact; a row is read twice a second, so it may miss half a second of
 each check. The exit status is that of `rt ci`.
 """
 import argparse
@@ -21,7 +21,7 @@ TICKS = os.sysconf("SC_CLK_TCK")
 
 
 def told(pid):
-    """Of a process of the prover: its crate, what it does for it, and its seconds of the processor. Of any other: None."""
+    """The crate that a process of the prover works on, what it does, and its seconds of the processor. None for any other process."""
     try:
         with open(f"/proc/{pid}/cmdline", "rb") as file:
             words = [os.fsdecode(word) for word in file.read().split(b"\0")]
@@ -45,7 +45,7 @@ def told(pid):
 
 
 class Watch(threading.Thread):
-    """Reads the seconds of each process of the prover until it is told to end."""
+    """Reads the seconds of each process of the prover until it is stopped."""
 
     def __init__(self):
         super().__init__(daemon=True)
@@ -70,7 +70,7 @@ class Watch(threading.Thread):
 
 
 def table(rows, whole, wall):
-    """The table in Markdown: crates in the order of crates.txt, a row of sums, and a line on the whole run."""
+    """The table in Markdown: crates in the order of crates.txt, a row of sums, and a line about the whole run."""
     with open(f"{TOP}/crates.txt", encoding="utf-8") as file:
         names = [line.split(":")[0].split()[0] for line in file if line.strip() and not line.startswith("#")]
     lines = ["| Crate | Proof | Tests | Edits | Number of edits |", "|---|---|---|---|---|"]

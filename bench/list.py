@@ -1,10 +1,10 @@
 #!/usr/bin/env python3
-"""Times how the job `list` counts the layouts of a whole deal, of which more than 64 fit, before any card and after a play of
-20 cards, and prints the milliseconds of the processor a run, beside a run on the same deal with the defenders not shown,
-which reads the board and counts nothing.
+"""Times how the job `list` counts the layouts of a whole deal, more than it can write, before any card and after 20 cards. Prints the
+milliseconds of the processor per run, also as a multiple of those of a run on the same deal with the defenders' hands hidden, which
+reads the board and counts nothing.
 
-Usage: bench/list.py [RUNS], how often each is run in a batch (default 200); the least of five batches counts. The program is
-built first where needed."""
+Usage: bench/list.py [RUNS], the number of runs in a batch (default 200); the fastest of five batches counts. It builds the program
+first if that is needed."""
 import pathlib
 import resource
 import subprocess
@@ -21,7 +21,7 @@ HIDDEN = '[Deal "N:A2.AK.. - KQ.QJ.. -"]\n'
 CONTRACT = '[Declarer "S"]\n[Contract "6NT"]\n'
 PLAY = '[Play "W"]\nCJ C2 C6 CA\nD2 D8 DA DK\nC8 C3 C7 CK\nC9 C4 CT CQ\nD3 D9 S4 D5\n*\n'
 
-# The deal file, and the line that the run must end with. The counts are those of all divisions, filtered one by one.
+# The deal file, and the line that the run must end with. The counts come from all divisions of the cards, tested one by one.
 KINDS = {
     "nothing counted": (HIDDEN + CONTRACT + '[EndNeed "4"]\n[EndLead "S"]\n', "alphamu: defenders not shown\n"),
     "before any card": (SHOWN + CONTRACT, "alphamu: 10400600 layouts fit\n"),
@@ -30,7 +30,7 @@ KINDS = {
 
 
 def milliseconds(name, line, runs):
-    """Milliseconds of the processor a run. It stops where the program says anything else."""
+    """Milliseconds of the processor per run. The script ends if the program prints anything else."""
     before = resource.getrusage(resource.RUSAGE_CHILDREN)
     for _ in range(runs):
         done = subprocess.run([PROGRAM, "--job", "list", "--deal", name], capture_output=True, text=True)

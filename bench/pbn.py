@@ -1,10 +1,11 @@
 #!/usr/bin/env python3
-"""Times the reading of PBN text in files of 64 KiB, 256 KiB and 1 MiB, and prints bytes per second and the time per byte beside that of 64 KiB.
+"""Times the reading of PBN text in files of 64 KiB, 256 KiB and 1 MiB. Prints bytes per second, and the time per byte as a multiple of that
+at 64 KiB.
 
-Each size is read to 1 MiB at a time, and all games of it held, so that the allocator gives back and takes anew as much memory at each size.
+Each round reads 1 MiB, and holds all of its games, so that the allocator frees and takes as much memory at each size.
 
-Usage: bench/pbn.py [SECONDS [KIND ..]], the least time of one measurement (default 0.3). It builds the program first.
-A kind is a word of the program or the number of a byte; by default all words, and then each byte in turn, of which the worst are printed."""
+Usage: bench/pbn.py [SECONDS [KIND ..]], the least time of one measurement (default 0.3). It builds the program first. A kind is a word of
+the program or the number of a byte. By default the script takes all words, then each byte in turn, and prints the worst of these."""
 import sys
 
 from timing import WORKLOADS, build_workloads, least_seconds, processor_seconds, rounds_for

@@ -1,8 +1,9 @@
 #!/usr/bin/env python3
-"""Times how the text of a plan of 25,000 lines and of 100,000 is written and read, and prints lines per second and the time per line of the longer beside the shorter.
+"""Times how the text of a plan of 25,000 lines and of one of 100,000 lines is written and read. Prints lines per second, and the time per line
+of the longer plan as a multiple of that of the shorter.
 
-Each round writes or reads 100,000 lines and holds them, so that the allocator gives back and takes anew as much memory at each length.
-The plan is a wide one: declarer's side and the defenders in turn, with a reply to each of the 52 cards while lines are left.
+Each round writes or reads 100,000 lines and holds them, so that the allocator frees and takes as much memory at each length. The plan is a
+wide one: declarer's side and the defenders play in turn, with a reply to each of the 52 cards while lines are left.
 
 Usage: bench/plans.py [SECONDS], the least time of one measurement (default 0.5). It builds the program first."""
 import sys
@@ -15,7 +16,7 @@ RUNS = 5
 
 
 def seconds(kind, lines, rounds):
-    """Seconds of the processor. It stops where the program's answer is wrong."""
+    """Seconds of the processor. The script ends if the program's answer is wrong."""
     taken, told = processor_seconds([WORKLOADS, "plans", kind, lines, rounds])
     first, second = told.splitlines()
     times = rounds * (LINES_A_ROUND // lines)

@@ -1,17 +1,17 @@
 #!/usr/bin/env python3
-"""Times the program alphamu beside the same search in C++, in one run, and prints seconds, peak memory and the ratios.
+"""Times alphamu against the same search in C++, in one run, and prints seconds, peak memory and ratios.
 
-The baseline, search_baseline.cpp, is the plain search with neither cuts nor table, and so is the program's with the words
---no-table --no-cuts. As `every` it goes through the same tree as the program; as `equals` it tries one of equal cards of
-declarer's side, as a quicker plain search would. Before times are compared, both must have found the same front by the job
-`solve`, and must name the same card with the same count.
+The baseline, search_baseline.cpp, is the plain search with neither cuts nor table, and so is alphamu's with --no-table and
+--no-cuts. As `every` it goes through the same tree as alphamu; as `equals` it tries only one of equal cards of declarer's
+side, as a quicker plain search would. Before the times are compared, both must have found the same front by the job `solve`,
+and must name the same card with the same count.
 
-Of 13 tricks it takes hands whose result is decided at the start, and hands that are decided by the last trick alone: declarer
-leads from thirteen spades, and double dummy goes down all thirteen tricks. Undecided hands of 13 tricks are beyond the
-baseline's double dummy. Of seven tricks it takes random endings with four moves.
+The hands of 13 tricks are of two kinds: some are decided from the start, and some only by the last trick. In those, declarer
+leads from thirteen spades, and double dummy plays out all thirteen tricks. Other hands of 13 tricks take the baseline's
+double dummy too long. The hands of seven tricks are random endings with four moves.
 
-Usage: bench/search.py [RUNS], how often each is timed (default 5); the best counts. The program is built first where needed.
-Peak memory is measured where GNU time is there as /usr/bin/time."""
+Usage: bench/search.py [RUNS], the number of times that each is timed (default 5); the fastest counts. It builds the program
+first if that is needed. It measures peak memory if GNU time is installed as /usr/bin/time."""
 import os
 import pathlib
 import subprocess
@@ -30,7 +30,7 @@ SPADES, HEARTS, DIAMONDS, CLUBS = (list(range(13 * suit, 13 * suit + 13)) for su
 
 
 class Draws:
-    """Numbers that follow one another without an order that shows."""
+    """Pseudo-random numbers, the same in each run."""
 
     def __init__(self, seed):
         self.state = seed
@@ -62,7 +62,7 @@ class Ending:
 
 
 def random_ending(tricks, layouts, moves, seed, need=None):
-    """An ending with cards, trumps and leader drawn, in which half of the tricks are needed where no need is given."""
+    """An ending whose cards, trumps and leader are drawn. Declarer needs half of the tricks, unless a need is given."""
     draws = Draws(seed)
     deck = list(range(52))
     draws.shuffle(deck)
@@ -79,7 +79,7 @@ def random_ending(tricks, layouts, moves, seed, need=None):
 
 
 def top_tricks(layouts):
-    """Declarer has thirteen spades and needs all tricks. West has the hearts and East the clubs, but for one of each."""
+    """Declarer has thirteen spades and needs all tricks. West has the hearts and East the clubs, except one of each."""
     pairs = [(heart, club) for heart in HEARTS for club in CLUBS][:layouts]
     wests = [[card for card in HEARTS if card != heart] + [club] for heart, club in pairs]
     return Ending("13 top tricks", DIAMONDS, SPADES, wests, HEARTS + CLUBS, "NT", 13, "S", 1)
@@ -100,7 +100,7 @@ def lines_of(text, words):
 
 
 def peak(words, folder):
-    """Peak memory in MiB. GNU time is small, so that no memory of this script counts, as it would in getrusage."""
+    """Peak memory in MiB. GNU time itself takes little, whereas getrusage would count the memory of this script."""
     if not os.access(TIME, os.X_OK):
         return float("nan")
     told = folder / "peak"
@@ -109,7 +109,7 @@ def peak(words, folder):
 
 
 def compared(ending, folder, runs):
-    """The seconds and the peak memory of the program, of the baseline as `every` and as `equals`."""
+    """The seconds and the peak memory of alphamu, and of the baseline as `every` and as `equals`."""
     deal, layouts = folder / "deal.pbn", folder / "layouts.lay"
     deal.write_text(ending.deal)
     layouts.write_text(ending.layouts)

@@ -1,5 +1,5 @@
-// The search of αμ in C++, plain, without cuts or table: what an engineer writes in an afternoon, as a measure for alphamu.
-// Double dummy at the leaves has a memo without bound, and tries one of equal cards, as alphamu's does.
+// Plain αμ in C++, without cuts or table, as an engineer writes it in an afternoon: a baseline for alphamu.
+// Double dummy at the leaves has a memo without bound, and tries only one of equal cards, as alphamu's does.
 // usage: search_baseline every|equals DEAL LAYOUTS MOVES
 // `every` tries each legal card of declarer's side, as alphamu does; `equals` tries only the first of equal cards.
 // It reads a deal file of five lines (Deal, Declarer, Contract, EndNeed, EndLead) and a layout file, and prints the lines
@@ -51,7 +51,7 @@ struct Position {
         Cards cards = hand(left), follow = played ? cards & suit_of(trick[0]) : 0;
         return follow ? follow : cards;
     }
-    // The present trick is counted.
+    // It includes the present trick.
     int tricks_left() const {
         bool declarer_has_played = ((4 - leader) & 3) < played;
         return count(declarer) + declarer_has_played;
@@ -78,7 +78,7 @@ static Position play(Position p, int card) {
     return p;
 }
 
-// The first of each run of cards between which no card of another hand or of the trick is in play.
+// The first of each run of cards with no card of another hand or of the trick between them.
 static Cards one_of_equals(const Position &p, Cards cards, Cards hand) {
     Cards others = (p.declarer | p.dummy | p.unseen) & ~hand, kept = 0;
     for (int place = 0; place < p.played; place++) others |= bit(p.trick[place]);
@@ -139,7 +139,7 @@ static uint64_t nodes = 0;
 
 static Front search(const Position &p, const std::vector<Cards> &lefts, int moves);
 
-// The best of what each card of declarer's side wins.
+// The best of what the cards of declarer's side win.
 static Front declarers_front(const Position &p, const std::vector<Cards> &lefts, int moves) {
     Front front;
     Cards legal = p.legal(0);
@@ -148,7 +148,7 @@ static Front declarers_front(const Position &p, const std::vector<Cards> &lefts,
     return front;
 }
 
-// The best of all meets of what is won after each card of a defender.
+// The join: the best of all meets of what is won after each card of a defender.
 static Front defenders_front(const Position &p, const std::vector<Cards> &lefts, int moves) {
     size_t width = lefts.size();
     Front front{all(width)};

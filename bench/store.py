@@ -1,15 +1,15 @@
 #!/usr/bin/env python3
-"""Times looks into full stores of proven fronts beside std::unordered_map in C++, in one run, and measures what an entry takes.
+"""Times looks into full stores of proven fronts against std::unordered_map in C++, in one run, and measures the memory of an entry.
 
 The stores are filled with fronts of one vector, of nodes of seven tricks with 20 layouts: a private store with 65,536 entries, and a
-table of one shard with 16,384. Then keys drawn by lot are looked for: keys of entries, or the same nodes with another number of moves.
-A look takes what the run takes more than one without looks, divided by their number; the baseline, store_baseline.cpp, does the same
-over nodes of the same size.
+table of one shard with 16,384. Then random keys are looked up: keys of entries, or the same nodes with another number of moves. The
+time of a look is that of the run, less that of a run without looks, divided by the number of looks. The baseline, store_baseline.cpp,
+does the same with nodes of the same size.
 
-Entries of 64 vectors come from copies of one ending of four tricks: its cards moved to other ranks by lot, each front searched. What
-an entry takes is the difference of peak memory between a store of 1,200 of them and one of 200, divided by 1,000.
+Entries of 64 vectors come from copies of one ending of four tricks, with its cards moved to other ranks at random; each front is
+searched. The memory of an entry is the difference of peak memory between a store of 1,200 of them and one of 200, divided by 1,000.
 
-Usage: bench/store.py [RUNS], how often each is run (default 5); the best counts. The workload is built first. It needs GNU time as
+Usage: bench/store.py [RUNS], the number of runs (default 5); the fastest counts. It builds the workload first, and needs GNU time as
 /usr/bin/time."""
 import pathlib
 import subprocess
@@ -29,7 +29,7 @@ LARGEST = 1 << 20
 
 
 def microseconds(words, kind, runs):
-    """What a look takes, with the line that the program prints."""
+    """The seconds of a look, and the line that the program prints."""
     idle = min(processor_seconds([*words, 0, kind])[0] for _ in range(runs))
     timed = [processor_seconds([*words, LOOKS, kind]) for _ in range(runs)]
     return (min(it for it, _ in timed) - idle) / LOOKS * 1e6, timed[0][1].strip()
@@ -47,7 +47,7 @@ def print_looks(runs):
 
 
 def print_entries(folder):
-    """What an entry of 64 vectors takes, by the width of its vectors."""
+    """The memory of an entry of 64 vectors, by the width of its vectors."""
     ending = random_ending(4, 64, 1, 996)
     deal, layouts = folder / "deal.pbn", folder / "layouts.lay"
     deal.write_text(ending.deal)

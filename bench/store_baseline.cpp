@@ -1,5 +1,5 @@
-// A table of fronts as std::unordered_map, as a measure for alphamu's stores: the key is a position with its layouts and a number
-// of moves, whole, and a look copies the front out.
+// A table of fronts as std::unordered_map, a baseline for alphamu's stores. The key is a whole position with its layouts and a
+// number of moves, and a look copies the front out.
 // usage: store_baseline ENTRIES LOOKS hits|misses
 #include <cstdint>
 #include <cstdio>

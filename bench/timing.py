@@ -1,4 +1,4 @@
-"""What the benchmarks share: the program of workloads, the processor time of a program, and how often it has to run to be timed."""
+"""What the benchmarks share: the program with the workloads, the processor time of a program, and how often it must run to be timed."""
 import pathlib
 import resource
 import subprocess
@@ -8,13 +8,13 @@ WORKLOADS = pathlib.Path(__file__).resolve().parent.parent / "crates" / "bench_w
 
 
 def build_workloads():
-    """Proves and builds the program of workloads, whose first word is the name of one. It needs a run, which is a short one."""
+    """Proves and builds the program with the workloads, whose first word is the name of one. Only a run builds it, so it runs a short one."""
     words = ["rt", "run", "--", "pbn"]
     subprocess.run(words, cwd=WORKLOADS.parent.parent, check=True, stdout=subprocess.DEVNULL, stderr=subprocess.DEVNULL)
 
 
 def processor_seconds(words):
-    """Seconds of the processor that a program takes, so that other work on the machine counts little, and what it prints."""
+    """Seconds of the processor that a program takes, which other work on the machine changes little, and what it prints."""
     before = resource.getrusage(resource.RUSAGE_CHILDREN)
     done = subprocess.run([str(word) for word in words], capture_output=True, text=True)
     after = resource.getrusage(resource.RUSAGE_CHILDREN)
@@ -24,7 +24,7 @@ def processor_seconds(words):
 
 
 def rounds_for(seconds, least):
-    """As many rounds as take the least time, where `seconds` gives the time of so many."""
+    """The number of rounds that takes at least the least time; `seconds` gives the time of a number of rounds."""
     rounds = 1
     while seconds(rounds) - seconds(0) < least:
         rounds *= 2
@@ -32,7 +32,7 @@ def rounds_for(seconds, least):
 
 
 def least_seconds(seconds, sizes, rounds, runs):
-    """The least time of so many rounds at each size, in turn, without what a run takes besides."""
+    """The least time of this many rounds at each size, in turn, without the time that a run takes for anything else."""
     idle = [[] for _ in sizes]
     busy = [[] for _ in sizes]
     for _ in range(runs):

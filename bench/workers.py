@@ -3,16 +3,17 @@
 
 Times alphamu's job `card` with 1, 2 and 4 workers, in one run on one machine, and prints ratios: the best of RUNS runs (default 3).
 
-- Without cuts, on an ending with eight root cards of like size: two low cards in each suit, and with each layout those in which the suits
-  have changed places, so that no suit has a larger tree than another. Wall clock with one worker to that with 2 and 4.
-- With cuts, on random endings: the same, and the time of all processors with 4 workers to that with one. Cuts spare later cards by what
-  earlier ones have shown, so no more than two workers share cards, and only those after which the round before found fronts.
+- Without cuts, on an ending whose eight root cards have trees of the same size: two low cards in each suit, and for each layout also
+  those with its suits exchanged. The ratio is the wall clock with one worker to that with 2 and 4.
+- With cuts, on random endings: the same ratio, and the time of all processors with 4 workers to that with one. What earlier cards have
+  shown lets cuts skip work on later cards, so no more than two workers share cards, and only those after which the round before found
+  fronts.
 
-Beside them stands what four runs with one worker each, side by side, do in the time of one alone: four workers can hardly do better than
-four runs that share nothing, and on processors that share a core, or with other work, these stay below 4.
+The column of four runs shows how much four separate runs, with one worker each, get done in the time of one alone: four workers can hardly
+do better than four runs that share nothing. On processors that share a core, or on a busy machine, that stays below 4.
 
-The job is `card`, since what follows the search in `solve`, a plan for each vector, has one worker. On a machine with fewer than four
-processors, or one that does other work, the ratios say little: it prints how many processors there are and how much other work waits.
+The job is `card`: in `solve` a single worker then finds the plan for each vector. The ratios mean little on a machine with fewer than four
+processors or with other work, so the script prints the number of processors and how many processes are running or waiting.
 
 The program must be built: ./build."""
 import os
@@ -37,12 +38,12 @@ def hand(cards):
 
 
 def turned(cards, places):
-    """The cards with each suit so many places further on."""
+    """The cards with each suit moved on by this many places."""
     return ["SHDC"[("SHDC".index(card[0]) + places) % 4] + card[1] for card in cards]
 
 
 def eight_cards(moves):
-    """Eight tricks at no trump: dummy leads from 42 in each suit, South has K5, and the defenders' sixteen cards are drawn sixteen times."""
+    """Eight tricks at no trump. Dummy leads, with 42 in each suit, South has K5 in each, and the defenders' sixteen cards are drawn sixteen times."""
     draws, unseen, layouts = random.Random(7), [suit + rank for suit in "SHDC" for rank in "QJ97"], set()
     north, south = ".".join(["42"] * 4), ".".join(["K5"] * 4)
     while len(layouts) < 64:
@@ -54,7 +55,7 @@ def eight_cards(moves):
 
 
 def timed(words):
-    """Seconds by the wall clock and of all processors, and what was printed."""
+    """Seconds by the wall clock, seconds of all processors, and what was printed."""
     before, start = resource.getrusage(resource.RUSAGE_CHILDREN), time.monotonic()
     done = subprocess.run([str(word) for word in words], capture_output=True, text=True)
     wall, after = time.monotonic() - start, resource.getrusage(resource.RUSAGE_CHILDREN)
@@ -64,7 +65,7 @@ def timed(words):
 
 
 def side_by_side(words, count):
-    """Seconds by the wall clock until so many runs, begun together, have ended."""
+    """Seconds by the wall clock until this many runs, started together, have ended."""
     start = time.monotonic()
     runs = [subprocess.Popen([str(word) for word in words], stdout=subprocess.DEVNULL, stderr=subprocess.DEVNULL) for _ in range(count)]
     for run in runs:
@@ -92,7 +93,7 @@ def row(name, deal, layouts, moves, more, runs):
 
 def main():
     runs = int(sys.argv[1]) if len(sys.argv) > 1 else 3
-    print(f"{os.cpu_count()} processors, {os.getloadavg()[0]:.1f} processes at work or waiting before the run")
+    print(f"{os.cpu_count()} processors, {os.getloadavg()[0]:.1f} processes running or waiting before the run")
     print("ending                cuts  moves  one worker  2 workers 4 workers  four runs  user, 4 to 1")
     row(*eight_cards(6), ["--no-cuts"], runs)
     for tricks, layouts, moves, seed in RANDOM:

@@ -2,9 +2,9 @@
 """cases.py [--jobs N] [--seconds N] [--only PATTERN] [PROGRAM]
 
 Runs a program on each case in cases/, and compares standard output, standard error and exit status with what the case
-expects. Where no program is named it is ./alphamu at the top of the repository, which must have a proved program that
-is current: ./build makes it. Prints what differs, and the faults of the cases themselves. The exit status is 0 only
-where there is nothing to print; cases/README.md says what a case is.
+expects. If you name no program it is ./alphamu at the top of the repository, which must have a current proved program:
+./build makes it. Prints what differs, and the faults of the cases themselves. The exit status is 0 only if there is
+nothing to print. cases/README.md says what a case is.
 """
 import argparse
 import fnmatch
@@ -18,18 +18,18 @@ from concurrent.futures import ThreadPoolExecutor
 TOP = os.path.dirname(os.path.dirname(os.path.abspath(__file__)))
 CASES = os.path.join(TOP, "cases")
 LAUNCHER = os.path.join(TOP, "alphamu")
-# By exit status: why the launcher would not run a proved program that is current.
+# Why there is no current proved program, by the exit status of checks/program_state.
 STATES = {1: "the proved program is older than its sources", 2: "there is no proved program"}
 # The files of a case that aren't input.
 OWN = ("about", "args", "fill", "stdout", "stderr", "status", "stdout_to")
-# The case that has no words, so that a lost file of words isn't taken for none.
+# The only case without words. In any other a missing file of words is a fault.
 WITHOUT_WORDS = "no-words"
-# How many cases there are at least, so that none is lost unseen. It is raised where cases are added.
-LEAST = 456
+# The least number of cases, so that none is lost unnoticed. Raise it when you add cases.
+LEAST = 460
 
 
 def bytes_of(case, name):
-    """The bytes of a file of the case; none where it has no such file."""
+    """The bytes of a file of the case; none if it has no such file."""
     path = os.path.join(CASES, case, name)
     if not os.path.exists(path):
         return b""
@@ -42,7 +42,7 @@ def names_of_cases():
 
 
 def lacks_program():
-    """Why there is no proved program that is current, and the command that makes it; nothing where there is one."""
+    """Why there is no current proved program, and the command that makes it; nothing if there is one."""
     status = subprocess.run([os.path.join(TOP, "checks", "program_state")], check=False).returncode
     return status and f"{STATES.get(status, 'checks/program_state failed')}: run ./build"
 
@@ -73,8 +73,8 @@ def words_of(case):
 
 
 def run(program, case, seconds, env=None, more=(), words=None, files=None):
-    """What the program wrote to standard output and standard error, and its exit status, with more words at the end
-    or with other words, and with more files by their names."""
+    """What the program wrote to standard output and standard error, and its exit status. `more` are further words, `words`
+    replace the case's own, and `files` are further files by their names."""
     words = (words_of(case) if words is None else list(words)) + list(more)
     to = bytes_of(case, "stdout_to").decode().strip()
     with tempfile.TemporaryDirectory() as room:
@@ -97,13 +97,13 @@ def expected(case):
 
 
 def differences(found, wanted):
-    """One line for each thing in which what came of a run differs."""
+    """One line for each thing in which the outcome of a run differs."""
     return [f"{what}: {found[at]!r}, and not {wanted[at]!r}"
             for at, what in enumerate(("standard output", "standard error", "exit status")) if found[at] != wanted[at]]
 
 
 def judge(program, case, seconds):
-    """One line for each fault of the case, or else for each thing in which the program differs from it."""
+    """One line for each fault of the case, or, if it has none, for each thing in which the program differs from it."""
     try:
         return faults(case) or differences(run(program, case, seconds), expected(case))
     except subprocess.TimeoutExpired:
@@ -113,7 +113,7 @@ def judge(program, case, seconds):
 
 
 def report(cases, told):
-    """Prints the lines told of each case, and returns how many cases have any."""
+    """Prints the lines about each case, and returns how many cases have any."""
     for case, lines in zip(cases, told):
         if lines:
             print(f"{case}: {bytes_of(case, 'about').decode().strip()}")
@@ -123,7 +123,7 @@ def report(cases, told):
 
 
 def parser_of(description):
-    """A parser of the words that each check over the cases takes."""
+    """A parser for the words that all checks over the cases take."""
     parser = argparse.ArgumentParser(description=description, allow_abbrev=False)
     parser.add_argument("program", nargs="?", default=LAUNCHER)
     parser.add_argument("--jobs", type=int, default=len(os.sched_getaffinity(0)))
@@ -133,7 +133,7 @@ def parser_of(description):
 
 
 def is_ready(program, check):
-    """Whether there is a program to run. Says so where there is none."""
+    """Whether there is a program to run. Prints a line if there is none."""
     lacking = lacks_program() if program == LAUNCHER else None
     if lacking:
         print(f"{check}: {lacking}")
@@ -147,7 +147,7 @@ def main():
     if not is_ready(given.program, "cases"):
         return 1
     if len(every) < LEAST:
-        print(f"cases: there are {len(every)} cases, and not {LEAST} or more")
+        print(f"cases: there are only {len(every)} cases of {LEAST}")
         return 1
     program, cases = os.path.abspath(given.program), fnmatch.filter(every, given.only)
     with ThreadPoolExecutor(given.jobs) as pool:

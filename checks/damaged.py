@@ -2,15 +2,15 @@
 """damaged.py [--count N] [--first N] [--seed N] [--jobs N] [--seconds N] [--keep FOLDER] [PROGRAM]
 
 Runs a program on damaged deal files, layout files, reports, logs and words, and compares exit status, line and output with a
-second reading of the same rules (checks/reading.py). Where no program is named it is the proved one, which ./build makes.
+second reading of the same rules (checks/reading.py). If you name no program it is the proved one, which ./build makes.
 
-A run is made from its number and the seed alone: the files of a case, of which one, or the words, are damaged in one to
-four places. So that a deal and layouts that are still read are compared too, many runs judge a report whose head is
-written by the second reading. Of jobs that search, or write a log, the status alone is compared where files and words are
-sound, and of `boards` also which games are refused and how.
+A run is made from its number and the seed alone. It takes the files of a case and damages one of them, or the words, in one
+to four places. A damaged deal or layout file may still be read; to compare what was read, many runs judge a report whose head
+the second reading has written. When files and words are sound, only the status is compared for jobs that search or write a
+log, and for `boards` also which games are refused and how.
 
-Prints each run that differs, whose files are then kept in a folder, and how often each status came. The exit status is 0
-only where no run differs.
+Prints each run that differs, keeps its files in a folder, and prints how often each status came. The exit status is 0 only if
+no run differs.
 """
 import argparse
 import collections
@@ -31,14 +31,14 @@ PROVED = os.path.join(cases.TOP, "crates", "alphamu", "out", "alphamu")
 NAMES = {"deal": b"deal.pbn", "layouts": b"layouts.lay", "report": b"report.txt", "log": b"log.txt"}
 # The layout files of the first games, for `boards`.
 OF_GAMES = [b"layouts.lay.%d" % number for number in (1, 2, 3)]
-# The files that a case has at least, for a kind of damage to start from it.
+# The files that a case needs before it is damaged in this way.
 NEEDED = {"deal": ("deal",), "layouts": ("deal", "layouts"), "report": ("deal", "layouts", "report"),
           "log": ("deal", "layouts", "report", "log"), "words": ()}
 # How often each kind of damage comes.
 KINDS = ("deal",) * 8 + ("layouts",) * 6 + ("report",) * 5 + ("log",) * 4 + ("words",)
-# What each file of a case has at most, for damage to start there.
+# Cases with a longer file than this aren't damaged.
 MOST_BYTES = 20000
-# With more cards double dummy takes too long, in the second reading above all.
+# With more tricks double dummy takes too long, above all in the second reading.
 MOST_TRICKS = 4
 # What a search may end with.
 SEARCHED = (0, 7, 17)
@@ -84,14 +84,14 @@ def damaged_text(chance, text, kind, others):
     if how == 6:
         return text[:at] if chance.randrange(4) == 0 else text[:at] + bytes([chance.randrange(256)]) + text[end:]
     if how == 7 and len(text) > 1:
-        # Two bytes change places.
+        # Two bytes are exchanged.
         one, two = sorted(chance.sample(range(len(text)), 2))
         return text[:one] + text[two:two + 1] + text[one + 1:two] + text[one:one + 1] + text[two + 1:]
     return damaged_lines(chance, text, others) if how < 10 else damaged_word(chance, text)
 
 
 def damaged_lines(chance, text, others):
-    """A line goes, comes twice, changes places or is taken from another file."""
+    """A line is dropped, repeated, moved, or taken from another file."""
     lines = text.splitlines(keepends=True) or [b""]
     one, two = chance.randrange(len(lines)), chance.randrange(len(lines))
     how = chance.randrange(5)
@@ -108,7 +108,7 @@ def damaged_lines(chance, text, others):
 
 
 def damaged_word(chance, text):
-    """A card, a hand, a number or a seat in it becomes another one of the text, or a new one."""
+    """A card, a hand, a number or a seat is replaced by another one from the text, or by a new one."""
     words = list(re.finditer(rb"[A-Za-z0-9.]+", text))
     if not words:
         return text
@@ -119,7 +119,7 @@ def damaged_word(chance, text):
 
 
 def damaged_log(chance, text):
-    """A bit is turned, a number is one more or less, or a card is another one: the log mostly still stands."""
+    """A bit is flipped, a number changes by one, or a card is replaced. Most such logs are still read."""
     at = chance.choice(list(re.finditer(rb"[SHDC][2-9TJQKA]|[0-9]+", text)))
     found = at[0]
     if not found.isdigit():
@@ -145,14 +145,14 @@ def damaged_words(chance, words):
     elif words:
         at = min(at, len(words) - 1)
         words[at] = damaged_text(chance, words[at], "words", words) if how == 4 else chance.choice(SNIPPETS["words"])
-    # The system's words end at a zero byte.
+    # The system ends words at a zero byte.
     return [word.replace(b"\x00", b"") for word in words]
 
 
 # The runs.
 
 def bases():
-    """By kind of damage the cases that it starts from, each with its words and files."""
+    """The cases to damage, by kind of damage, each with its words and files."""
     found = collections.defaultdict(list)
     for case in cases.names_of_cases():
         files = {name: cases.bytes_of(case, name.decode()) for name in NAMES.values()
@@ -166,16 +166,16 @@ def bases():
 
 
 def weight(kind, files):
-    """How often damage starts there: mostly at sound deals, and what stands behind the deal is damaged only with one."""
+    """How often damage starts from a case: mostly from sound deals. Its other files are damaged only if the deal is sound."""
     if kind == "words":
         return 1
     if not board_in(files):
         return int(kind == "deal")
-    return 4 if kind == "deal" or kind == "log" and stands(files[NAMES["log"]]) else 1
+    return 4 if kind == "deal" or kind == "log" and is_log(files[NAMES["log"]]) else 1
 
 
-def stands(log):
-    """Whether the log is read at all."""
+def is_log(log):
+    """Whether the text is a log."""
     try:
         return bool(logs.lines_of(log))
     except logs.Fault:
@@ -183,7 +183,7 @@ def stands(log):
 
 
 def board_in(files):
-    """The board of the deal file, or none where it is refused."""
+    """The board of the deal file, or none if it is refused."""
     try:
         games = reading.games_of(files[NAMES["deal"]])
         return reading.board_of(games[0]) if games else None
@@ -192,7 +192,7 @@ def board_in(files):
 
 
 def own_report(files, chance):
-    """A report of one plan with the head that the files must have, or none where they are refused."""
+    """A report of one plan with the right head for the files, or none if they are refused."""
     board = board_in(files)
     try:
         kept = board and reading.layouts_of(files[NAMES["layouts"]], board)
@@ -208,7 +208,7 @@ def own_report(files, chance):
 
 
 def is_small(files):
-    """Whether so few cards are left that all of them are soon played."""
+    """Whether few enough cards are left to play them all out quickly."""
     board = board_in(files)
     return board is None or reading.moment_after(board).tricks <= MOST_TRICKS
 
@@ -218,17 +218,17 @@ WORDS = {
     "fusion": [b"--job", b"fusion", b"--deal", b"deal.pbn", b"--layouts", b"layouts.lay"],
     "list": [b"--job", b"list", b"--deal", b"deal.pbn"],
     "audit": [b"--job", b"audit", b"--deal", b"deal.pbn", b"--layouts", b"layouts.lay", b"--report", b"report.txt", b"--log", b"log.txt"],
-    # What is searched ends soon.
+    # Few nodes, so that a search ends soon.
     "match": [b"--job", b"match", b"--deal", b"deal.pbn", b"--layouts", b"layouts.lay", b"--moves", b"1", b"--nodes", b"9", b"--layout", b"2"],
     "prove": [b"--job", b"prove", b"--deal", b"deal.pbn", b"--layouts", b"layouts.lay", b"--moves", b"1", b"--nodes", b"9"],
     "boards": [b"--job", b"boards", b"--deal", b"deal.pbn", b"--layouts", b"layouts.lay", b"--moves", b"1", b"--nodes", b"9"],
 }
-# The jobs that a damaged deal or damaged layouts are tried with, where there are layouts.
+# The jobs for a damaged deal or damaged layouts, if there are layouts.
 ON_LAYOUTS = ("check",) * 4 + ("fusion",) * 2 + ("match", "prove", "boards")
 
 
 def as_games(chance, files, found):
-    """The deal among one or two others as the games of one file, with their layout files, of which one may be missing."""
+    """The deal and one or two others as the games of one file, with their layout files, one of which may be missing."""
     games = [files, *(it for _, it in chance.choices(found["layouts"], k=chance.randrange(3)) if is_small(it))]
     chance.shuffle(games)
     made = {NAMES["deal"]: b"\n\n".join(game[NAMES["deal"]] for game in games)}
@@ -248,7 +248,7 @@ def trial(number, seed, found):
     if kind == "words":
         for _ in range(times):
             words = damaged_words(chance, words)
-        # What follows the words is refused at once, so that no search is made on them.
+        # The files are empty, so that words that are sound lead to no search.
         return kind, words, {name: b"" for name in files}
     others = [other[NAMES[kind]] for _, other in found[kind]]
     for _ in range(times):
@@ -272,7 +272,7 @@ def trial(number, seed, found):
 
 
 def run(program, words, folder, files, seconds):
-    """Exit status, standard output and standard error; the status is none where there is no end."""
+    """Exit status, standard output and standard error; the status is none if the run doesn't end."""
     for name in (*NAMES.values(), *OF_GAMES):
         path = os.path.join(folder, name)
         if name in files:
@@ -303,7 +303,7 @@ def agrees(found, wanted, words, files):
 
 
 def refused_in(text):
-    """The line of each game that is refused in what `boards` wrote, by the game's number."""
+    """The line of each refused game in the output of `boards`, by the game's number."""
     return {int(number): line for number, line in re.findall(rb"(?m)^game ([0-9]+)\n(refused .*\n)", text)}
 
 

@@ -1,19 +1,18 @@
 #!/usr/bin/env python3
 """definitions.py [TOP]
 
-Compares the pages in docs/definitions/ with the specs and sources below TOP, which is this repository where none is
-named. It needs no toolchain.
+Compares the pages in docs/definitions/ with the specs and sources below TOP, which is this repository if you name none.
+It needs no toolchain.
 
-Each definition that a public contract cites must stand in backticks on some page. A public contract is what a caller
-in another crate may read: a clause of a function, a method or a member of a trait, or the value of a model. The lines
-`ghost use` of a source say which of the names in it are the repository's definitions. Crates tests_* and bench_* have
-no such callers. A name that several of the cited definitions have stands with its crate or its module before it, as
-`crate::name`.
+Some page must name, in backticks, each definition that a public contract cites. A public contract is what a caller in
+another crate can read: a clause of a function, a method or a member of a trait, or the value of a model. The lines
+`ghost use` of a source say which of its names are the repository's definitions. Crates tests_* and bench_* have no such
+callers. If several cited definitions share a name, the page writes the crate or the module before it, as `crate::name`.
 
-Each name in backticks on a page must be there: as a definition, a part of one, an item of a source, a crate, a name
-that the repository takes from the kit, a case, a file, a card, or one of `OTHER_WORDS`.
+Each name in backticks on a page must exist: as a definition, a part of one, an item of a source, a crate, a name that
+the repository takes from the kit, a case, a file, a card, or one of `OTHER_WORDS`.
 
-Prints each missing and each foreign name with its place. The exit status is 0 only where there is none.
+Prints each missing and each foreign name with its place. The exit status is 0 only if there is none.
 """
 import os
 import re
@@ -22,9 +21,9 @@ from collections import Counter, namedtuple
 
 TOP = os.path.dirname(os.path.dirname(os.path.abspath(__file__)))
 PAGES = os.path.join("docs", "definitions")
-# Crates whose contracts nobody reads: tests and workloads.
+# Crates whose contracts have no readers: tests and workloads.
 APART = ("tests_", "bench_")
-# What else the pages show in backticks: words of texts and files that no source has for a name.
+# What else the pages show in backticks: words of texts and files that are no names in a source.
 OTHER_WORDS = frozenset("abc abcd bit clap d end good hear match named notheld on Pass revoke say".split())
 # Cards and suits of a hand, letters of suits and seats.
 CARDS = re.compile(r"[SHDC]?[2-9TJQKA]+|[SHDCNEW]")
@@ -34,7 +33,7 @@ Definition = namedtuple("Definition", "crate module name")
 
 
 def files_of(top, crate, folder, ending):
-    """The crate's files in a folder of its own, from the top."""
+    """The crate's files in one of its folders, named from the top."""
     found = []
     for place, _, names in os.walk(os.path.join(top, "crates", crate, folder)):
         found += [os.path.relpath(os.path.join(place, name), top) for name in names if name.endswith(ending)]
@@ -58,7 +57,7 @@ PART = re.compile(rf" *(?:pub +)?((?:{NAME} +)+):")
 
 
 def read_spec(text):
-    """The names that a spec defines, those of constructors among them, with their lines; and the names of fields."""
+    """The names that a spec defines, including constructors, with their lines; and the names of fields."""
     defined, fields = [], set()
     block, block_indent = None, 0
     for number, line in enumerate(text.split("\n"), 1):
@@ -110,7 +109,7 @@ Item = namedtuple("Item", "public kind name head clauses body")
 
 
 def uses_of(text):
-    """The names that the lines on uses bring: the name here, its crate and module, and its name there."""
+    """The names that `ghost use` lines import: the name here, its crate and module, and its name there."""
     for crate, module, names in USE.findall(text):
         for one in names.split(","):
             there, _, here = (part.strip() for part in one.strip().partition(" as "))
@@ -123,7 +122,7 @@ def blank(match):
 
 
 def closing(text, at):
-    """The place of the bracket that closes the one here."""
+    """The place of the bracket that closes the one at this place."""
     depth = 0
     for place in range(at, len(text)):
         depth += (text[place] in "([{") - (text[place] in ")]}")
@@ -141,7 +140,7 @@ def item_of(head, clauses, body):
 
 
 def items_of(text, start, end):
-    """The items of a part of a source, each with the places of its clauses and of its body, where it has one."""
+    """The items of a part of a source, each with the places of its clauses and of its body, if it has one."""
     at = head = piece = start
     clauses = []
     while at < end:
@@ -163,7 +162,7 @@ def items_of(text, start, end):
 
 
 def members_of(text, start, end, outer=None):
-    """The items of a part of a source and those within them, each with the item around it."""
+    """The items of a part of a source and those inside them, each with the item around it."""
     for item in filter(None, items_of(text, start, end)):
         yield item, outer
         if item.kind in ("impl", "trait", "mod") and item.body:
@@ -171,7 +170,7 @@ def members_of(text, start, end, outer=None):
 
 
 def names_of(text, item):
-    """The names that an item brings, those of its fields and variants among them."""
+    """The names that an item defines, including its fields and variants."""
     own = [item.name] if item.name and item.kind not in ("impl", "use") else []
     if item.kind in ("struct", "enum") and item.body:
         own += MEMBER.findall(ATTRIBUTE.sub(" ", text[slice(*item.body)]))
@@ -179,14 +178,14 @@ def names_of(text, item):
 
 
 def type_of(head):
-    """The name of the type that an impl is of."""
+    """The name of the type that an impl is for."""
     while "<" in head.replace("->", ""):
         head = re.sub(r"<[^<>]*>", "", head.replace("->", ""))
     return re.search(rf"\bimpl\s+(?:.*\bfor\s+)?(?:[&\s]|mut\b|\w+::)*({NAME})", head, re.DOTALL).group(1)
 
 
 class Crate:
-    """A crate's sources: its files as texts and items, and what of it is seen from outside."""
+    """A crate's sources: its files as texts and items, and which of them are public."""
 
     def __init__(self, top, paths):
         self.texts = {path: UNREAD.sub(blank, text_of(top, path)) for path in paths}
@@ -211,7 +210,7 @@ class Crate:
         return item.public and (path in self.open or item.name in self.passed_on)
 
     def contracts_in(self, path):
-        """The places of what a caller outside may read in a file."""
+        """The places in a file that a caller in another crate can read."""
         for item, outer in self.items[path]:
             if outer is None:
                 seen = item.kind.endswith("fn") and self.is_seen(path, item)
@@ -228,7 +227,7 @@ class Crate:
 
 
 def definition_of(crate, module, name, places):
-    """The definition that a use brings: a crate may pass on the specs of a lower one under its own name."""
+    """The definition that a use imports. A crate may pass on the specs of a lower crate under its own name."""
     wanted = Definition(crate, module, name)
     if wanted in places:
         return wanted
@@ -260,20 +259,20 @@ def read_sources(top, places):
 # ---- pages
 
 def spans_of(text):
-    """What stands in backticks in a page, outside its blocks of whole lines, with its place."""
+    """The spans in backticks on a page, outside its blocks, with their places."""
     text = re.sub(r"^```.*?^```", blank, text, flags=re.DOTALL | re.MULTILINE)
     return [(found.start(), found.group(1)) for found in re.finditer(r"`([^`\n]+)`", text)]
 
 
 def named_in(span):
-    """The names in a span: its first word, and each other word that no parameter would have for a name."""
+    """The names in a span: its first word, and each other word that can't be the name of a parameter."""
     words = re.finditer(rf"(?:{NAME}::)*{NAME}", span)
     return [word.group() for word in words
             if word.start() == 0 or re.search("_|::|[a-z][A-Z]|^[A-Z][a-z]", word.group())]
 
 
 def read_pages(top):
-    """What the pages name, and where: (name, place, span)."""
+    """The names on the pages: (name, place, span)."""
     named = []
     for page in sorted(os.listdir(os.path.join(top, PAGES))):
         path = os.path.join(PAGES, page)
@@ -287,7 +286,7 @@ def read_pages(top):
 # ---- the comparison
 
 def missing_lines(cited, places, named):
-    """A line for each cited definition that stands on no page."""
+    """A line for each cited definition that no page names."""
     homes = Counter(definition.name for definition in cited)
     words = {name for name, _, _ in named}
     for definition in sorted(cited):
@@ -324,7 +323,7 @@ def main():
         print(f"definitions: {len(missing)} missing, {len(foreign)} foreign")
         return 1
     pages = {name for name, _, _ in named}
-    print(f"definitions: {len(cited)} are cited and stand on the pages, which name {len(pages)} things")
+    print(f"definitions: {len(cited)} definitions are cited, and the pages name them all, with {len(pages)} names")
     return 0
 
 

@@ -2,9 +2,9 @@
 """first_answer.py [--jobs N] [--seconds N]
 
 Runs a sample of the cases with ./alphamu as in a fresh clone, in which nothing is built: the launcher then answers from
-the source, compiled unproved. Compares standard output, standard error but for the launcher's line, and exit status
+the source, compiled unproved. Compares standard output, standard error except the launcher's own lines, and exit status
 with what the case expects and with what the proved program does, which ./build makes. Prints what differs. The exit
-status is 0 only where all agree and no temporary file is left.
+status is 0 only if all agree, exactly one answer has the advice to run ./build, and no temporary file is left.
 """
 import argparse
 import os
@@ -16,6 +16,8 @@ from concurrent.futures import ThreadPoolExecutor
 
 sys.dont_write_bytecode = True
 import cases
+import jobs
+import unproved
 
 PROVED = os.path.join(cases.TOP, "crates", "alphamu", "out", "alphamu")
 # Each job and each exit status that a case has, in runs that are quick.
@@ -25,31 +27,37 @@ SAMPLE = """
     deal-file-too-long check-report-cut-off list-of-too-many match-no-such-layout audit-log-without-end audit-card-left-out
     boards-nodes-spent boards-of-65-games
 """.split()
-# Where the system gives the program no words, nothing is run.
-NO_WORDS = 64
 
 
-def without_notice(found, build):
-    """The same without the launcher's line, which must come first and name the command that makes the proved program."""
+def without_own_lines(found, top):
+    """The same without the launcher's lines, and whether it has the advice. Words that the program refuses are answered
+    without the source, and point to README.md; all others begin with the notice, and may end with the advice."""
     out, err, status = found
-    line, end, rest = err.partition(b"\n")
-    is_notice = b"isn't proved yet" in line and os.fsencode(build) in line
-    return (out, rest, status) if is_notice and end and status != NO_WORDS else found
+    notice, advice, pointer = (f"alphamu: {it.format(top=top)}\n".encode() for it in
+                               (unproved.NOTICE, unproved.ADVICE, unproved.POINTER))
+    has_advice = err.endswith(advice)
+    if status == jobs.REFUSED and err.endswith(pointer):
+        err = err.removesuffix(pointer)
+    elif err.startswith(notice):
+        err = err.removeprefix(notice).removesuffix(advice)
+    elif status != unproved.NO_WORDS:
+        err += b"(without the launcher's lines)"
+    return (out, err, status), has_advice
 
 
 def judge(clone, case, given):
-    """One line for each thing in which the answer without a proved program differs."""
+    """One line for each thing in which the answer without a proved program differs, and whether it has the advice."""
     env = {**os.environ, "TMPDIR": os.path.join(clone, "tmp")}
     try:
         proved = cases.run(PROVED, case, given.seconds)
-        unproved = cases.run(os.path.join(clone, "alphamu"), case, given.seconds, env)
+        found = cases.run(os.path.join(clone, "alphamu"), case, given.seconds, env)
     except subprocess.TimeoutExpired:
-        return [f"no end after {given.seconds} seconds"]
+        return [f"no end after {given.seconds} seconds"], False
     except OSError as error:
-        return [f"not run: {error}"]
-    unproved = without_notice(unproved, os.path.join(clone, "build"))
-    return [*cases.differences(unproved, cases.expected(case)),
-            *(f"proved: {it}" for it in cases.differences(proved, unproved))]
+        return [f"not run: {error}"], False
+    found, has_advice = without_own_lines(found, clone)
+    return [*cases.differences(found, cases.expected(case)),
+            *(f"proved: {it}" for it in cases.differences(proved, found))], has_advice
 
 
 def copy_to(clone):
@@ -72,13 +80,15 @@ def main():
         clone = os.path.join(os.path.realpath(room), "clone")
         copy_to(clone)
         with ThreadPoolExecutor(given.jobs) as pool:
-            told = list(pool.map(lambda case: judge(clone, case, given), SAMPLE))
+            told, advised = zip(*pool.map(lambda case: judge(clone, case, given), SAMPLE))
         left = os.listdir(os.path.join(clone, "tmp"))
     failed = cases.report(SAMPLE, told)
     if left:
         print(f"first answer: left behind: {' '.join(left)}")
+    if sum(advised) != 1:
+        print(f"first answer: the advice to run ./build comes with {sum(advised)} answers")
     print(f"first answer: {len(SAMPLE) - failed} agree, {failed} differ")
-    return 0 if not failed and not left else 1
+    return 0 if not failed and not left and sum(advised) == 1 else 1
 
 
 if __name__ == "__main__":

@@ -1,12 +1,12 @@
-"""What alphamu has to answer to a log, read a second time for reading.py: whether its text stands, and its first line that
-isn't sound. It searches nothing: a log is walked line by line, over whole lists of states.
+"""A second reading of logs, for reading.py: whether the text is a log, and its first line that isn't sound. It searches
+nothing: it goes through a log line by line, over whole lists of states.
 """
 import collections
 import re
 
 from playing import card_named, child, choices, is_decided, makes, seat_to_play
 
-# Numbers have no leading zeros; longer ones are out of every range.
+# Numbers have no leading zeros. Longer ones are beyond every limit.
 NUMBER = rb"(?:0|[1-9][0-9]{0,9})"
 CARD = rb"[SHDCshdc][2-9TJQKAtjqka]"
 BITS = rb"[01]{1,256}"
@@ -19,7 +19,7 @@ Line = collections.namedtuple("Line", "rule path moves cited vectors")
 
 
 class Fault(Exception):
-    """The line of the file that doesn't stand."""
+    """The first line of the file that is no line of a log."""
 
 
 def line_of(text):
@@ -54,12 +54,12 @@ def lines_of(text):
 
 
 def covers(vectors, vector):
-    """Whether one of them has a 1 wherever the vector has one."""
+    """Whether one of the vectors covers this one: it has a 1 wherever this one has."""
     return any(all(ours >= its for ours, its in zip(it, vector)) for it in vectors)
 
 
 def greatest(vectors):
-    """Those that no other one covers."""
+    """The vectors that no other one covers."""
     return {it for it in vectors if not covers(vectors - {it}, it)}
 
 
@@ -68,14 +68,14 @@ def both(one, other):
 
 
 class Walk:
-    """The lines of a log, by the states at its root and the number of moves that is asked."""
+    """The lines of a log, judged from the states at its root and the number of moves."""
 
     def __init__(self, states, moves, trump, lines):
         self.moves, self.trump, self.lines = moves, trump, lines
         self.nodes = {(): (states, 0)}
 
     def node(self, path):
-        """The states after a path, and how many of its cards declarer's side played; none where a card may not be played."""
+        """The states after a path, and how many of its cards declarer's side played; none if a card may not be played."""
         if path not in self.nodes:
             before = self.node(path[:-1])
             states = child(before[0], path[-1], self.trump)[1] if before else []
@@ -102,7 +102,7 @@ class Walk:
                 and all(covers(line.vectors, it) for it in self.meets(states, below)))
 
     def meets(self, states, below):
-        """The meets of one vector of each line, with ones in the states in which the line's card isn't legal."""
+        """The meets of one vector from each line, filled with ones in the states in which the line's card isn't legal."""
         met = {b"1" * len(states)}
         for line in below:
             able = child(states, line.path[-1], self.trump)[0]
@@ -117,7 +117,7 @@ class Walk:
 
 
 def unproved(lines, states, moves, trump, vectors):
-    """The number of the first line that isn't sound, or the one after the last where the last doesn't end the log; or none."""
+    """The number of the first line that isn't sound; the number after the last line if that line doesn't prove the root; or none."""
     walk = Walk(states, moves, trump, lines)
     for at in range(len(lines)):
         if not walk.is_sound(at):

@@ -1,14 +1,14 @@
 #!/usr/bin/env python3
 """machine.py [--jobs N] [--seconds N] [--only PATTERN]
 
-Runs alphamu where the machine refuses it something: streams that are full, closed or broken, names that are no readable
-file, little memory, little stack, no threads, many runs at once, and signals in the middle. No run may hang, or end by a
-signal that wasn't sent. Each must end by the status and the line that docs/USING.md names for what was refused, with
-nothing in the output, or else with the right status and the right bytes; a refused write leaves the first bytes.
+Runs alphamu where the machine lets it down: streams that are full, closed or broken, names that are no readable file,
+little memory, little stack, no threads, many runs at once, and signals in the middle. No run may hang, or end by a
+signal that wasn't sent. Each must end either with the right status and the right bytes, or with the status and the line
+that docs/USING.md gives for what failed, and no output; a failed write leaves the first bytes.
 
-Trials on streams, files and signals are made with the launcher ./alphamu and with the proved program, which ./build
-makes; the others with the program alone. Prints what was wrong, and how many trials there were of each kind. The exit
-status is 0 only where nothing was wrong.
+Trials with streams, files and signals are made with the launcher ./alphamu and with the proved program, which ./build
+makes; the others only with the program. Prints what was wrong, and the number of trials of each kind. The exit status is
+0 only if nothing was wrong.
 """
 import argparse
 import collections
@@ -26,7 +26,7 @@ sys.dont_write_bytecode = True
 import cases
 
 PROVED = os.path.join(cases.TOP, "crates", "alphamu", "out", "alphamu")
-# A run of each job, and with workers, and with all cards played out.
+# A run of each job, one with workers, and one with all cards played out.
 JOBS = {
     "solve": "queen-two-ways",
     "card": "card",
@@ -41,21 +41,21 @@ JOBS = {
     "workers": "made-of-2-with-workers",
     "slam": "club-evening-after-seven-tricks",
 }
-# Runs that stand deep in plans.
+# Runs that go deep into plans.
 DEEP = {"deep plan": "check-a-deep-plan", "64 levels": "check-of-64-levels", "to the end": "queen-two-ways-to-the-end"}
 # A run that is refused, so that it has a line to write.
 REFUSED = "deal-empty"
-# A run that takes long enough to be met by a signal.
+# A run that is long enough to receive a signal.
 LONG = "made-of-the-greatest-number"
 # The names of the input files in these cases.
 NAMES = {"deal": "deal.pbn", "layouts": "layouts.lay", "report": "report.txt", "log": "log.txt"}
 IS_ROOT = os.geteuid() == 0
 # Users without processes or files, one for each trial that needs one.
 FIRST_USER = 60000
-# Signals that end a process, and those that do nothing to it. The program cares for PIPE alone, from its start on.
+# Signals that end a process, and signals that don't. The program handles only PIPE, from its start on.
 DEADLY = ("HUP", "INT", "QUIT", "USR1", "USR2", "ALRM", "TERM", "KILL", "XCPU", "PIPE")
 HARMLESS = ("CHLD", "CONT", "URG", "WINCH")
-# What is done in the new process before it becomes the program.
+# What the new process does before it becomes the program.
 WRAPPER = """
 import os, resource, signal, sys
 signal.signal(signal.SIGPIPE, signal.SIG_DFL)
@@ -64,7 +64,7 @@ os.execv(sys.argv[1], sys.argv[1:])
 """
 
 
-# What may come of a run: standard output, standard error and exit status.
+# The outcomes of a run: standard output, standard error and exit status.
 
 def refused(status, line):
     return b"", b"alphamu: " + line + b"\n", status
@@ -75,7 +75,7 @@ def unread(file):
 
 
 def unwritten(case, count=0):
-    """The first bytes alone were written."""
+    """Only the first bytes were written."""
     return cases.expected(case)[0][:count], b"alphamu: cannot write\n", 8
 
 
@@ -95,14 +95,14 @@ def close(*streams):
 
 
 def become(user):
-    """Another user, where there is leave for it."""
+    """Become another user, if this one may."""
     return f"os.setgroups([]); os.setgid({user}); os.setuid({user})" if IS_ROOT else ""
 
 
 # How a run is made.
 
 class Trial:
-    """What a trial is made with: the program, the folder for its files, the time that it has and a user of its own."""
+    """What a trial needs: the program, the folder for its files, its time limit and a user of its own."""
 
     def __init__(self, program, room, seconds, user):
         self.program, self.room, self.seconds, self.user = program, room, seconds, user
@@ -118,8 +118,8 @@ class Trial:
                                 stdin=subprocess.DEVNULL, stdout=out, stderr=err)
 
     def run(self, case, before="", words=None, spoil=None, out=None, err=None, after=None):
-        """What came of a run; the status is none where it didn't end. A stream that is handed in counts as empty, and
-        what is done after the start gets the process."""
+        """The outcome of a run; the status is none if it didn't end. A stream that is passed in counts as empty. `after`
+        is called with the process once it has started."""
         with tempfile.TemporaryFile() as own_out, tempfile.TemporaryFile() as own_err:
             with self.start(case, out or own_out, err or own_err, before, words, spoil) as process:
                 if after:
@@ -135,7 +135,7 @@ class Trial:
 
 
 def judged(found, *allowed):
-    """What is wrong with what came of a run, or nothing."""
+    """What is wrong with the outcome of a run, or nothing."""
     if found in allowed:
         return None
     return "no end" if found[2] is None else f"{found!r}, and not " + " or ".join(map(repr, allowed))
@@ -151,7 +151,7 @@ def to_device(path, mode):
 
 
 def disk_full_after(count):
-    """No file grows beyond so many bytes, and what would grow it is refused."""
+    """No file may grow beyond this many bytes."""
     def trial(given):
         with tempfile.TemporaryFile() as out:
             _, _, status = given.run(JOBS["solve"], limit_to("FSIZE", count), out=out, err=subprocess.DEVNULL)
@@ -162,7 +162,7 @@ def disk_full_after(count):
 
 
 def without(case, *streams):
-    """The process hasn't got these streams at all."""
+    """The process doesn't have these streams at all."""
     def trial(given):
         is_unwritten = 1 in streams and cases.expected(case)[2] in (0, 8)
         out, err, status = unwritten(case) if is_unwritten else cases.expected(case)
@@ -188,7 +188,7 @@ def broken_error(case):
 
 
 def filled_pipe():
-    """Both ends of a pipe that has no room, and how many bytes are in it."""
+    """Both ends of a full pipe, and how many bytes it holds."""
     reads, writes = os.pipe()
     os.set_blocking(writes, False)
     held = 0
@@ -206,7 +206,7 @@ def pipe_that_refuses(given):
 
 
 def pipe_that_waits(given):
-    """The program waits for room, is stopped there and goes on; then the pipe is read."""
+    """The program waits for room in the pipe, is stopped there and continued; then the pipe is read."""
     reads, writes, held = filled_pipe()
     os.set_blocking(writes.fileno(), True)
 
@@ -242,7 +242,7 @@ def streams():
 # Files.
 
 def spoiled(file, spoil, *allowed, as_other=False, name=None, job="audit"):
-    """The named file is made something else before the run."""
+    """The named file is turned into something else before the run."""
     def trial(given):
         before = become(given.user) if as_other else ""
         found = given.run(JOBS[job], before, spoil=lambda folder: spoil(os.path.join(folder, name or NAMES[file])))
@@ -289,7 +289,7 @@ def files(is_launcher):
         yield f"{file} is a link to nothing", spoiled(file, link_to("nowhere"))
         yield f"{file} is a link to itself", spoiled(file, link_to(name))
         yield f"{file} fails as it is read", spoiled(file, link_to("/proc/self/mem"))
-        # The launcher stands where another user may not look.
+        # Another user may not be allowed to read the launcher's folder.
         if not (is_launcher and IS_ROOT):
             yield f"{file} may not be read", spoiled(file, close_to_all, as_other=True)
             yield f"{file} is in a closed folder", spoiled(file, put_in_closed_folder, as_other=True)
@@ -305,7 +305,7 @@ def files(is_launcher):
     yield "a name below a file", named(b"deal.pbn/n")
 
 
-# Memory, stack and threads: what is limited may change nothing, or memory alone.
+# Memory, stack and threads: under a limit the run either is as without it, or ends out of memory.
 
 def limited(kind, size, case, other_user=False):
     def trial(given):
@@ -328,7 +328,7 @@ def stack():
 
 
 def threads():
-    """So many processes and threads of one user in all."""
+    """A limit on the processes and threads of one user."""
     for job in ("fusion", "workers", "boards", "solve"):
         for count in (1, 2, 3, 4):
             yield f"{job} with {count}", limited("NPROC", count, JOBS[job], other_user=True)

@@ -1,10 +1,10 @@
 #!/usr/bin/env python3
 """matches.py [--jobs N] [--seconds N] [--only PATTERN] [PROGRAM]
 
-Plays out each kept layout of each case in cases/ that expects a report: once against two defenders who play low, and
-once more where one who plays high sits at declarer's left from the first card on. The bits must be those of the first
-vector of the report, and a layout with a 1 must be made. Where no program is named it is ./alphamu, as for cases.py.
-The exit status is 0 only where nothing differs and something was played.
+Plays out each kept layout of each case in cases/ that expects a report, twice: against two defenders who play low, and
+with one at declarer's left who plays high from the first card on. The bits must be those of the first vector of the
+report, and a layout with a 1 must be made. If you name no program it is ./alphamu, as for cases.py. The exit status is
+0 only if nothing differs and something was played.
 """
 import fnmatch
 import os
@@ -18,7 +18,7 @@ CHOICES = ([], [b"--switch", b"1"])
 
 
 def lines_of(text):
-    """The value of each line, by its first word; the first line of a word counts."""
+    """The rest of each line by its first word. If several lines begin with a word, the first counts."""
     found = {}
     for line in text.splitlines():
         word, _, value = line.partition(b" ")
@@ -27,7 +27,7 @@ def lines_of(text):
 
 
 def as_match(words):
-    """The words for a match in place of those for the job `solve`."""
+    """The words for the job `match`, from those for the job `solve`."""
     return [b"match" if word == b"solve" else b"--job=match" if word == b"--job=solve" else word for word in words]
 
 
@@ -47,7 +47,7 @@ def plays(cases):
     """The case, layout, bit and choice of each match."""
     for case in cases:
         text, _, status = expected(case)
-        if status or job_of(words_of(case)) != b"solve":
+        if status or job_of(words_of(case)) != "solve":
             continue
         lines = lines_of(text)
         vector = lines[b"vector"].split(b" ")[0]

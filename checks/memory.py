@@ -1,13 +1,13 @@
 #!/usr/bin/env python3
 """memory.py [--jobs N] [--seconds N] [--only PATTERN]
 
-Runs the proved program, which ./build makes, and refuses it memory: the first allocation, then the second, and so on
-until a run has made no more of them; once that one alone, and once it and all that follow. Each run must end by status 9
-with its line and no output, or by the right status with the right bytes. The allocations are refused by a few lines of C
-that stand in for the C library's; `cc` compiles them into a temporary folder.
+Runs the proved program, which ./build makes, and lets its allocations fail: in one run the first, in the next the second,
+and so on to the last; once only that allocation, and once that one and all after it. Each run must end with status 9, its
+line and no output, or with the right status and the right bytes. A few lines of C replace the C library's functions for
+memory; `cc` compiles them into a temporary folder.
 
-Prints for each of the runs below how many allocations there were and how many trials ended out of memory, and what was
-wrong. The exit status is 0 only where nothing was wrong, and each kind of trial was out of memory at least once.
+For each of the runs below it prints the number of allocations, how many trials ran out of memory, and what was wrong. The
+exit status is 0 only if nothing was wrong, and if each kind of trial ran out of memory at least once.
 """
 import argparse
 import fnmatch
@@ -23,7 +23,7 @@ import cases
 
 PROVED = os.path.join(cases.TOP, "crates", "alphamu", "out", "alphamu")
 NO_MEMORY = b"", b"alphamu: out of memory\n", 9
-# By name the case and the words that are added to it.
+# The case of each run, and the words that are added to it.
 RUNS = {
     "solve": ("queen-two-ways", ()),
     "solve with workers": ("queen-two-ways", ("--workers", "4")),
@@ -55,7 +55,7 @@ SHIM = r"""
 
 void *__libc_malloc(size_t), *__libc_calloc(size_t, size_t), *__libc_realloc(void *, size_t), *__libc_memalign(size_t, size_t);
 
-// How many allocations were asked for, where the caller can read it after the end.
+// The number of allocations so far, in a file that the caller reads after the end.
 static atomic_ulong *asked;
 static unsigned long first, last;
 
@@ -98,7 +98,7 @@ def compile_shim(room):
 
 
 def run(shim, name, first, last, seconds):
-    """What came of a run in which the allocations of these numbers are refused, and how many there were."""
+    """The outcome of a run in which the allocations with these numbers fail, and how many there were."""
     case, more = RUNS[name]
     with tempfile.NamedTemporaryFile() as count:
         count.write(bytes(8))
@@ -111,7 +111,7 @@ def run(shim, name, first, last, seconds):
 
 
 def judge(shim, name, given, pool):
-    """The line on a run, and what was wrong."""
+    """The line about a run, and what was wrong."""
     right = cases.expected(RUNS[name][0])
     found, count = run(shim, name, 0, 0, given.seconds)
     told = [] if found == right else [f"with all memory: {found!r}"]
@@ -133,7 +133,7 @@ def judge(shim, name, given, pool):
 
 
 def main():
-    parser = argparse.ArgumentParser(description="Refuses alphamu each allocation in turn.", allow_abbrev=False)
+    parser = argparse.ArgumentParser(description="Lets each of alphamu's allocations fail in turn.", allow_abbrev=False)
     parser.add_argument("--jobs", type=int, default=len(os.sched_getaffinity(0)))
     parser.add_argument("--seconds", type=float, default=120)
     parser.add_argument("--only", default="*", metavar="PATTERN")

@@ -1,20 +1,21 @@
 #!/usr/bin/env python3
 """options.py [--jobs N] [--seconds N] [--only PATTERN] [--whole] [PROGRAM]
 
-Runs a program on each case in cases/ whose job searches, with choices of the options on how to search, and compares
-the output wherever the case expects an output and the run is done. Each case is run with each choice for one worker,
-and with two of the choices for several workers, which go round from case to case; with --whole each is run with all.
-Where no program is named it is ./alphamu, as for cases.py. Prints the runs that wrote something else, or that ended
-otherwise than done or spent. The exit status is 0 only where there is none, and some run of each choice was done.
+Runs a program on each case in cases/ whose job searches and which expects an output, with various options for the
+search. If the run is done, it compares the output. Each case is run with each choice of options for one worker, and with
+two of the choices for several workers, which rotate from case to case; with --whole it is run with all of them. If you
+name no program it is ./alphamu, as for cases.py. Prints the runs that wrote something else, or that ended neither done
+nor spent. The exit status is 0 only if there is none, and if some run of each choice was done.
 """
 import fnmatch
 import os
 import sys
 from concurrent.futures import ThreadPoolExecutor
 
+import jobs
 from cases import expected, is_ready, names_of_cases, parser_of, run, words_of
 
-# A table of one entry stands for a table that is always full.
+# A table of one entry is a table that is always full.
 ONE_WORKER = [
     [b"--no-cuts"],
     [b"--no-table"],
@@ -24,29 +25,24 @@ ONE_WORKER = [
 SEVERAL_WORKERS = [[b"--workers", workers] + choice for workers in (b"2", b"4", b"64")
                    for choice in [[], *ONE_WORKER, [b"--no-cuts", b"--shards", b"1", b"--room", b"1"]]]
 CHOICES = ONE_WORKER + SEVERAL_WORKERS
-SEARCHES = (b"solve", b"card", b"match", b"made", b"boards")
+SEARCHES = [job for job, (_, allowed) in jobs.JOBS.items() if "workers" in allowed]
 DONE, SPENT = 0, (7, 17)
 
 
 def job_of(words):
-    """The job that the words ask for."""
-    for at, word in enumerate(words):
-        if word.startswith(b"--job="):
-            return word[len(b"--job="):]
-        if word == b"--job" and at + 1 < len(words):
-            return words[at + 1]
-    return None
+    """The job that the words name, or none."""
+    return (jobs.split([word.decode(errors="replace") for word in words]) or {}).get("job")
 
 
 def is_fit(case, choice):
-    """Whether the case is done, searches, and has none of the options yet."""
+    """Whether the case is done, searches, and has none of these options yet."""
     words = words_of(case)
     given = {word.split(b"=")[0] for word in words if word.startswith(b"--")}
     return expected(case)[2] == DONE and job_of(words) in SEARCHES and not given & set(choice)
 
 
 def choices_for(place, whole):
-    """The choices for the case at a place."""
+    """The choices for the case with this number."""
     if whole:
         return CHOICES
     turn = 2 * place % len(SEVERAL_WORKERS)

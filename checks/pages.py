@@ -2,12 +2,13 @@
 """Runs every command that the pages for users show, and compares what it prints with what the page shows.
 
 A command is a line of README.md, docs/USING.md, docs/PROGRAMS.md or a lesson under examples/ that begins with four blanks and
-`./alphamu`, `examples/`, `grep`, `awk`, `timeout`, `cat` or `/usr/games/dealer`. It is run by the shell at the top of the
-repository; one of a program that isn't installed is counted as left out. Where a block in fences comes after it, before the next
-command and before the next heading, its lines must be what the command prints, standard output and then standard error; a last
-line `..` stands for any further lines. Where none comes, it must end with status 0. The commands of one page run in their order, since some write files in /tmp for later ones.
+`./alphamu`, `examples/`, `grep`, `awk`, `timeout`, `cat` or `/usr/games/dealer`. The shell runs it at the top of the repository.
+If its program isn't installed, it is counted as left out. If a block in fences follows, before the next command and before the
+next heading, the command must print the lines of the block, standard output and then standard error; a last line `..` means any
+further lines. If no block follows, the command must end with status 0. The commands of one page run in order, since some write
+files in /tmp for later ones.
 
-The proved program must be there and current."""
+There must be a current proved program, which ./build makes."""
 import pathlib
 import re
 import shutil
@@ -54,7 +55,7 @@ def agrees(expected, printed):
 
 def main():
     if subprocess.run([TOP / "checks" / "program_state"]).returncode != 0:
-        sys.exit("pages: the proved program isn't there or isn't current: run ./build")
+        sys.exit("pages: there is no current proved program: run ./build")
     run = differ = left_out = 0
     for page in PAGES:
         for number, command, expected in commands(page.read_text()):

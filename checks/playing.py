@@ -1,7 +1,7 @@
-"""Cards, tricks and double dummy, for what alphamu has to answer (reading.py, logs.py). Double dummy is plain minimax with a memo.
+"""Cards, tricks and double dummy for the second reading (reading.py, logs.py). Double dummy is plain minimax with a memo.
 
-Cards are 0 to 51 in card order, and a seat is its number clockwise from declarer, who is 0. A state is the hands by seat, the
-trick as pairs of seat and card, the trick's leader, and the need.
+Cards are 0 to 51 in card order. Seats are numbered clockwise from declarer, who is 0. A state is the hands by seat, the trick as
+pairs of seat and card, the trick's leader, and the need.
 """
 import functools
 
@@ -22,7 +22,7 @@ def name_of(card):
 
 
 def winner_of(trick, trump):
-    """The seat that wins; of a card that stands twice the first counts as the higher."""
+    """The seat that wins. If a card was played twice, the first counts as the higher."""
     led = trick[0][1] // 13
     suit = trump if any(card // 13 == trump for _, card in trick) else led
     best = max(card for _, card in trick if card // 13 == suit)
@@ -55,7 +55,7 @@ def after(hands, trick, leader, need, trump, seat, card):
     return hands, trick, leader, need
 
 
-# Nodes: states that share all but the defenders' hands. There is one at least.
+# Nodes: one or more states that differ only in the defenders' hands.
 
 def seat_to_play(states):
     _, trick, leader, _ = states[0]
@@ -74,7 +74,7 @@ def choices(states):
 
 
 def child(states, card, trump):
-    """The places of the states in which the card is legal, and the states after it."""
+    """The numbers of the states in which the card is legal, and the states after it."""
     seat = seat_to_play(states)
     able = [at for at, state in enumerate(states) if card in legal(state[0][seat], state[1])]
     return able, [after(*states[at], trump, seat, card) for at in able]

@@ -1,12 +1,12 @@
 #!/usr/bin/env python3
 """proofs.py [--jobs N] [--seconds N] [--only PATTERN] [PROGRAM]
 
-Asks for the log of each case in cases/ that expects a report, with 10,000 nodes at most, and audits the report that the
-case expects by it: it must be complete, with as many lines as the log has. Then the log is damaged: a line is dropped, two
-neighbouring lines change places, a 1 of the last line becomes a 0, or a line cites one line less. Each damaged log is
-audited too, and what comes of it must be what a second reading of the rules says (checks/logs.py), line and status. Where no
-program is named it is ./alphamu, as for cases.py. The exit status is 0 only where nothing differs, and some damaged logs were
-refused and some still prove all.
+Asks for the log of each case in cases/ that expects a report, with at most 10,000 nodes, and audits the expected report with
+it: the log must prove it complete, with as many lines as the log has. Then the log is damaged: a line is dropped, two
+neighbouring lines are exchanged, a 1 in the last line becomes a 0, or a line cites one line less. Each damaged log is audited
+too, and must get the line and the status that a second reading of the rules gives (checks/logs.py). If you name no program it
+is ./alphamu, as for cases.py. The exit status is 0 only if nothing differs, and if some damaged logs were refused and some
+still prove everything.
 """
 import fnmatch
 import os
@@ -20,7 +20,7 @@ from cases import bytes_of, expected, is_ready, names_of_cases, parser_of, run, 
 
 NODES = b"10000"
 REPORT, LOG = b"report.of.the.case", b"log.of.the.case"
-# How many damaged logs of each kind are made of a log of so many lines at most; longer ones are read back alone.
+# How many damaged logs of each kind are made from a log with at most MOST_LINES lines; longer logs are only audited.
 TIMES = 2
 MOST_LINES = 2000
 
@@ -40,7 +40,7 @@ def words_for(job, options, *names):
 
 
 def turned(chance, line):
-    """The line with a 0 for one of the ones in its vectors, or none."""
+    """The line with one of the ones in its vectors changed to 0, or none."""
     words, vectors = line.rsplit(b" ", 1)
     ones = [at for at, byte in enumerate(vectors) if byte == ord("1")]
     if not ones:
@@ -50,7 +50,7 @@ def turned(chance, line):
 
 
 def citing_less(chance, lines):
-    """A line that cites two lines or more, by its place, without one of them; or none."""
+    """The place of a line that cites two or more lines, and the line without one of them; or none."""
     places = [at for at, line in enumerate(lines) if b"," in line.split(b" ")[3]]
     if not places:
         return None
@@ -89,7 +89,7 @@ class Trial:
         self.report = expected(case)[0]
 
     def log(self):
-        """The log that the program writes, or none where it has too many lines."""
+        """The log that the program writes, or none if it has too many lines."""
         words = words_for(b"prove", self.options, "deal", "layouts", "moves") + [b"--nodes", NODES]
         text, line, status = run(self.program, self.case, self.seconds, words=words)
         if status not in (0, 7):

@@ -1,31 +1,29 @@
-"""What alphamu has to answer to words and files, read a second time.
+"""A second reading of words and files: what alphamu must answer.
 
-It says anew what docs/USING.md and docs/definitions/ say, over whole texts and lists of cards, and takes nothing from
-the program. It knows every refusal but those of a search, and all output but that of the jobs that search (`solve`, `card`,
-`match`, `made`, `boards`) or write what a search would (`prove`). It is slow where many cards are left to be played.
+It follows docs/USING.md and docs/definitions/, works with whole texts and lists of cards, and takes nothing from the program.
+It knows every refusal except those of a search, and all output except that of the jobs that search (`solve`, `card`, `match`,
+`made`, `boards`) or write down what a search finds (`prove`). It is slow when many cards are left to play.
 """
 import itertools
 import math
 import re
 
+import jobs
 import logs
 from playing import RANKS, after, card_named, child, choices, is_decided, legal, makes, name_of, seat_to_play, winner_of
 
 BLANKS = b" \t\r"
 SEATS = b"NESW"
 MOST_LAYOUTS = 256
-MOST_GAMES = 64
 MOST_WEIGHT = 1000000
 MOST_LEVELS = 64
-MOST_BYTES = {"deal": 1 << 20, "layouts": 1 << 20, "report": 1 << 24, "log": 1 << 24}
 NO_TRUMP = 4
-# The word before what is won, by the version of a text.
+# The word before what is won, by version of the text.
 WORDS = {1: b"count", 2: b"weight"}
-USAGE = b"usage: --job JOB [OPTIONS]"
 
 
 class Refusal(Exception):
-    """A status with the line that goes with it."""
+    """A status and its line."""
 
     def __init__(self, status, line):
         self.answer = status, b"", b"alphamu: %s\n" % line
@@ -41,7 +39,7 @@ def hand_text(cards):
 
 
 def seat_letter(text):
-    """The place at the table that one letter names, clockwise from North, or none."""
+    """The seat that a letter names, clockwise from North, or none."""
     return SEATS.index(text.upper()) if len(text) == 1 and text.upper() in SEATS else None
 
 
@@ -69,7 +67,7 @@ def bad_pbn(line, name):
 
 
 def games_of(text):
-    """The games of a file, each a list of tags; or the first fault is raised."""
+    """The games of a file, each a list of tags. Raises the first fault."""
     if bad := BAD_BYTE.search(text):
         raise bad_pbn(text.count(b"\n", 0, bad.start()) + 1, b"NotText")
     text = text.removeprefix(b"\xef\xbb\xbf")
@@ -95,7 +93,7 @@ def games_of(text):
 # The Deal form.
 
 def deal_of(value):
-    """The hands from North on, each a set of cards or none."""
+    """The hands from North on, each a set of cards, or none if it is hidden."""
     value = value.strip(BLANKS)
     seat = seat_letter(value[:1])
     if seat is None or value[1:2] != b":":
@@ -134,7 +132,7 @@ NOTE = re.compile(rb"\$.*|=[0-9]+=|[!?]+", re.S)
 
 
 class Board:
-    """Before the first card, but for the plays: pairs of a seat and a card."""
+    """The board before the first card, and the plays: pairs of a seat and a card."""
 
     def __init__(self, declarer, trump, need, lead, hands, unseen):
         self.declarer, self.trump, self.need, self.lead = declarer, trump, need, lead
@@ -200,7 +198,7 @@ def ending_of(game, deal, declarer, need, size):
 
 
 def entries_in(tokens):
-    """What counts of a Play section: a card or none, each with its line."""
+    """The entries of a Play section: each a card or none, with its line."""
     ended = next((at for at, (text, _) in enumerate(tokens) if text == b"*"), len(tokens))
     counted = [(text, line) for text, line in tokens[:ended] if not NOTE.fullmatch(text)]
     last = max((at for at, (text, _) in enumerate(counted) if CARD.fullmatch(text)), default=-1)
@@ -249,7 +247,7 @@ def find_gap(turned, rows_after):
 
 
 def judge_card(hand, card, trick, line, is_trick_left):
-    """Takes the card out of declarer's or dummy's hand; a defender's hand isn't known here."""
+    """Takes the card out of declarer's or dummy's hand. A defender's hand isn't known here."""
     if hand is None:
         if not is_trick_left:
             raise bad_pbn(line, b"PlayNotHeld")
@@ -269,7 +267,7 @@ def is_revoke(hand, card, trick):
 # The moment after the plays.
 
 class Moment:
-    """Hands by seat (none for a defender's that isn't known), the trick as pairs of seat and card, its leader, and the need."""
+    """Hands by seat (none for a defender whose hand isn't known), the trick as pairs of seat and card, its leader, and the need."""
 
     def __init__(self, board, left=None, right=None):
         self.hands = [set(board.hands[0]), left and set(left), set(board.hands[2]), right and set(right)]
@@ -302,7 +300,7 @@ def moment_after(board, layout=(None, None)):
 # The layout file.
 
 def contradiction(board, layout):
-    """The number of the first card that a defender can't have played, with the cause; or none."""
+    """The number of the first card that a defender can't have played, and why; or none."""
     moment = Moment(board, *layout)
     for number, (seat, card) in enumerate(board.plays, 1):
         if seat % 2:
@@ -322,7 +320,7 @@ class Kept:
         return 1 if set(self.weights) == {1} else 2
 
     def weight(self, bits):
-        """What the layouts with a 1 weigh together."""
+        """The weight of the layouts with a 1 together."""
         return sum(weight for weight, bit in zip(self.weights, bits) if bit == ord("1"))
 
 
@@ -330,7 +328,7 @@ WEIGHT = re.compile(rb"[ \t\r]*0*([0-9]*)")
 
 
 def weight_of(line):
-    """The weight of a layout and the rest of its line, or none where the weight is refused."""
+    """The weight of a layout and the rest of its line, or none if the weight is refused."""
     if line.lstrip(BLANKS)[:1] not in [b"%d" % digit for digit in range(10)]:
         return 1, line
     found = WEIGHT.match(line)
@@ -429,7 +427,7 @@ def bits_text(bits):
 # All layouts.
 
 def held_by_play(board):
-    """The unseen cards that each defender must hold by what was played; or none where no layout allows it."""
+    """The unseen cards that the play gives to each defender; or none if no layout allows the play."""
     shown, others, moment = {1: set(), 3: set()}, {1: set(), 3: set()}, Moment(board)
     for seat, card in board.plays:
         if seat % 2:
@@ -437,7 +435,7 @@ def held_by_play(board):
                 return None
             led = moment.trick[0][1] // 13 if moment.trick else card // 13
             if card // 13 != led:
-                # What is left of the suit led is in the other hand.
+                # The other defender holds the rest of the suit that was led.
                 others[4 - seat] |= {it for it in board.unseen - shown[seat] if it // 13 == led}
             shown[seat].add(card)
         moment.play(seat, card)
@@ -463,7 +461,7 @@ def list_text(board):
 
 # The report.
 
-# Longer numbers are out of every range.
+# Longer numbers are beyond every limit.
 COUNT = rb"(0|[1-9][0-9]{0,19})"
 A_CARD = rb"[SHDCshdc][2-9TJQKAtjqka]"
 VERSION = re.compile(rb"alphamu report ([12])")
@@ -478,7 +476,7 @@ END = re.compile(rb"end")
 
 
 class Lines:
-    """Whole lines that are read one after the other."""
+    """Whole lines, read one after the other."""
 
     def __init__(self, text):
         self.all, self.at = text.split(b"\n")[:-1], 0
@@ -487,7 +485,7 @@ class Lines:
         return Refusal(11, b"report line %d: %s" % (line or self.at + 1, name))
 
     def take(self, form, name):
-        """The next line, which must have that form whole."""
+        """The next line, all of which must have this form."""
         found = form.fullmatch(self.all[self.at]) if self.at < len(self.all) else None
         if not found:
             raise self.bad(name)
@@ -496,7 +494,7 @@ class Lines:
 
 
 def plan_of(lines, level=1):
-    """A plan: nothing for a stop, a card with the plan after it, or a list of these."""
+    """A plan: nothing for a stop, a card and the plan after it, or a list of such pairs."""
     if level > MOST_LEVELS:
         raise lines.bad(b"TooDeep")
     found = lines.take(NODE, b"Plan")[0]
@@ -551,13 +549,13 @@ class Misfit(Exception):
 
 
 class Judge:
-    """One plan, walked from the root over all its nodes in preorder."""
+    """One plan, walked from the root through its nodes in preorder."""
 
     def __init__(self, trump):
         self.trump, self.node = trump, 0
 
     def bits(self, plan, states, moves):
-        """For each state whether the plan wins it."""
+        """Whether the plan wins, for each state."""
         self.node += 1
         if moves == 0 or is_decided(states):
             self.demand(plan is None)
@@ -630,74 +628,17 @@ def audit_text(board, kept, report, log):
 
 # The words.
 
-FILES = ("deal", "layouts", "report", "log")
-SEARCHING = {"nodes": (1, (1 << 64) - 1), "workers": (1, 64), "shards": (1, 64), "room": (1, 65536)}
-NUMBERS = {"moves": (1, 26), "number": (0, (1 << 64) - 1), "layout": (1, 256), "switch": (1, 52), **SEARCHING}
-FLAGS = ("no-table", "no-cuts")
-# What each job takes: the options that it must have, and those that it may have.
-SEARCH = (*SEARCHING, *FLAGS)
-TAKES = {"solve": (("deal", "layouts", "moves"), SEARCH), "card": (("deal", "layouts", "moves"), SEARCH),
-         "match": (("deal", "layouts", "moves", "layout"), ("switch", *SEARCH)), "fusion": (("deal", "layouts"), ()),
-         "boards": (("deal", "layouts", "moves"), SEARCH), "list": (("deal",), ()),
-         "check": (("deal", "layouts", "report"), ()), "made": (("number",), SEARCH),
-         "prove": (("deal", "layouts", "moves"), ("nodes",)), "audit": (("deal", "layouts", "report", "log"), ())}
-# The greatest number of nodes that a log may be asked of, and of entries that a table may have.
-MOST_LOGGED = 1 << 28
-MOST_ENTRIES = 1 << 18
-DEFAULT = {"shards": 16, "room": 16384}
-
-
-def options_of(words):
-    """The options with their values, or none where a word has no place."""
-    found, rest = {}, list(words)
-    while rest:
-        word = rest.pop(0)
-        name, equals, value = word.partition("=")
-        if not name.startswith("--") or name[2:] in found:
-            return None
-        name = name[2:]
-        if name in FLAGS:
-            if equals:
-                return None
-            found[name] = True
-            continue
-        if name not in ("job", *FILES, *NUMBERS):
-            return None
-        if not equals:
-            if not rest:
-                return None
-            value = rest.pop(0)
-        if not value or value.startswith("-"):
-            return None
-        found[name] = value
-    return found
-
-
 def ask_of(words):
-    """The job and its options, or none where the words are refused."""
-    found = options_of(words)
-    if found is None or found.get("job") not in TAKES:
-        return None
-    job = found.pop("job")
-    must, may = TAKES[job]
-    if not set(must) <= set(found) <= {*must, *may}:
-        return None
-    for name, (least, most) in NUMBERS.items():
-        if name in found:
-            if not re.fullmatch(r"0*[0-9]{1,20}", found[name]) or not least <= int(found[name]) <= most:
-                return None
-    if job == "prove" and int(found.get("nodes", 1)) > MOST_LOGGED:
-        return None
-    if int(found.get("shards", DEFAULT["shards"])) * int(found.get("room", DEFAULT["room"])) > MOST_ENTRIES:
-        return None
-    return job, found
+    """The job and its options, or none if the words are refused."""
+    options = jobs.options_in(words)
+    return options and (options.pop("job"), options)
 
 
 # The whole program.
 
 def answer(words, files):
-    """Status, standard output and standard error for words (bytes) and the files that are there, by their names. Where a
-    search decides them, the status is none."""
+    """Status, standard output and standard error for words (bytes) and the files, by their names. The status is none if a
+    search decides it."""
     try:
         words = [word.decode() for word in words]
     except UnicodeDecodeError:
@@ -705,7 +646,7 @@ def answer(words, files):
     try:
         asked = ask_of(words)
         if asked is None:
-            raise Refusal(2, USAGE)
+            raise Refusal(jobs.REFUSED, jobs.USAGE.encode())
         text = text_for(*asked, files)
     except Refusal as refusal:
         return refusal.answer
@@ -713,10 +654,10 @@ def answer(words, files):
 
 
 def file_read(file, name, files):
-    """The file of that name, which is read as a deal, layouts, a report or a log."""
+    """The content of the file with this name, which is a deal, layouts, a report or a log."""
     if name not in files:
         raise Refusal(3, b"cannot read " + file.encode())
-    if len(files[name]) > MOST_BYTES[file]:
+    if len(files[name]) > jobs.FILES[file]:
         raise Refusal(10, file.encode() + b" too long")
     return files[name]
 
@@ -729,7 +670,7 @@ def games_read(text):
 
 
 def layouts_kept(text, board):
-    """The kept layouts of a board on which it is the turn of declarer's side."""
+    """The kept layouts of a board. It must be declarer's or dummy's turn."""
     kept = layouts_of(text, board)
     turn = moment_after(board).turn()
     if turn is None or turn % 2:
@@ -740,7 +681,7 @@ def layouts_kept(text, board):
 def boards_refused(options, files):
     """The line of each game that `boards` refuses, by the game's number, and how many games there are."""
     games = games_read(file_read("deal", options["deal"], files))
-    if len(games) > MOST_GAMES:
+    if len(games) > jobs.MOST_GAMES:
         raise Refusal(18, b"%d games" % len(games))
     texts = [file_read("layouts", f"{options['layouts']}.{number}", files) for number in range(1, len(games) + 1)]
     refused = {}
@@ -753,7 +694,7 @@ def boards_refused(options, files):
 
 
 def boards_text(options, files):
-    """The text of `boards`, or none where a game is searched."""
+    """The text of `boards`, or none if a game is searched."""
     refused, count = boards_refused(options, files)
     if len(refused) < count:
         return None
@@ -765,7 +706,7 @@ def text_for(job, options, files):
         return None
     if job == "boards":
         return boards_text(options, files)
-    given = {file: file_read(file, options[file], files) for file in FILES if file in options}
+    given = {file: file_read(file, options[file], files) for file in jobs.FILES if file in options}
     board = board_of(games_read(given["deal"])[0])
     if job == "list":
         return list_text(board)

@@ -1,11 +1,12 @@
 #!/usr/bin/env python3
-"""Runs what docs/SCALING.md shows, with the evening of examples/evening: all boards in one run with one worker and with four; each
-board by the job `solve`; parts of three boards, four parts at a time; the same with too few nodes, and then those that failed again;
-over two hosts; and over two hosts of which one is lost in the middle. What is gathered must be the bytes of the first run each time.
+"""Runs what docs/SCALING.md shows, with the evening of examples/evening: all boards in one run, with one worker and with four; each
+board by the job `solve`; parts of three boards, four parts at a time; the same with too few nodes, and then the failed parts again;
+parts over two hosts; and parts over two hosts, one of which is lost in the middle. Each time the gathered answers must be the bytes
+of the first run.
 
-Usage: checks/scaling.py [MOVES [PROGRAM]], how many moves each board is planned (default 4). Where no program is named it is the
-proved one, which ./build makes. It wants GNU parallel, and for the hosts root, iproute2, rsync and openssh-server; without those
-it says so and leaves the hosts out."""
+Usage: checks/scaling.py [MOVES [PROGRAM]], with the moves for each board (default 4). If you name no program it is the proved one,
+which ./build makes. It needs GNU parallel, and for the hosts root, iproute2, rsync and openssh-server; without those it says so and
+leaves the hosts out."""
 import os
 import pathlib
 import re
@@ -19,9 +20,9 @@ TOP = pathlib.Path(__file__).resolve().parent.parent
 PROVED = TOP / "crates" / "alphamu" / "out" / "alphamu"
 EVENING = TOP / "examples" / "evening"
 SIZE = 3
-# What a run of parallel ends with where a host is lost, and alphamu where nodes are spent.
+# The status of a run of parallel if a host is lost, and of alphamu if nodes are spent.
 LOST, SPENT = 255, 17
-# More positions than so few follow some card of each part, where neither table nor cuts spare any.
+# Too few nodes for some card of each part, if neither table nor cuts save any.
 FEW_NODES = ["--nodes", "50", "--no-table", "--no-cuts"]
 
 
@@ -36,7 +37,7 @@ def timed(words, folder):
 
 
 class Evening:
-    """The evening in a folder of its own, cut into parts, and how it is asked."""
+    """The evening in a folder of its own, cut into parts, and the question about it."""
 
     def __init__(self, parent, name, program, moves):
         self.folder, self.program, self.moves = parent / name, program, moves
@@ -52,14 +53,14 @@ class Evening:
         return [self.program, "--job", job, "--deal", f"{folder}/evening.pbn", "--layouts", f"{folder}/{layouts}", "--moves", self.moves]
 
     def ask(self, *more):
-        """What one run over all boards wrote, and its seconds."""
+        """The output of one run over all boards, and its seconds."""
         done, took = timed([*self.words("boards", "."), *more], self.folder)
         if done.returncode:
             sys.exit(f"scaling: status {done.returncode}, {done.stderr}")
         return done.stdout, took
 
     def parallel(self, *more, words=()):
-        """The seconds that all parts take, run with these further words of parallel and of the program."""
+        """The seconds that all parts take, with these further words for parallel and for the program."""
         command = " ".join(map(str, [*self.words("boards", "{}"), *words]))
         command += " > {}/evening.boards.part 2> {}/evening.line && mv {}/evening.boards.part {}/evening.boards"
         _, took = timed(["parallel", "--will-cite", "--joblog", "log", *more, command, ":::", *self.parts], self.folder)
@@ -77,7 +78,7 @@ class Evening:
 
 
 def by_solve(evening):
-    """What the job `solve` says of each board by itself, in the lines of `boards`."""
+    """What the job `solve` says about each board alone, in the lines of `boards`."""
     evening.cut(1)
     answers = []
     for number, part in enumerate(evening.parts, 1):
@@ -87,16 +88,16 @@ def by_solve(evening):
 
 
 def over_hosts(evening, folder, hosts, *more, there="..."):
-    """The same over hosts, two parts a host at a time; each gets the folder of a part and hands back its answer."""
+    """The same over hosts, two parts per host at a time. Each host gets the folder of a part and sends back its answer."""
     words = ["--ssh", f"ssh -F {folder / 'ssh_config'}", *hosts, "--jobs", "2", "--workdir", there, "--transferfile", "{}"]
     return evening.parallel(*words, "--return", "{}/evening.boards", "--return", "{}/evening.line", "--cleanup", *more)
 
 
 def lose_one(evening, folder):
-    """The same, where host two is cut off in the middle; then the parts that failed are run again on host one."""
+    """The same, but host two is cut off in the middle. Then the parts that failed are run again on host one."""
     slow = subprocess.Popen(["bash", "-c", "sleep 0.5; exec %s lose two" % (EVENING / "hosts")], stdout=subprocess.DEVNULL,
                             stderr=subprocess.DEVNULL)
-    # What a lost host has left goes with the evening.
+    # What a lost host has left is removed with the evening.
     over_hosts(evening, folder, ["--sshloginfile", folder / "hosts"], there=evening.folder / "there")
     slow.wait()
     lost = evening.failed(LOST)
@@ -105,7 +106,7 @@ def lose_one(evening, folder):
 
 
 class Trials:
-    """What each trial is made with, and whether one has come to other bytes than one run with one worker."""
+    """What each trial needs, and whether one has given other bytes than one run with one worker."""
 
     def __init__(self, parent, program, moves):
         self.parent, self.program, self.moves, self.is_wrong = parent, program, moves, False
@@ -137,7 +138,7 @@ class Trials:
         self.report("with few nodes, and then %s again" % " ".join(failed), spent.gathered())
 
     def on_hosts(self):
-        """The evening over two hosts, and over two of which one is lost."""
+        """The evening over two hosts, and over two hosts one of which is lost."""
         folder = self.parent / "hosts"
         run([EVENING / "hosts", "up", folder], TOP, check=True)
         try:
@@ -155,9 +156,9 @@ def main():
     moves = sys.argv[1] if len(sys.argv) > 1 else "4"
     program = pathlib.Path(sys.argv[2]).resolve() if len(sys.argv) > 2 else PROVED
     if program == PROVED and subprocess.run([TOP / "checks" / "program_state"]).returncode != 0:
-        sys.exit("scaling: the proved program isn't there or isn't current: run ./build")
+        sys.exit("scaling: there is no current proved program: run ./build")
     if not shutil.which("parallel"):
-        sys.exit("scaling: GNU parallel isn't there")
+        sys.exit("scaling: GNU parallel isn't installed")
     with tempfile.TemporaryDirectory() as name:
         trials = Trials(pathlib.Path(name), program, moves)
         trials.on_this_machine()

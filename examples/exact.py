@@ -1,16 +1,16 @@
 #!/usr/bin/env python3
-"""Says whether a report is exact: whether more moves would find the same front.
+"""Says whether a report is exact, that is, whether more moves would find the same front.
 
-A plan stops where its moves are used up or where the contract is made or down for certain. So a `stop` below fewer cards of
-declarer's side than there are moves is one of the second kind. Where each is, nothing was judged with open hands, and every
-greater number of moves has the same front.
+A plan stops when its moves are used up, or when the contract is certain to be made or to go down. So if declarer's side has
+played fewer cards than there are moves, a `stop` is of the second kind. If every `stop` is, no layout was judged with open
+hands, and any greater number of moves finds the same front.
 
 Usage: exact.py REPORT"""
 import sys
 
 
 def open_stops(lines, moves):
-    """How many stops of the plan that begins here stand below as many cards of declarer's side as there are moves."""
+    """How many stops of the plan that begins here come after as many cards of declarer's side as there are moves."""
     line = next(lines)
     if line == "stop":
         return 1 if moves == 0 else 0

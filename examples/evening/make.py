@@ -1,18 +1,18 @@
 #!/usr/bin/env python3
 """Makes an evening: 24 boards after six tricks, and up to twenty layouts for each.
 
-Usage: examples/evening/make.py FOLDER. It writes FOLDER/evening.pbn, the games of all boards with an empty line between two, and
-FOLDER/evening.lay.1 to FOLDER/evening.lay.24. The same bytes come each time: the cards are drawn by a generator of its own.
+Usage: examples/evening/make.py FOLDER. It writes FOLDER/evening.pbn, the games of all boards with an empty line between them, and
+FOLDER/evening.lay.1 to FOLDER/evening.lay.24. It writes the same bytes each time, since it draws the cards by a generator of its own.
 
-The side with more high cards plays in its longest suit, or without trumps where it has no eight cards in one. It draws trumps
-first; else each seat leads from its longest side suit. Second hand plays low, and later ones win as cheaply as they can. After
-six tricks the question comes at the next turn of declarer's side. The seeds and the levels of the contracts were chosen so that
-most boards have something to choose; board 17 was passed out. The layouts are dealt by chance from the cards that the
-defenders have left, and none gives a suit to a defender who has shown out of it; the true one stands among them."""
+The side with more high cards plays in its longest suit, or in no trump if it has no eight-card fit. Declarer's side draws trumps
+first; otherwise each seat leads from its longest side suit. Second hand plays low, and third and fourth hand win as cheaply as they
+can. The question comes after six tricks, at the next turn of declarer's side. The seeds and the levels of the contracts were chosen
+so that most boards leave something to decide; board 17 was passed out. The layouts are dealt at random from the cards that the
+defenders have left, and none gives a defender a suit that he has shown out of. The true layout is one of them."""
 import pathlib
 import sys
 
-# The seed and the level of each board, in their order; level 0 was passed out.
+# The seed and the level of each board, in order; level 0 means passed out.
 BOARDS = [(16, 2), (23, 4), (36, 3), (47, 1), (53, 4), (31, 3), (102, 4), (80, 3), (91, 3), (94, 1), (113, 2), (119, 3), (144, 4), (152, 4),
           (138, 5), (239, 4), (1, 0), (188, 5), (222, 3), (235, 4), (256, 3), (4, 3), (206, 2), (177, 3)]
 LAYOUTS, TRICKS = 20, 6
@@ -23,7 +23,7 @@ VULNERABLE = "None NS EW All NS EW All None EW All None NS All None NS EW".split
 
 
 class Chance:
-    """Numbers without an order that shows, the same in each run."""
+    """Pseudo-random numbers, the same in each run."""
 
     def __init__(self, seed):
         self.state = seed * 2654435761
@@ -53,7 +53,7 @@ def in_suit(hand, suit):
 
 
 def written(hand):
-    """A hand as PBN has it."""
+    """A hand as PBN writes it."""
     return ".".join("".join(card[1] for card in sorted(in_suit(hand, suit), key=rank, reverse=True)) for suit in SUITS)
 
 
@@ -74,15 +74,15 @@ class Table:
         return [(self.declarer + 1) % 4, (self.declarer + 3) % 4]
 
     def strength(self, card, led):
-        """What takes a trick: trumps before the suit led, and high cards before low ones."""
+        """The order in which cards take a trick: trumps before the suit led, and high cards before low ones."""
         return card[0] == self.trump, card[0] == led, rank(card)
 
     def winner(self, trick):
-        """The place of the card that has the trick."""
+        """The place of the card that is winning the trick."""
         return max(range(len(trick)), key=lambda place: self.strength(trick[place], trick[0][0]))
 
     def lead(self, seat):
-        """The highest card of a suit where nothing higher is out against it, and else the lowest."""
+        """The highest card of a suit if the other side has nothing higher, and otherwise the lowest."""
         hand, against = self.hands[seat], self.hands[(seat + 1) % 4] + self.hands[(seat + 3) % 4]
         draws = self.is_declarers(seat) and in_suit(hand, self.trump) and in_suit(against, self.trump)
         side = [suit for suit in SUITS if suit != self.trump and in_suit(hand, suit)]
@@ -91,7 +91,7 @@ class Table:
         return low if any(rank(card) > rank(high) for card in in_suit(against, suit)) else high
 
     def follow(self, seat, trick):
-        """Second hand low; else the cheapest card that takes the trick from the other side, or the lowest."""
+        """Second hand low; otherwise the cheapest card that takes the trick from the other side, or the lowest."""
         led, hand = trick[0][0], self.hands[seat]
         same, best = in_suit(hand, led), self.winner(trick)
         beating = [card for card in same or hand if self.strength(card, led) > self.strength(trick[best], led)]
@@ -101,7 +101,7 @@ class Table:
         return min(loose, key=lambda card: (-len(in_suit(loose, card[0])), rank(card)))
 
     def play(self, cards):
-        """A trick of so many cards; a whole one gives the lead to the seat that takes it."""
+        """A trick of this many cards. A whole trick gives the lead to the seat that takes it."""
         trick = []
         for place in range(cards):
             seat = (self.leader + place) % 4
@@ -113,18 +113,18 @@ class Table:
             self.leader = (self.leader + self.winner(trick)) % 4
 
     def taken(self):
-        """The tricks that declarer's side has."""
+        """The tricks that declarer's side has taken."""
         whole = [(leader, trick) for leader, trick in self.tricks if len(trick) == 4]
         return sum(self.is_declarers(leader + self.winner(trick)) for leader, trick in whole)
 
     def shown_out(self, seat):
-        """The suits to which a seat hasn't followed."""
+        """The suits that a seat has shown out of."""
         cards = [(trick[0][0], trick[(seat - leader) % 4]) for leader, trick in self.tricks if (seat - leader) % 4 < len(trick)]
         return {led for led, card in cards if card[0] != led}
 
 
 def contract_of(hands):
-    """Trumps, or NT, and the declarer: who has more of them, or more points where there are none."""
+    """Trumps, or NT, and the declarer: the partner with more trumps, or with more points in no trump."""
     first = 0 if points(hands[0] + hands[2]) >= 20 else 1
     both = hands[first] + hands[first + 2]
     suit = max(SUITS, key=lambda it: len(in_suit(both, it)))
@@ -133,7 +133,7 @@ def contract_of(hands):
 
 
 def board(chance, tricks):
-    """A board after so many tricks, at the next turn of declarer's side."""
+    """A board after this many tricks, at the next turn of declarer's side."""
     table = Table(chance)
     for _ in range(tricks):
         table.play(4)
@@ -143,7 +143,7 @@ def board(chance, tricks):
 
 
 def row(first, leader, trick):
-    """A trick as a row of the Play section, whose columns begin at the seat that led first."""
+    """A trick as a row of the Play section, whose columns begin with the seat that made the opening lead."""
     places = [(first + column - leader) % 4 for column in range(4)]
     return " ".join(trick[place] if place < len(trick) else "-" for place in places)
 
@@ -160,7 +160,7 @@ def game(number, table, level):
 
 
 def layouts(table, chance, count):
-    """The true layout and others that the play allows, in no order, up to so many."""
+    """The true layout and others that the play allows, at most this many, in random order."""
     left, right = table.defenders()
     voids = table.shown_out(left), table.shown_out(right)
     fixed = [card for card in table.hands[left] + table.hands[right] if card[0] in voids[0] | voids[1]]
@@ -184,7 +184,7 @@ def write(path, lines):
 
 
 def with_empty_lines(games):
-    """The lines of all games, with an empty one between two."""
+    """The lines of all games, with an empty line between them."""
     return [line for lines in games for line in lines + [""]][:-1]
 
 

@@ -1,12 +1,13 @@
 #!/usr/bin/env python3
-"""Cuts an evening into parts, a folder each, and gathers what the job `boards` found in them.
+"""Cuts an evening into parts, each in a folder of its own, and gathers what the job `boards` found in them.
 
 Usage: examples/evening/parts.py cut FOLDER SIZE
        examples/evening/parts.py gather FOLDER
 
-`cut` makes FOLDER/part.1, part.2 and so on from FOLDER/evening.pbn: each has an evening.pbn of SIZE games, or what is left, and their
-layout files evening.lay.1 and so on. The lines of the other games are empty in it, so that a refusal names the line of the whole file.
-`gather` prints what one run over the whole evening prints, from the files evening.boards in the parts. It says which aren't there."""
+`cut` makes FOLDER/part.1, part.2 and so on from FOLDER/evening.pbn. Each has an evening.pbn of SIZE games, or of those that are left,
+and their layout files evening.lay.1 and so on. The lines of the other games are empty in it, so that a refusal names the line of the
+whole file. `gather` prints what one run over the whole evening prints, from the files evening.boards in the parts, and names the parts
+that have none."""
 import pathlib
 import re
 import shutil
@@ -16,7 +17,7 @@ HEAD, END = "alphamu boards 1\n", "end boards\n"
 
 
 def games_of(text):
-    """The first and the last line of each game, counted from 0: games have empty lines between them, and % begins a remark."""
+    """The first and the last line of each game, counted from 0. Empty lines separate games, and a line that begins with % is a comment."""
     games, is_open = [], False
     for number, line in enumerate(text.split("\n")):
         if not line.strip():

@@ -1,6 +1,6 @@
 #!/usr/bin/env python3
-"""Prints what the job `boards` found, a line for each board: its contract, the card to play, in how many of the kept layouts a
-strategy that begins with it makes the contract, or their weights, and how many trade-offs there are.
+"""Prints what the job `boards` found, a line for each board: its contract, the card to play, in how many of the kept layouts (or
+with what weight) a strategy that begins with that card makes the contract, and how many trade-offs there are.
 
 Usage: examples/evening/table.py DEAL BOARDS, the deal file and what `boards` wrote."""
 import pathlib
@@ -15,7 +15,7 @@ def tags_of(game):
 
 
 def value(lines, word):
-    """What stands behind the word on the line that begins with it, but for the lines of plans."""
+    """The rest of the line that begins with the word. Lines of plans don't count."""
     return next(line[len(word) + 1:] for line in lines if line.startswith(word + " "))
 
 

@@ -1,5 +1,5 @@
 -- Of equal cards one is enough, in alike states too.
-use Rattle.std.proofs.Common.{◌≡◌, ℕ, zero, suc, ◌<◌, Bool, true, false, not, ◌&&◌, ◌||◌, eqb, List, [], ◌∷◌, length, get_or, refl, sym, ap, ap₂, subst, ◌∙◌, inl, inr, arith}
+use Rattle.std.proofs.Common.{◌≡◌, ℕ, zero, suc, ◌+◌, ◌<◌, ◌≤◌, Bool, true, false, not, ◌&&◌, ◌||◌, eqb, List, [], ◌∷◌, length, get_or, refl, sym, ap, ap₂, subst, ◌∙◌, inl, inr, arith}
 use Rattle.std.proofs.lemmas.Bool.{false≢true, both_ways, cases_Bool, cases_eq, eq-eqb, ne_eqb, or_parts, or_from, false_from_ne_true}
 use Rattle.card_sets.specs.declared.seat.Seat.TheVariants.{Declarer, Left, Dummy, Right}
 use Rattle.card_sets.specs.Cards.{suit_of, suit_place}
@@ -81,16 +81,19 @@ suit_between low c high above below fits suit =
     same_suit-true (suit_of low) (suit_of c) (eq-eqb (suit_place (suit_of low)) (suit_place (suit_of c))
     (omega (arith, card_of-suit_of low (omega arith), card_of-suit_of c (omega arith), card_of-suit_of high fits, places)))
 
+legal_there : (counting : List ℕ) (s t : State) (c : ℕ) → AreAlike counting s t → has_card counting c ≡ true → has_card (legal_in s) c ≡ true → has_card (legal_in t) c ≡ true
+legal_there counting s t c a counts legal =
+    let held : has_card (hand_of t (to_play t.position)) c ≡ true =
+    subst (λ seat. has_card (hand_of t seat) c ≡ true) (alike_turn counting s t a) (sym ((a.hands (to_play s.position)).same c counts) ∙ legal_held s c legal) in
+    legal_alike counting s t a c c refl legal held
+
 equal_there : (counting : List ℕ) (s t : State) (low high : ℕ) → IsClosedUp counting → IsState s → IsState t → AreAlike counting s t → AreEqual s low high
-    → has_card counting low ≡ true → has_card (legal_in t) high ≡ true → AreEqual t low high
-equal_there counting s t low high closed ok ok' a eq counts legal =
-    let turn = alike_turn counting s t a in
+    → has_card counting low ≡ true → AreEqual t low high
+equal_there counting s t low high closed ok ok' a eq counts =
     let fits = held_low s.position ok.sound high (to_play s.position) (legal_can_play s ok high eq.high_legal) in
-    let held : has_card (hand_of t (to_play t.position)) low ≡ true =
-    subst (λ seat. has_card (hand_of t seat) low ≡ true) turn (sym ((a.hands (to_play s.position)).same low counts) ∙ legal_held s low eq.low_legal) in
     record {
-      low_legal = legal_alike counting s t a low low refl eq.low_legal held;
-      high_legal = legal;
+      low_legal = legal_there counting s t low a counts eq.low_legal;
+      high_legal = legal_there counting s t high a (closed low high counts eq.suit eq.order fits) eq.high_legal;
       suit = eq.suit;
       order = eq.order;
       between = λ c above below. out_of_play counting s t ok ok' a c
@@ -101,26 +104,24 @@ equal_there counting s t low high closed ok ok' a eq counts legal =
 
 module _ (counting : List ℕ) (closed : IsClosedUp counting) (s t : State) (ok : IsState s) (ok' : IsState t) (a : AreAlike counting s t) (made : Bool) (cards : List ℕ)
     (enough : AreEnough counting s cards) (each : (card : ℕ) → has_card cards card ≡ true → has_card (legal_in s) card ≡ true → GivesAnswer counting s card made) where
-  answer_below : (n c d : ℕ) → c < n → has_card (legal_in s) c ≡ true → has_card (legal_in t) d ≡ true → IsLike counting c d → makes (after t d) ≡ made
-  answer_below zero c d h legal legal' like = absurd (omega arith)
-  answer_below (suc n) c d h legal legal' like = elim (enough c legal) as (λ _. makes (after t d) ≡ made) [
+  answer_above : (n c d : ℕ) → 52 ≤ c + n → has_card (legal_in s) c ≡ true → has_card (legal_in t) d ≡ true → IsLike counting c d → makes (after t d) ≡ made
+  answer_above zero c d h legal legal' like = absurd (let fits = held_low s.position ok.sound c (to_play s.position) (legal_can_play s ok c legal) in omega arith)
+  answer_above (suc n) c d h legal legal' like = elim (enough c legal) as (λ _. makes (after t d) ≡ made) [
     | inl tried ↦ like_cards_answer counting s t made c d ok ok' a legal' like (each c tried legal)
     | inr e ↦ elim (cases_Bool (has_card counting c)) as (λ _. makes (after t d) ≡ made) [
       | inl counts ↦
           (let order = e.equal.order in
           let same : c ≡ d = like_counts counting c d counts like in
-          let here : AreEqual t e.lower c = equal_there counting s t e.lower c closed ok ok' a e.equal (e.counts counts) (subst (λ x. has_card (legal_in t) x ≡ true) (sym same) legal') in
+          let here : AreEqual t c e.higher = equal_there counting s t c e.higher closed ok ok' a e.equal counts in
           ap (λ x. makes (after t x)) (sym same)
-          ∙ equal_cards_win_the_same t e.lower c ok' here
-          ∙ answer_below n e.lower e.lower (omega arith) e.equal.low_legal here.low_legal (inl refl))
+          ∙ sym (equal_cards_win_the_same t c e.higher ok' here)
+          ∙ answer_above n e.higher e.higher (omega arith) e.equal.high_legal here.high_legal (inl refl))
       | inr out ↦
           (let order = e.equal.order in
-          let fits = held_low s.position ok.sound c (to_play s.position) (legal_can_play s ok c legal) in
-          let lower_out : has_card counting e.lower ≡ false =
-          false_from_ne_true (has_card counting e.lower) (λ k. both_ways (has_card counting c) out (closed e.lower c k e.equal.suit order fits)) in
+          let higher_out : has_card counting e.higher ≡ false = false_from_ne_true (has_card counting e.higher) (λ k. both_ways (has_card counting c) out (e.counts k)) in
           let d_out : has_card counting d ≡ false =
           false_from_ne_true (has_card counting d) (λ k. both_ways (has_card counting c) out (subst (λ x. has_card counting x ≡ true) (like_counts counting d c k (like_back counting c d like)) k)) in
-          answer_below n e.lower d (omega arith) e.equal.low_legal legal' (inr (lower_out, d_out, e.equal.suit ∙ like_suit counting c d like)))
+          answer_above n e.higher d (omega arith) e.equal.high_legal legal' (inr (higher_out, d_out, sym e.equal.suit ∙ like_suit counting c d like)))
     ]
   ]
 
@@ -129,4 +130,4 @@ pub one_of_equals_answers : (counting : List ℕ) (s : State) (made : Bool) (car
 one_of_equals_answers counting s made cards closed ok on enough each = λ t ok' a.
     by_each t made ok' (sym (alike_over counting s t a) ∙ on) (λ d legal'.
     let back : (c : ℕ) × (has_card (legal_in s) c ≡ true) × IsLike counting d c = a_like_card_is_legal counting t s d ok' ok (alike_back counting s t a) legal' in
-    answer_below counting closed s t ok ok' a made cards enough each (suc back.0) back.0 d (omega arith) back.1 legal' (like_back counting d back.0 back.2))
+    answer_above counting closed s t ok ok' a made cards enough each 52 back.0 d (omega arith) back.1 legal' (like_back counting d back.0 back.2))

@@ -9,7 +9,7 @@ ghost use Rattle.alike_states.specs.Alike.{IsClosedUp, AreAlike, HasAnswer, Give
 ghost use Rattle.alike_choices.specs.Enough.{AreEnough};
 
 /// What enough of the legal cards give is the answer for every alike state, whichever side plays,
-/// where the cards that count are closed up.
+/// if the cards that count are closed up.
 pub fn one_of_equals_answers()
     ensures { (counting : List ℕ) (s : State) (made : Bool) (cards : List ℕ)
         → IsClosedUp counting → IsState s → is_over s.position ≡ false
@@ -19,8 +19,8 @@ pub fn one_of_equals_answers()
         → HasAnswer counting s made }
 {}
 
-/// Alike states stay alike with another need, and an answer to one need answers the lower ones
-/// where it is made, and the higher ones where it fails, for every alike state.
+/// Alike states stay alike with another need, and an answer to one need answers the lower ones if
+/// it is made, and the higher ones if it fails, for every alike state.
 pub fn an_answer_settles_other_needs()
     ensures alike { (counting : List ℕ) (s t : State) (need : ℕ) → AreAlike counting s t
         → AreAlike counting (with_need s need) (with_need t need) }

@@ -133,7 +133,7 @@ sure_there : (counting : List ℕ) (s t : State) (sure : List ℕ) → IsClosedU
 sure_there counting s t sure closed ok a within are =
     subst (λ x. AreSure t x sure) (alike_turn counting s t a) (sure_cards_stay_sure counting s t (to_play s.position) sure closed ok a within are)
 
-none_there : (counting : List ℕ) (s t : State) → AreAlike counting s t → s.position.trick.cards ≡ [] → t.position.trick.cards ≡ []
+pub none_there : (counting : List ℕ) (s t : State) → AreAlike counting s t → s.position.trick.cards ≡ [] → t.position.trick.cards ≡ []
 none_there counting s t a none = nil_from_length t.position.trick.cards (sym a.played ∙ ap (length {A = ℕ}) none)
 
 pub our_sure_cards_answer : (counting : List ℕ) (s : State) (sure : List ℕ) → IsClosedUp counting → IsSubset sure counting → s.position.trick.cards ≡ []
@@ -151,7 +151,7 @@ their_sure_cards_answer counting s sure closed within none are side many = λ t 
 -- ---- sure cards of both hands, at no trump
 
 -- a card that leads over, in an alike state
-link_there : (counting : List ℕ) (s t : State) (link card : ℕ) → IsState s → IsState t → AreAlike counting s t → has_card (hand_of s (to_play s.position)) link ≡ true → suit_of card ≡ suit_of link
+pub link_there : (counting : List ℕ) (s t : State) (link card : ℕ) → IsState s → IsState t → AreAlike counting s t → has_card (hand_of s (to_play s.position)) link ≡ true → suit_of card ≡ suit_of link
     → (there : ℕ) × (has_card (hand_of t (to_play t.position)) there ≡ true) × (suit_of card ≡ suit_of there)
 link_there counting s t link card ok ok' a held suit =
     let turn = to_play s.position in

@@ -3,3 +3,4 @@ pub mod Trick
 pub mod Cards
 pub mod Answers
 pub mod Counting
+pub mod RankWinners

@@ -43,7 +43,7 @@ pub fn alike_states_are_decided_alike()
         → decided s.position ≡ decided t.position }
 {}
 
-/// Between two tricks, where the trick, trumps and need are the same, it is enough to look at
+/// Between two tricks, if the trick, trumps and need are the same, it is enough to look at
 /// declarer's hand, dummy's, the unseen cards and Left's.
 pub fn like_hands_make_alike_states()
     ensures { (counting : List ℕ) (s t : State) → IsState s → IsState t
@@ -68,7 +68,7 @@ pub fn sets_that_are_closed_up()
         → IsClosedUp (cards_where (λ card. has_card these card || has_card those card)) }
 {}
 
-/// A trick is settled where the card that wins it counts.
+/// A trick is settled if the card that wins it counts.
 pub fn the_winner_settles_its_trick()
     ensures { (counting : List ℕ) (trump : Trump) (cards : List ℕ) (place : ℕ)
         → All (λ card. card < 52) cards → AllPairs (λ card other. card ≢ other) cards
@@ -85,8 +85,8 @@ pub fn a_like_card_is_legal()
         → (other : ℕ) × (has_card (legal_in t) other ≡ true) × IsLike counting card other }
 {}
 
-/// Legal cards that are like each other lead from alike states to alike states, where the cards
-/// that count are closed up and settle the trick that the card ends.
+/// Legal cards that are like each other lead from alike states to alike states, if the cards that
+/// count are closed up and settle the trick that the card ends.
 pub fn like_cards_leave_alike_states()
     ensures { (counting : List ℕ) (s t : State) (card other : ℕ) → IsClosedUp counting
         → IsState s → IsState t → AreAlike counting s t → has_card (legal_in s) card ≡ true
@@ -96,16 +96,15 @@ pub fn like_cards_leave_alike_states()
 
 // ---- sure cards and top trumps
 
-/// Cards that are sure in a state and count are sure in each alike state, where the cards that
-/// count are closed up.
+/// Cards that are sure in a state and count are sure in each alike state, if the cards that count
+/// are closed up.
 pub fn sure_cards_stay_sure()
     ensures { (counting : List ℕ) (s t : State) (seat : Seat) (sure : List ℕ)
         → IsClosedUp counting → IsState t → AreAlike counting s t → IsSubset sure counting
         → AreSure s seat sure → AreSure t seat sure }
 {}
 
-/// Top trumps that count are top trumps in each alike state, where the cards that count are closed
-/// up.
+/// Top trumps that count are top trumps in each alike state, if the cards that count are closed up.
 pub fn top_trumps_stay()
     ensures { (counting : List ℕ) (s t : State) (seat : Seat) (top : List ℕ)
         → IsClosedUp counting → IsState t → AreAlike counting s t → IsSubset top counting
@@ -132,7 +131,7 @@ pub fn sure_cards_answer()
         → tricks_left s.position < s.position.need + length sure → HasAnswer counting s false }
 {}
 
-/// At no trump, so do the sure cards of both hands of the side on lead, where a card leads over.
+/// At no trump, so do the sure cards of both hands of the side on lead, if a card leads over.
 pub fn sure_cards_answer_together()
     ensures ours { (counting : List ℕ) (s : State) (sure partners : List ℕ) (link card : ℕ)
         → IsClosedUp counting → IsSubset sure counting → IsSubset partners counting → IsState s
@@ -184,7 +183,7 @@ pub fn an_answer_is_passed_on()
         → GivesAnswer counting s other made }
 {}
 
-/// Where the side to play wants the answer that one of its cards gives, that is the answer.
+/// If the side to play wants the answer that one of its cards gives, that is the answer.
 pub fn one_card_answers()
     ensures { (counting : List ℕ) (s : State) (card : ℕ) (made : Bool) → IsState s
         → has_card (legal_in s) card ≡ true → is_declarers (to_play s.position) ≡ made

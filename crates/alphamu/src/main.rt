@@ -1,7 +1,7 @@
 //! The program: real files and streams, an open gate and three defenders for the top call, and its
 //! status for the system.
-//! It stands on `am_top` for the call, on `am_outside` for files and streams, on `am_match` for the
-//! defenders, and on `am_line` for the line that it writes where there is no memory for the words.
+//! It builds on `am_top` for the call, on `am_outside` for files and streams, on `am_match` for the
+//! defenders, and on `am_line` for the line that it writes if there is no memory for the words.
 //! It promises nothing of its own: what is read, written and answered is the contract of
 //! `am_top::run`.
 #![tactic(auto)]
@@ -15,7 +15,7 @@ use std::process::ExitCode;
 use std::thread::Threads;
 use std::{env, io};
 
-// The exit status where the system gives no list of words, for example because one isn't text.
+// The exit status if the system gives no list of words, for example because one isn't text.
 const NO_WORDS: u8 = 64;
 
 // The words without the program's name.
@@ -24,7 +24,7 @@ fn words_given(rt: &HostRuntime) -> io::Result<Vec<String>> {
     Ok(all.skip(1).collect::<Vec<String>>(rt.alloc())?)
 }
 
-// Runs the words at a table of two defenders who play low and a third who plays high.
+// Runs the words at a table of two defenders who play low and a third, in reserve, who plays high.
 fn run_at_table<R: Threads + Sync, S: Shelf, O: Sink, E: Sink>(
     rt: &R,
     alloc: Global,

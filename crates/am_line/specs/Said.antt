@@ -5,7 +5,7 @@ use Rattle.am_outside.specs.Faults.{Rose}
 use Rattle.am_outside.specs.Sink.{AppendsPart}
 use Rattle.am_outside.specs.declared.sink.SinkFailed.{SinkFailed}
 
--- the whole text came after what was told before; or, where a write failed, a proper prefix of it
+-- the whole text was added to what was written before; or, if a write failed, a proper prefix of it
 abbrev pub IsWritten : Option (List ℕ) → List ℕ → Option (List ℕ) → Result (Unit {0}) SinkFailed → Type 0
 IsWritten before text now (Ok done) = now ≡ append_known before text
 IsWritten before text now (Err failed) = AppendsPart before text now

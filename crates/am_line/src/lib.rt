@@ -1,6 +1,6 @@
-//! The one line to standard error that says why a run was refused.
-//! It stands on `am_answer` for the statuses, and on itoa for digits that take no memory.
-//! Its contract promises the whole line, or a proper prefix of it where writing fails.
+//! The one line to standard error that says why a run was refused. It builds on `am_answer` for the
+//! statuses, and on itoa for digits that take no memory. Its contract promises the whole line, or a
+//! proper prefix of it if writing fails.
 #![tactic(auto)]
 
 mod line;

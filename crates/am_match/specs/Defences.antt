@@ -17,7 +17,7 @@ pub record MayPlay (style : ℕ) (t : PositionValue) (hand : List ℕ) (card : �
   pub first : style ≡ 1 → (other : ℕ) → IsLegalFrom t hand other → card ≤ other
   pub last : style ≡ 2 → (other : ℕ) → IsLegalFrom t hand other → other ≤ card
 
--- what is known of a defender: its style, and the cards that it was told where it keeps a record
+-- what is known of a defender: its style, and the cards that it has heard if it keeps a record
 pub record Sitter : Type 0 where
   pub style : ℕ
   pub heard : Option (List ℕ)
@@ -56,7 +56,7 @@ seat Right who (left ∷ right ∷ others) = left ∷ who ∷ others
 seat Declarer who table = table
 seat Dummy who table = table
 
--- a defender who takes a seat before the card of a number
+-- a defender takes a seat before the card of a number
 pub record Change : Type 0 where
   pub at : ℕ
   pub seat : Seat
@@ -70,7 +70,7 @@ abbrev pub table_at : List Sitter → Option Change → ℕ → List Sitter
 table_at table None number = table
 table_at table (Some change) number = if nat_lt number change.at then table else seat change.seat change.who table
 
--- before the next card a change that is due is made, and who comes in is told the cards so far
+-- before the next card a change that is due is made, and the newcomer hears the cards so far
 abbrev pub table_for_next : Option Change → List ℕ → List Sitter → List Sitter
 table_for_next None cards table = table
 table_for_next (Some change) cards table = if change.at == suc (length cards) then seat change.seat (tell cards change.who) table else table

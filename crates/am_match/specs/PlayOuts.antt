@@ -19,11 +19,11 @@ plan_after Stop card = Stop
 plan_after (Play c q) card = q
 plan_after (Hear rs) card = reply_to rs card
 
--- the first legal card after which double dummy makes, or where there is none the first legal card
+-- the first legal card after which double dummy makes, or if there is none the first legal card
 abbrev pub keeping_card : State → Option ℕ
 keeping_card s = or_else (find (λ c. makes (after s c)) (legal_in s)) (first_card (legal_in s))
 
--- declarer's side plays the card of the plan, and where it has stopped the card that keeps the result
+-- declarer's side plays the card of the plan, and after the plan has stopped the card that keeps the result
 abbrev pub IsByPlan : Plan ℕ → State → ℕ → Type 0
 IsByPlan Stop s card = keeping_card s ≡ Some card
 IsByPlan (Play c q) s card = card ≡ c

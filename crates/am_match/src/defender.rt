@@ -26,15 +26,16 @@ pub trait Defender: Drop {
         ensures same_style { style self.new ≡ style self.old }
         ensures same_record { heard self.new ≡ heard self.old };
 
-    /// Tells it a card that was played. Where memory is refused its record stays as it was.
+    /// Reports a card that was played. If an allocation fails, the defender's record stays as it
+    /// was.
     fn saw(&mut self, card: Card) -> Result<(), AllocError>
         ensures same_style { style self.new ≡ style self.old }
         ensures recorded { IfOk result
             (λ _. heard self.new ≡ with_told (card ∷ []) (heard self.old)) }
         ensures refused { IfErr result (λ _. heard self.new ≡ heard self.old) };
 
-    /// The card at a place of its record, counted from 0: `None` exactly where there is none. Where
-    /// it keeps no record nothing is promised.
+    /// The card at a place of the defender's record, counted from 0; `None` exactly when there is
+    /// none. Nothing is promised of a defender that keeps no record.
     fn heard_at(&self, place: usize) -> Option<Card>
         ensures { (cards : List ℕ) → heard self.now ≡ Some cards
             → result ≡ slice_get cards place };

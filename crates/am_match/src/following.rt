@@ -13,7 +13,7 @@ use dd_solver::Solver;
 use strategy_tree::{Plan, Reply};
 use trick_rules::{Position, play};
 
-// The first legal card after which double dummy makes, or where there is none the first legal card.
+// The first legal card after which double dummy makes, or if there is none the first legal card.
 fn keeping_card(solver: &mut Solver, position: &Position, left: CardSet) -> Option<Card>
     requires { IsState (record { position = position.now; left = left }) }
     ensures { result ≡ keeping (record { position = position.now; left = left }) }

@@ -1,8 +1,8 @@
-//! Play-outs of a strategy in one layout, against defenders that are handed in.
-//! It stands on `strategy_tree` for strategies, on `strategy_check` for what it takes to follow
+//! Play-outs of a strategy in one layout, against defenders that the caller hands in.
+//! It builds on `strategy_tree` for strategies, on `strategy_check` for what it takes to follow
 //! one, and on `dd_solver` for the cards after a strategy has stopped.
 //! Its contract promises that the cards follow the strategy and the defenders' styles, and that a
-//! layout that the strategy wins is made whatever the defenders are.
+//! layout that the strategy wins is made whoever the defenders are.
 #![tactic(auto)]
 
 mod defender;

@@ -58,13 +58,13 @@ fn next_card(
 /// Plays a strategy in one layout of a node, from there to the end.
 ///
 /// The layout is a place in the node's order, counted from 1. Declarer's side plays the cards of
-/// the plan, and after it has stopped the first legal card that keeps what double dummy makes. The
-/// table's first defender sits at Left and its second at Right, and each card is told to both after
-/// it is played. Before the card of a swap's number its defender takes the seat, and is told the
-/// cards so far; a swap that comes too late is not made.
+/// the plan, and after the plan has stopped the first legal card that keeps what double dummy
+/// makes. The table's first defender sits at Left and its second at Right, and both hear each card
+/// after it is played. Before the card of a swap's number, the swap's defender takes the seat and
+/// hears the cards so far; a swap that comes too late is not made.
 ///
-/// A layout that the plan wins is made, whoever the defenders are. It fails where memory is
-/// refused, to a defender who is told a card.
+/// A layout that the plan wins is made, whoever the defenders are. The call fails only if an
+/// allocation fails in a defender who hears a card.
 pub fn play_out(
     solver: &mut Solver,
     plan: &Plan,

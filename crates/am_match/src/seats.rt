@@ -9,7 +9,7 @@ use card_sets::{Card, CardSet, Seat};
 use std::alloc::AllocError;
 use trick_rules::{CardLine, Position};
 
-/// A defender who takes a seat in the middle of a play-out.
+/// A defender who takes over a seat in the middle of a play-out.
 #[derive(Drop)]
 pub struct Swap {
     /// The number of the card before which he takes it, counted from 1.
@@ -89,7 +89,7 @@ fn tell_past(defender: &mut Box<dyn Defender>, cards: &CardLine) -> Result<(), A
     Ok(())
 }
 
-// A defender takes a seat from the one who sits there, and is told the cards that were played.
+// A defender takes a seat from the one who sits there, and hears the cards that were played.
 fn take_seat(
     table: &mut Vec<Box<dyn Defender>>,
     swap: Swap,
@@ -108,8 +108,8 @@ fn take_seat(
     tell_past(&mut table[place], cards)
 }
 
-/// Before the next card: the new defender takes his seat where that is due. Gives back the swap
-/// that is still to come.
+/// Before the next card: the new defender takes the seat if that is due. Gives back the swap that
+/// is still to come.
 pub fn seat_if_due(
     table: &mut Vec<Box<dyn Defender>>,
     waiting: Option<Swap>,

@@ -10,7 +10,7 @@ pub record MemorySinkValue : Type 0 where
   pub room : ℕ
   -- how many bytes a write takes at most
   pub step : ℕ
-  -- the number of the write that fails, from 1; 0 where none does
+  -- the number of the write that fails, from 1; 0 if none does
   pub fail_at : ℕ
   -- writes asked for so far
   pub calls : ℕ
@@ -25,7 +25,7 @@ new_sink room step fail_at = record { bytes = []; room = room; step = step; fail
 abbrev pub next_write_fails : MemorySinkValue → Bool
 next_write_fails sink = one_more sink.calls == sink.fail_at
 
--- the part of a piece that the next write takes: none where it fails, and else what fits, up to a step
+-- the part of a piece that the next write takes: none if it fails, and otherwise what fits, up to a step
 abbrev pub part_taken : MemorySinkValue → List ℕ → List ℕ
 part_taken sink piece = if next_write_fails sink then [] else take (min sink.step (sink.room - length sink.bytes)) piece
 

@@ -14,7 +14,7 @@ Files = FinMap (slice_cmp nat_cmp) (List ℕ)
 abbrev pub IsLonger : Files → List ℕ → ℕ → Type 0
 IsLonger files name limit = IsSomeAnd (get files name) (λ bytes. limit < length bytes)
 
--- each name that has a file, but for this one, has the count that it had
+-- each name that has a file, except for this one, has the count that it had
 abbrev pub KeepsOthers : Files → List ℕ → (List ℕ → ℕ) → (List ℕ → ℕ) → Type 0
 KeepsOthers files name before now = (other : List ℕ) → IsSome (get files other) → other ≢ name → now other ≡ before other
 

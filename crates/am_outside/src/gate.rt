@@ -1,4 +1,4 @@
-// Who is told where the workers are.
+// Who hears where the workers are.
 use card_sets::Card;
 
 /// Is told when a worker takes up a root card and when it is done with it. Several threads call it

@@ -1,8 +1,8 @@
-//! The outside: what is read, what is written, and who is told of it.
-//! It stands on `byte_text`, for what is read, and on `card_sets`, for the cards that a gate is
-//! told.
-//! Told bytes are read and written exactly, and a fault is answered only where a count of faults
-//! rose.
+//! The outside: what is read, what is written, and who hears of it.
+//! It builds on `byte_text` for what is read, and on `card_sets` for the cards that a gate hears
+//! of.
+//! Bytes that a shelf or a sink reports are read and written exactly, and a fault is answered only
+//! if a count of faults rose.
 #![tactic(auto)]
 
 mod counts;

@@ -18,7 +18,7 @@ struct StoredFile {
     faults: u64,
 }
 
-/// A shelf that tells its files, and can be made to fail at some reads.
+/// A shelf that reports its files, and can be made to fail at some reads.
 #[derive(Debug, Drop)]
 pub struct MemoryShelf {
     alloc: Global,

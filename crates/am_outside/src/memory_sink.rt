@@ -7,8 +7,8 @@ use crate::{Sink, SinkFailed};
 use std::alloc::{AllocError, Global};
 use std::marker::Model;
 
-/// A sink that tells its bytes, has limited room, and can be made to take few bytes at a time and to
-/// fail at one write.
+/// A sink that reports its bytes, has limited room, and can be made to take few bytes at a time and
+/// to fail at one write.
 #[derive(Debug, Drop)]
 pub struct MemorySink {
     content: Vec<u8>,

@@ -32,7 +32,7 @@ impl From<AllocError> for ShelfFault {
 
 /// Files by their names, as they are read by the program.
 pub trait Shelf {
-    /// The files, where the shelf tells of them.
+    /// The files, if the shelf reports them.
     ghost told: { Self → Option Files };
 
     /// How many faults there were at a name. A shelf starts at 0, and a count at 2^64 - 1 stays
@@ -41,15 +41,15 @@ pub trait Shelf {
 
     /// Reads the whole file of that name, which may have at most `limit` bytes.
     ///
-    /// Errors: `Failed` where the file isn't there or can't be read, a fault at that name;
-    /// `TooLong` where it has more bytes; `Memory`. The files stay as they are.
+    /// Errors: `Failed` if the file isn't there or can't be read, a fault at that name; `TooLong`
+    /// if it has more bytes; `Memory`. The files stay as they are.
     fn read(&mut self, alloc: Global, name: &str, limit: u64) -> Result<Text, ShelfFault>
         ensures within { IfOk result (λ text. length text ≤ limit) }
         ensures failed { IsErrOf result ShelfFault.Failed
             → Rose (faults self.old name.now) (faults self.new name.now) }
         ensures never_falls { (other : List ℕ) → faults self.old other ≤ faults self.new other }
 
-        // Where the files are told.
+        // If the shelf reports its files.
         ensures same_files { told self.new ≡ told self.old }
         ensures file { IfOk result
             (λ text. IfSome (told self.old) (λ files. get files name.now ≡ Some text)) }

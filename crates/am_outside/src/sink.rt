@@ -13,13 +13,13 @@ pub struct SinkFailed;
 
 /// Output, as it is written by the program.
 pub trait Sink {
-    /// The bytes written so far, where the sink tells of them.
+    /// The bytes written so far, if the sink reports them.
     ghost told: { Self → Option (List ℕ) };
 
     /// How many faults there were. A sink starts at 0, and a count at 2^64 - 1 stays there.
     ghost faults: { Self → ℕ };
 
-    /// How many writes were asked for, where the sink counts them.
+    /// How many writes were asked for, if the sink counts them.
     ghost writes: { Self → ℕ } = { λ _. 0 };
 
     /// Writes the first bytes of a piece, and answers how many: 0 of a piece that has bytes only by

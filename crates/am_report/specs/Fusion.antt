@@ -25,7 +25,7 @@ abbrev pub named_line : Option CardVector → List ℕ
 named_line None = []
 named_line (Some entry) = line_of (codes "named " ++ letters_of entry.card)
 
--- a line for each card, and the first card of the greatest weight; no such card where the table is empty
+-- a line for each card, and the first card of the greatest weight; no such card if the table is empty
 unfoldable pub fusion_text : List CardVector → List ℕ → List ℕ
 fusion_text table weights =
     line_of (codes "alphamu fusion " ++ version_number (version_of weights))

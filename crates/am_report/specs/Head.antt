@@ -30,7 +30,7 @@ trump_text NoTrump = codes "NT"
 unfoldable pub hand_line : BoardValue → Seat → List ℕ → List ℕ
 hand_line board seat hand = line_of (codes "hand " ++ seat_text board seat ++ codes " " ++ hand_text hand)
 
--- the cards of the present trick, or a dash where it has none
+-- the cards of the present trick, or a dash if it has none
 abbrev pub cards_text : List ℕ → List ℕ
 cards_text [] = codes "-"
 cards_text (card ∷ cards) = spaced letters_of (card ∷ cards)

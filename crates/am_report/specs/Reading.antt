@@ -36,7 +36,7 @@ pub record ReadReportValue : Type 0 where
 abbrev pub line_after_last : List ℕ → ℕ
 line_after_last bytes = line_number bytes (length bytes - 1) + 1
 
--- what has to stand at a place
+-- what has to be at a place
 abbrev pub expected : {A : Type 0} → ReportKind → List ℕ → ℕ → Option A → Result A (ℕ × ReportKind)
 expected kind bytes at None = Err (line_number bytes at, kind)
 expected kind bytes at (Some x) = Ok x
@@ -55,7 +55,7 @@ version_said bytes = if has_version Counts bytes then Some Counts else if has_ve
 abbrev pub is_front : List ℕ → ℕ → Bool
 is_front bytes at = is_some (text_after (10 ∷ codes "front ") (drop at bytes))
 
--- where the first line that begins with `front ` begins
+-- the place of the first line that begins with `front `
 unfoldable pub front_place : List ℕ → Option ℕ
 front_place bytes = option_map (λ end. end + 1) (find (is_front bytes) (range_with_len 0 (length bytes)))
 
@@ -103,7 +103,7 @@ entry_read version bytes at = do
   plan ← plan_or_fault bytes (plan_read bytes said.1)
   Ok (record { entry = record { vector = said.0.0; plan = plan.0 }; weight = said.0.1 }, plan.1)
 
--- so many of them, and the place after them
+-- this many of them, and the place after them
 abbrev pub entries_read : Version → ℕ → List ℕ → ℕ → Result (List ReadEntryValue × ℕ) (ℕ × ReportKind)
 entries_read version zero bytes at = Ok ([], at)
 entries_read version (suc count) bytes at = do
@@ -122,7 +122,7 @@ nothing_more bytes at (Some (byte ∷ more)) = Err (line_number bytes (at + 4), 
 unfoldable pub end_read : List ℕ → ℕ → Result (Unit {0}) (ℕ × ReportKind)
 end_read bytes at = nothing_more bytes at (text_after (line_of (codes "end")) (drop at bytes))
 
--- what stands below the version
+-- what follows the version
 unfoldable pub below_read : Version → List ℕ → Result ReadReportValue (ℕ × ReportKind)
 below_read version bytes = do
   head ← head_read bytes

@@ -31,7 +31,7 @@ ends_bits byte = not (byte == 48 || byte == 49)
 abbrev pub is_one : ℕ → Bool
 is_one byte = byte == 49
 
--- a vector with its weight, where the text gives one that may stand behind it
+-- a vector with its weight, if the text gives one that may follow it
 abbrev pub weighed : Version → List Bool → List ℕ → Option (List Bool × ℕ)
 weighed version vector text =
     option_and_then (λ weight. if may_stand version vector weight then Some (vector, weight) else None) (weight_said version text)

@@ -11,7 +11,7 @@ use Rattle.am_report.specs.Head.{head_text}
 use Rattle.am_report.specs.Card.{named_text}
 use Rattle.am_report.specs.Versions.{version_of, weight_text}
 
--- 1 where the contract is made, and 0 where it isn't
+-- 1 if the contract is made, and 0 if it isn't
 abbrev pub bit_letter : Bool → ℕ
 bit_letter bit = if bit then 49 else 48
 

@@ -1,4 +1,4 @@
--- The two versions of a report: by how many layouts a vector wins, where each layout weighs 1, and else by their
+-- The two versions of a report: by how many layouts a vector wins if each layout weighs 1, and otherwise by their
 -- weight.
 use Rattle.std.specs.Prelude.{ℕ, Bool, true, List, [], ◌++◌, ◌*◌, ◌==◌, codes, if◌then◌else◌}
 use Rattle.std.specs.List.{list_all}
@@ -28,12 +28,12 @@ abbrev pub weight_word : Version → List ℕ
 weight_word Counts = codes " count "
 weight_word Weights = codes " weight "
 
--- the greatest number that may stand behind the word
+-- the greatest number that may follow the word
 abbrev pub most_written : Version → ℕ
 most_written Counts = most_listed
 most_written Weights = most_listed * most_weight
 
--- a number that may stand behind a vector: in the first version the count of its ones
+-- a number that may follow a vector: in the first version the count of its ones
 abbrev pub may_stand : Version → List Bool → ℕ → Bool
 may_stand Counts vector number = number == ones_of vector
 may_stand Weights vector number = true

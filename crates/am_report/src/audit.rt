@@ -6,7 +6,7 @@ use crate::lines::push_number_line;
 use byte_text::Text;
 use std::alloc::{AllocError, Global};
 
-/// That a log of so many lines proves a report complete.
+/// That a log of this many lines proves a report complete.
 #[tactic(auto, unfolding(crate::specs::Audit::audit_text))]
 pub fn audit_text(alloc: Global, lines: u32) -> Result<Text, AllocError>
     ensures { IfOk result (λ text. text ≡ audit_text lines) }

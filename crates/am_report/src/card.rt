@@ -33,8 +33,8 @@ fn weight_of_all(weights: &Weights) -> u32
     weights.total(WinVector::all(weights.width()))
 }
 
-/// The card to play, and how many of how many kept layouts make the contract: where each of them
-/// weighs 1, and else the weight of the former and of all.
+/// The card to play, and in how many of the kept layouts it makes the contract. If some layout
+/// doesn't weigh 1, the weight of those layouts and of all kept ones.
 #[tactic(auto, unfolding(crate::specs::Card::card_text))]
 pub fn card_text(
     alloc: Global,

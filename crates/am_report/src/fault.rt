@@ -19,10 +19,10 @@ pub enum ReportKind {
     /// weight from 0 to 256,000,000.
     #[error("a vector does not stand with its count or weight")]
     Vector,
-    /// A plan's line isn't one that may stand there.
+    /// This line can't be here in a plan.
     #[error("a line is none of a plan")]
     Plan,
-    /// A plan's node would stand at level 65, whatever its line says.
+    /// A node of a plan would be at level 65, whatever its line says.
     #[error("a plan has more than 64 levels")]
     TooDeep,
     /// The line after the last plan isn't the card with a count from 0 to 256, or in version 2 with

@@ -80,8 +80,8 @@ fn push_named_line(text: &mut Text, named: Option<CardVector>) -> Result<(), All
 }
 
 /// A line for each card with its vector and the weight of this, in the table's order; and the first
-/// card of the greatest weight, which a table that is empty doesn't have. Where each layout weighs
-/// 1, the weight is a count of layouts.
+/// card of the greatest weight, which a table that is empty doesn't have. If each layout weighs 1,
+/// the weight is a count of layouts.
 #[tactic(auto, unfolding(crate::specs::Fusion::fusion_text))]
 pub fn fusion_text(
     alloc: Global,

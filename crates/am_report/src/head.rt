@@ -43,7 +43,7 @@ fn push_hand_line(
     push_line(text, b" ", hand_text(alloc, hand)?.bytes())
 }
 
-// Appends the cards of a trick with single spaces between them, or a dash where there is none.
+// Appends the cards of a trick with single spaces between them, or a dash if there is none.
 fn push_cards(text: &mut Text, cards: &[Card]) -> Result<(), AllocError>
     ensures { OnOk result (text.new ≡ text.old ++ cards_text cards.now) }
 {
@@ -126,7 +126,7 @@ fn push_each_weight(text: &mut Text, alloc: Global, weights: &Weights) -> Result
     Ok(())
 }
 
-// Appends the line of the weights, where the version has it.
+// Appends the line of the weights, if this version has one.
 fn push_weights_line(
     text: &mut Text,
     alloc: Global,

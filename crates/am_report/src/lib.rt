@@ -1,9 +1,8 @@
 //! The texts that the program writes, and a report read back: the report of an answer with its
-//! head, and the answers of the other jobs.
-//! It stands on `pbn_deal` and `layout_list` for what was asked, on `fusion_base` for plain
-//! sampling, and on `strategy_tree` for plans and their lines.
+//! head, and the answers of the other jobs. It builds on `pbn_deal` and `layout_list` for what was
+//! asked, on `fusion_base` for plain sampling, and on `strategy_tree` for plans and their lines.
 //! Its contract promises each text whole, byte for byte, what a report says or its first fault,
-//! unless memory is refused, and that a written report is read back.
+//! unless an allocation fails, and that a written report is read back.
 #![tactic(auto)]
 
 mod answer;

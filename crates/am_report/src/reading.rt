@@ -35,8 +35,8 @@ pub struct ReadReport {
     pub weight: u32,
 }
 
-/// What the lines down to the front's length say, with the places where that line and the next one
-/// begin.
+/// What the lines down to the front's length say, with the places at which that line and the next
+/// one begin.
 #[derive(Clone, Copy, Debug)]
 pub struct Head {
     pub place: usize,
@@ -47,7 +47,7 @@ pub struct Head {
 
 /// What a report of fewer than 2^32 - 1 bytes says, or its first fault with the line.
 ///
-/// The head is taken as it stands, but for its first line and its number of moves.
+/// The head is taken as it stands, except for its first line and its number of moves.
 #[tactic(auto, unfolding(crate::specs::Reading::report_read))]
 pub fn read_report(alloc: Global, bytes: &[u8]) -> Result<ReadReport, ReportFault>
     requires { length bytes.now < 2 ^ 32 - 1 }

@@ -38,7 +38,7 @@ fn read_weight(version: Version, text: &[u8]) -> Option<u32>
     read_number(text_after(text, version.word())?, 0, version.most_written())
 }
 
-// Whether a number may stand behind a vector.
+// Whether a number may follow a vector.
 fn may_stand(version: Version, vector: WinVector, weight: u32) -> bool
     ensures { result ≡ may_stand version vector weight }
 {
@@ -48,7 +48,7 @@ fn may_stand(version: Version, vector: WinVector, weight: u32) -> bool
     }
 }
 
-// How many bits stand at the front.
+// How many bits a text begins with.
 fn bits_len(text: &[u8]) -> usize
     ensures len { result ≡ position_or_len ends_bits text.now }
     ensures inside { result ≤ length text.now }
@@ -71,7 +71,7 @@ fn vector_of(text: &[u8]) -> WinVector
     vector
 }
 
-// The vector with its weight, where the text gives one that may stand behind it.
+// The vector with its weight, if the text gives one that may follow it.
 fn read_weighed(version: Version, vector: WinVector, text: &[u8]) -> Option<(WinVector, u32)>
     ensures { result ≡ weighed version vector text.now }
 {

@@ -96,8 +96,8 @@ pub fn solve_start(
     Ok(text)
 }
 
-/// The line before a vector's plan: the vector, which has a bit for each layout, and its weight.
-/// Where each layout weighs 1, that is a count of layouts.
+/// The line before a vector's plan: the vector, which has a bit for each layout, and its weight. If
+/// each layout weighs 1, that is a count of layouts.
 pub fn vector_text(alloc: Global, weights: &Weights, vector: WinVector) -> Result<Text, AllocError>
     requires { length weights.now ≡ length vector }
     ensures { IfOk result (λ text. text ≡ vector_line weights.now vector) }
@@ -126,8 +126,8 @@ pub fn solve_end(
 
 /// The report: its head, then the number of vectors of the front, each vector with its weight and
 /// its plan, and the card to play with the weight of the kept layouts in which the contract is
-/// made. Where each layout weighs 1, a weight is a count of layouts. The vectors have a bit for
-/// each layout.
+/// made. If each layout weighs 1, a weight is a count of layouts. The vectors have a bit for each
+/// layout.
 #[tactic(auto, unfolding(crate::specs::Solve::solve_text))]
 pub fn solve_text(
     alloc: Global,

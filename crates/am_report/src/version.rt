@@ -49,7 +49,7 @@ impl Version {
         }
     }
 
-    // The greatest number that may stand behind the word.
+    // The greatest number that may follow the word.
     pub(crate) fn most_written(self) -> u32
         ensures { result ≡ most_written self }
     {

@@ -11,7 +11,7 @@ use trick_rules::Node;
 // The most bytes of a file.
 const LIMIT: u64 = 1_048_576;
 
-// A file, or nothing where it can't be read.
+// A file, or nothing if it can't be read.
 fn text_of<R: Files>(shelf: &mut FileShelf<R>, alloc: Global, name: &str) -> Text
     ensures { length result ≤ 1048576 }
 {

@@ -1,5 +1,5 @@
 //! Workloads to be timed, by their names.
-//! It stands on the crates whose work is timed, and on `am_inputs` for files.
+//! It builds on the crates whose work is timed, and on `am_inputs` for files.
 //! It promises nothing: what it prints doesn't depend on time.
 #![tactic(auto)]
 
@@ -74,8 +74,8 @@ impl Work {
     }
 }
 
-/// The arguments: the name of a workload, and then its own. With none it runs little of each
-/// workload in turn, on files that lie where it runs.
+/// The arguments: the name of a workload, and then its own. With none it runs a little of each
+/// workload in turn, on the files in its folder.
 fn main(rt: HostRuntime) -> anyhow::Result<()> {
     let alloc = rt.alloc();
     let given = env::args(&rt)?.skip(1).collect::<Vec<String>>(alloc)?;

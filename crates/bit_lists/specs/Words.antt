@@ -1,4 +1,4 @@
--- What a list of machine words stands for: 64 places to a word, the lowest bit of the first word first.
+-- What a list of machine words means: 64 places to a word, the lowest bit of the first word first.
 use Rattle.std.specs.Prelude.{ℕ, ◌+◌, ◌*◌, ◌/◌, ◌%◌, Bool, false, List, map, get_or}
 use Rattle.bit_lists.specs.Bits.{has_bit, below, number_of}
 
@@ -16,7 +16,7 @@ unfoldable pub word_from : List Bool → ℕ → ℕ
 unfolding below
 word_from bits start = number_of (map (λ place. get_or bits (start + place) false) (below 64))
 
--- so many words that have these bits
+-- this many words that have these bits
 unfoldable pub words_of : ℕ → List Bool → List ℕ
 unfolding below
 words_of count bits = map (λ word. word_from bits (64 * word)) (below count)

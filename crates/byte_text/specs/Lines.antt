@@ -20,7 +20,7 @@ text_after [] text = Some text
 text_after (w ∷ word) [] = None
 text_after (w ∷ word) (b ∷ text) = if w == b then text_after word text else None
 
--- the line that begins at a place, without its end; nothing where the text ends before the line does
+-- the line that begins at a place, without its end; nothing if the text ends before the line does
 unfoldable pub line_at : List ℕ → ℕ → Option (List ℕ)
 line_at bytes at = option_map (λ n. take n (drop at bytes)) (position is_line_end (drop at bytes))
 

@@ -1,5 +1,5 @@
 //! Texts: bytes in a buffer of their own, and the lines, blanks, words and numbers of bytes.
-//! It stands on std alone, below all crates of texts.
+//! It builds on std alone, below all crates of texts.
 //! Its contract promises what each call reads of the bytes, and that a text grows by what was
 //! pushed or stays as it was.
 #![tactic(auto)]

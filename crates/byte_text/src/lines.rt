@@ -19,8 +19,7 @@ fn line_end(text: &[u8]) -> Option<usize>
     text.iter().position(|byte| *byte == b'\n')
 }
 
-/// The line that begins at a place, without its end; `None` where the text ends before the line
-/// does.
+/// The line that begins at a place, without its end; `None` if the text ends before the line does.
 pub fn line_at(bytes: &[u8], at: usize) -> Option<&[u8]>
     requires { at ≤ length bytes.now }
     ensures value { option_copied result ≡ line_at bytes.now at }

@@ -21,7 +21,7 @@ fn is_numeral(text: &[u8]) -> bool
     (text.len() == 1 || *first != b'0') && are_digits(text)
 }
 
-// The number that digits write, where it is at most the greatest allowed.
+// The number that digits write, if it is at most the greatest allowed.
 fn digits_value(text: &[u8], most: u32) -> Option<u32>
     requires { all_ascii_digits text.now ≡ true }
     ensures { MatchOption result (most < digits_value 10 text.now)

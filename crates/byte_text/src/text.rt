@@ -38,7 +38,7 @@ impl Text {
         Ok(text)
     }
 
-    /// Adds a piece at the end. Where memory is refused, the text is unchanged.
+    /// Adds a piece at the end. If an allocation fails, the text is unchanged.
     pub fn push(&mut self, piece: &[u8]) -> Result<(), AllocError>
         ensures appended { OnOk result (self.new ≡ self.old ++ piece.now) }
         ensures unchanged { OnErr result (self.new ≡ self.old) }
@@ -46,7 +46,7 @@ impl Text {
         self.content.extend_from_slice(piece)
     }
 
-    /// Adds a number in decimal digits, without leading zeros. Where memory is refused, the text is
+    /// Adds a number in decimal digits, without leading zeros. If an allocation fails, the text is
     /// unchanged.
     pub fn push_number(&mut self, alloc: Global, number: u64) -> Result<(), AllocError>
         ensures appended { OnOk result (self.new ≡ self.old ++ decimal number) }

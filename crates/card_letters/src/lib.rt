@@ -1,6 +1,6 @@
 //! The letters of suits, ranks, cards and compass points, as they are written and as they are read.
-//! It stands on `card_sets`.
-//! What is written is upper case, and is read back as what it was written of; either case is read.
+//! It builds on `card_sets`. What is written is upper case, and is read back as what it was written
+//! of; either case is read.
 #![tactic(auto)]
 
 ghost use Rattle.std.specs.Prelude.{◌≡◌, Some};

@@ -1,4 +1,4 @@
-//! A set of cards in one machine word: bit i stands for the card at place i in card order.
+//! A set of cards in one machine word: bit i is the card at place i in card order.
 ghost use Rattle.std.specs.Prelude.{◌≡◌, ℕ, ◌+◌, ◌^◌, ◌<◌, ◌≤◌, ◌↔◌, ◌==◌, ◌&&◌, ◌||◌, Bool, not, true, false, nat_lt, IsTrue, List, [], ◌∷◌, filter, length, MatchOption};
 ghost use Rattle.std.specs.Iterator.{YieldsFirst, item_count};
 ghost use Rattle.bit_lists.specs.Bits.{places};
@@ -187,7 +187,7 @@ impl CardSet {
         self.bits == 0
     }
 
-    /// The first card in card order: `None` exactly where the set is empty.
+    /// The first card in card order: `None` exactly when the set is empty.
     pub fn first(self) -> Option<Card>
         ensures value { result ≡ first_card self }
         ensures a_set { IsCardSet self }
@@ -195,7 +195,7 @@ impl CardSet {
         lowest(self.bits)
     }
 
-    /// The first card of the set that comes after this card in card order: `None` exactly where
+    /// The first card of the set that comes after this card in card order: `None` exactly when
     /// there is none.
     pub fn after(self, card: Card) -> Option<Card>
         ensures value { result ≡ next_card self card }
@@ -250,7 +250,7 @@ impl CardSet {
         self.bits & other.bits == 0
     }
 
-    /// Takes out the first card in card order: `None` exactly where the set was empty.
+    /// Takes out the first card in card order: `None` exactly when the set was empty.
     pub fn pop_first(&mut self) -> Option<Card>
         ensures value { MatchOption result ((self.old ≡ []) × (self.new ≡ []))
             (λ card. self.old ≡ card ∷ self.new) }

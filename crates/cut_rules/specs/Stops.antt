@@ -1,4 +1,4 @@
--- Where a loop over the cards of declarer's side may stop.
+-- When a loop over the cards of declarer's side may stop.
 use Rattle.std.specs.Prelude.{◌≡◌, ◌≤◌, ℕ, true, false, Option, Some, None, List, [], Contains}
 use Rattle.win_vectors.specs.Fronts.{Vector}
 use Rattle.win_vectors.specs.Weights.{weight_of}
@@ -18,7 +18,7 @@ pub record IsGreatestWeight (ws : List ℕ) (vectors : List Vector) (weight : �
   pub reached : (v : Vector) × Contains vectors v × (weight_of ws v ≡ weight)
   pub most : (v : Vector) → Contains vectors v → weight_of ws v ≤ weight
 
--- the greatest weight, where the list has a vector
+-- the greatest weight, if the list has a vector
 abbrev pub IsGreatestOf : List ℕ → List Vector → Option ℕ → Type 0
 IsGreatestOf ws vectors None = vectors ≡ []
 IsGreatestOf ws vectors (Some weight) = IsGreatestWeight ws vectors weight

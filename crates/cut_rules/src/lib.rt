@@ -1,6 +1,7 @@
 //! The cuts that a search may make, and where a loop over root cards may stop.
-//! It stands on `pareto_fronts`, and on the laws of strategies.
-//! A cut's yes means that no strategy wins a vector which alpha doesn't dominate already; a stop's yes, that the cards left out change nothing.
+//! It builds on `pareto_fronts`, and on the laws of strategies.
+//! If a cut says yes, no strategy wins a vector that alpha doesn't dominate already. If a stop says
+//! yes, the cards left out change nothing.
 #![tactic(auto)]
 
 ghost use Rattle.std.specs.Prelude.{◌≡◌, ◌↔◌, ◌⊎◌, ◌≤◌, ℕ, suc, List, Some, None};
@@ -17,7 +18,7 @@ ghost use Rattle.cut_rules.specs.Stops.{AreOurCards, IsGreatestWeight, IsGreates
 use pareto_fronts::Front;
 use win_vectors::Weights;
 
-/// Where a loop over root cards may stop early.
+/// At what point a loop over root cards may stop early.
 #[derive(Clone, Copy, Debug, PartialEq, Eq)]
 pub enum Stop {
     /// It goes over each card.
@@ -37,7 +38,7 @@ pub struct CutRules {
     pub deepen: bool,
     /// A node is left where alpha covers its front with fewer moves.
     pub bound: bool,
-    /// Where a loop over root cards stops.
+    /// At what point a loop over root cards stops.
     pub stop: Stop,
 }
 
@@ -105,7 +106,7 @@ fn greater(greatest: Option<u32>, weight: u32) -> u32
     }
 }
 
-/// The greatest weight of a front's vectors. `None` exactly where it has none.
+/// The greatest weight of a front's vectors. `None` exactly when it has none.
 pub fn greatest_weight(front: &Front, weights: &Weights) -> Option<u32>
     requires { length weights.now ≡ front.now.width }
     ensures { IsGreatestOf weights.now front.now.vectors result }
@@ -117,8 +118,8 @@ pub fn greatest_weight(front: &Front, weights: &Weights) -> Option<u32>
     greatest
 }
 
-/// Whether this is the greatest weight of the vectors of the front with a move less: then, where a
-/// vector of some card has it, it is the best weight, and the other cards don't raise it.
+/// Whether this is the greatest weight of the vectors of the front with a move less. If a vector of
+/// some card has it, it is then the best weight, and the other cards don't raise it.
 pub fn same_weight_stop(best: u32, less: &Front, weights: &Weights) -> bool
     requires { length weights.now ≡ less.now.width }
     ensures greatest { IsTrue result ↔ IsGreatestWeight weights.now less.now.vectors best }

@@ -11,7 +11,7 @@ use Rattle.trick_rules.proofs.Soundness.{held_low}
 use Rattle.trick_rules.proofs.States.{legal_can_play}
 use Rattle.double_dummy.specs.Equals.{in_play, AreEqual, IsNextEqual}
 use Rattle.double_dummy.proofs.Mirror.{in_play-held}
-use Rattle.alike_choices.specs.Enough.{AreEnough, HasLowerEqual}
+use Rattle.alike_choices.specs.Enough.{AreEnough, HasHigherEqual}
 use Rattle.dd_solver.specs.Closed.{up_from, IsClosedDown, AreSpokenFor}
 use Rattle.dd_solver.proofs.Winner.{up_has, up_suit}
 
@@ -57,21 +57,21 @@ next_only legal playing card found next within set e h =
 pub spoken-none : (s : State) (kept : List ℕ) → kept ≡ legal_in s → AreSpokenFor s kept
 spoken-none s kept e d h = inl (ap (λ x. has_card x d) e ∙ h)
 
-pub spoken-without : (s : State) (kept new : List ℕ) (card next : ℕ) → AreEqual s card next → new ≡ take_out next kept → AreSpokenFor s kept → AreSpokenFor s new
+pub spoken-without : (s : State) (kept new : List ℕ) (card next : ℕ) → AreEqual s card next → new ≡ take_out card kept → AreSpokenFor s kept → AreSpokenFor s new
 spoken-without s kept new card next eq e spoken d h =
-    elim (cases_eq d next) as (λ _. (has_card new d ≡ true) ⊎ ((low : ℕ) × AreEqual s low d)) [
-      | inl same ↦ inr (card, subst (λ x. AreEqual s card x) (sym same) eq)
-      | inr other ↦ elim (spoken d h) as (λ _. (has_card new d ≡ true) ⊎ ((low : ℕ) × AreEqual s low d)) [
-        | inl kept_too ↦ inl (ap (λ x. has_card x d) e ∙ has_card-take_out next kept d ∙ rw (kept_too, ne_eqb d next other) refl)
-        | inr lower ↦ inr lower
+    elim (cases_eq d card) as (λ _. (has_card new d ≡ true) ⊎ ((high : ℕ) × AreEqual s d high)) [
+      | inl same ↦ inr (next, subst (λ x. AreEqual s x next) (sym same) eq)
+      | inr other ↦ elim (spoken d h) as (λ _. (has_card new d ≡ true) ⊎ ((high : ℕ) × AreEqual s d high)) [
+        | inl kept_too ↦ inl (ap (λ x. has_card x d) e ∙ has_card-take_out card kept d ∙ rw (kept_too, ne_eqb d card other) refl)
+        | inr higher ↦ inr higher
       ]
     ]
 
 pub enough : (counting : List ℕ) (s : State) (kept : List ℕ) → AreSpokenFor s kept → IsClosedDown s counting → AreEnough counting s kept
 enough counting s kept spoken down card legal =
-    elim (spoken card legal) as (λ _. (has_card kept card ≡ true) ⊎ HasLowerEqual counting s card) [
+    elim (spoken card legal) as (λ _. (has_card kept card ≡ true) ⊎ HasHigherEqual counting s card) [
       | inl h ↦ inl h
-      | inr lower ↦ inr (record { lower = lower.0; equal = lower.1; counts = down lower.0 card lower.1 })
+      | inr higher ↦ inr (record { higher = higher.0; equal = higher.1; counts = down card higher.0 higher.1 })
     ]
 
 -- ---- closed down, one card after another

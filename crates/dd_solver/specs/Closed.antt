@@ -15,7 +15,7 @@ abbrev pub IsClosedDown : State → List ℕ → Type 0
 IsClosedDown s counting = (low high : ℕ) → AreEqual s low high
     → has_card counting high ≡ true → has_card counting low ≡ true
 
--- each legal card is kept, or equal to a lower one
+-- each legal card is kept, or equal to a higher one
 abbrev pub AreSpokenFor : State → List ℕ → Type 0
-AreSpokenFor s kept = (high : ℕ) → has_card (legal_in s) high ≡ true
-    → (has_card kept high ≡ true) ⊎ ((low : ℕ) × AreEqual s low high)
+AreSpokenFor s kept = (low : ℕ) → has_card (legal_in s) low ≡ true
+    → (has_card kept low ≡ true) ⊎ ((high : ℕ) × AreEqual s low high)

@@ -3,3 +3,4 @@ pub mod Sure
 pub mod Keys
 pub mod Answers
 pub mod Squeezing
+pub mod Remembers

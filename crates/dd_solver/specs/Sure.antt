@@ -16,10 +16,18 @@ number_in counts Hearts = counts.hearts
 number_in counts Diamonds = counts.diamonds
 number_in counts Clubs = counts.clubs
 
--- the highest cards of each suit of a hand, so many of each, are among these
-abbrev pub AreHighest : List ℕ → Counts → List ℕ → Type 0
-AreHighest hand counts cards = (card : ℕ) → has_card hand card ≡ true
-    → length (above card hand) < number_in counts (suit_of card) → has_card cards card ≡ true
+-- among a hand's highest cards of a suit, this many, those are here that come before a place at which another hand has no card
+-- of the suit left
+abbrev pub AreWinnersIn : Suit → ℕ → List ℕ → List ℕ → List ℕ → Type 0
+AreWinnersIn suit many hand other cards = (card : ℕ) → has_card hand card ≡ true → suit_of card ≡ suit
+    → length (above card hand) < many → length (above card hand) < length (of_suit suit other)
+    → has_card cards card ≡ true
+
+-- the same of each suit
+abbrev pub AreWinners : Counts → List ℕ → List ℕ → List ℕ → Type 0
+AreWinners counts hand other cards = (card : ℕ) → has_card hand card ≡ true
+    → length (above card hand) < number_in counts (suit_of card)
+    → length (above card hand) < length (of_suit (suit_of card) other) → has_card cards card ≡ true
 
 -- so many cards of a suit that a hand has, with all higher ones; no opponent has one of these
 pub record AreOutOfReach (hand opponents : List ℕ) (suit : Suit) (many : ℕ) (cards : List ℕ)

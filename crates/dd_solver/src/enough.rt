@@ -1,4 +1,4 @@
-//! Of equal cards only one is tried, and after a card that fails none that is like it.
+//! Of equal cards only the highest is tried, and after a card that fails none that is like it.
 ghost use Rattle.std.specs.Prelude.{◌≡◌, ℕ, ◌≤◌, Some, true, false, IfSome, length};
 ghost use Rattle.card_sets.specs.SetWords.{has_card, IsSubset};
 ghost use Rattle.trick_rules.specs.Positions.{IsState};
@@ -26,7 +26,7 @@ fn next_equal(legal: CardSet, playing: CardSet, card: Card) -> Option<Card>
     }
 }
 
-/// The legal cards, of equal cards only the first in card order.
+/// The legal cards, of equal cards the highest alone: with it, fewer cards count.
 pub(crate) fn one_of_equals(position: &Position, left: CardSet) -> CardSet
     requires { IsState (record { position = position.now; left = left }) }
     ensures legal { IsSubset result (legal_in (record { position = position.now; left = left })) }
@@ -40,8 +40,8 @@ pub(crate) fn one_of_equals(position: &Position, left: CardSet) -> CardSet
     let mut kept = legal;
     let mut rest = legal;
     while let Some(card) = rest.pop_first() {
-        if let Some(next) = next_equal(legal, playing, card) {
-            kept = kept.without(next);
+        if let Some(_next) = next_equal(legal, playing, card) {
+            kept = kept.without(card);
         }
     }
     kept

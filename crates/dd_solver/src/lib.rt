@@ -7,9 +7,12 @@
 
 mod answer;
 mod enough;
+mod hands;
 mod key;
+mod leads;
 mod memo;
 mod order;
+mod plays;
 mod search;
 mod solver;
 mod squeeze;

@@ -1,5 +1,5 @@
 //! What is known already of positions between two tricks.
-ghost use Rattle.std.specs.Prelude.{◌+◌, ◌<◌, ◌≤◌, IfSome, IsTrue, vec_len, length};
+ghost use Rattle.std.specs.Prelude.{◌≡◌, ◌+◌, ◌<◌, ◌≤◌, IfSome, IsTrue, vec_len, length};
 ghost use Rattle.trick_rules.specs.Positions.{IsState};
 ghost use Rattle.double_dummy.specs.Needs.{IsSettled};
 ghost use Rattle.dd_solver.specs.Keys.{key_state, HasShape};
@@ -141,35 +141,39 @@ pub(crate) struct Memo {
     most: usize,
     slots: Vec<Option<Entry>>,
     stored: usize,
-    favourites: [Option<Card>; TURNS],
+    best_leads: [Option<Card>; TURNS],
     ghost bounded: { most ≤ 262144 },
     ghost few: { vec_len slots ≤ most },
 }
 
 impl Memo {
-    /// A memo that holds nothing and will have so many entries at most. It takes no memory.
+    /// A memo that holds nothing and will have at most this many entries. It takes no memory.
     pub(crate) fn new(alloc: Global, most: u32) -> Memo
         requires { most ≤ 262144 }
+        ensures limit { result.most ≡ most }
+        ensures empty { vec_len result.slots ≡ 0 }
     {
         Memo {
             alloc,
             most: most as usize,
             slots: Vec::new(alloc),
             stored: 0,
-            favourites: [None; TURNS],
+            best_leads: [None; TURNS],
         }
     }
 
     /// The lead that settled a result last at this turn.
-    pub(crate) fn favourite(&self, turn: Option<usize>) -> Option<Card> {
-        *self.favourites.get(turn?)?
+    pub(crate) fn best_lead(&self, turn: Option<usize>) -> Option<Card> {
+        *self.best_leads.get(turn?)?
     }
 
     /// Notes a lead that settled a result.
-    pub(crate) fn favour(&mut self, turn: Option<usize>, card: Card) {
+    pub(crate) fn note_best_lead(&mut self, turn: Option<usize>, card: Card)
+        ensures { self.new.most ≡ self.old.most }
+    {
         if let Some(place) = turn {
             if place < TURNS {
-                self.favourites[place] = Some(card);
+                self.best_leads[place] = Some(card);
             }
         }
     }
@@ -199,6 +203,7 @@ impl Memo {
         requires state { IsState (key_state key.now) }
         requires shape { HasShape key.now }
         requires known { IsAnswer (key_state key.now) answer.now }
+        ensures { self.new.most ≡ self.old.most }
     {
         if self.stored >= self.slots.len() / 2 && self.slots.len() < self.most {
             self.grow();
@@ -212,7 +217,9 @@ impl Memo {
     }
 
     // Puts the entries into a wider table. Where there is no memory for it, the old one stays.
-    fn grow(&mut self) {
+    fn grow(&mut self)
+        ensures { self.new.most ≡ self.old.most }
+    {
         self.stored = 0;
         if let Ok(mut wider) = Vec::from_elem(
             self.alloc,

@@ -25,6 +25,7 @@ pub(crate) fn search(memo: &mut Memo, position: &Position, left: CardSet) -> Ans
     requires { FitsLeft position.now left }
     ensures state { IsState (record { position = position.now; left = left }) }
     ensures answer { IsAnswer (record { position = position.now; left = left }) result }
+    ensures limit { memo.new.most ≡ memo.old.most }
 {
     let between = position.trick.cards.is_empty();
     if let Some(made) = position.decided() {
@@ -53,7 +54,8 @@ fn search_key(memo: &mut Memo, key: &Key) -> Answer
     requires state { IsState (key_state key.now) }
     requires shape { HasShape key.now }
     requires open { decided (key_state key.now).position ≡ None }
-    ensures { IsAnswer (key_state key.now) result }
+    ensures answer { IsAnswer (key_state key.now) result }
+    ensures limit { memo.new.most ≡ memo.old.most }
 {
     if let Some(answer) = memo.look(key) {
         return answer;
@@ -75,7 +77,8 @@ fn search_key(memo: &mut Memo, key: &Key) -> Answer
 fn search_cards(memo: &mut Memo, position: &Position, left: CardSet) -> Answer
     requires state { IsState (record { position = position.now; left = left }) }
     requires open { decided position.now ≡ None }
-    ensures { IsAnswer (record { position = position.now; left = left }) result }
+    ensures answer { IsAnswer (record { position = position.now; left = left }) result }
+    ensures limit { memo.new.most ≡ memo.old.most }
 {
     let ours = position.is_ours();
     let cards = one_of_equals(position, left);
@@ -102,9 +105,10 @@ fn best_of(
     requires state { IsState (record { position = position.now; left = left }) }
     requires legal { IsSubset cards (legal_in (record { position = position.now; left = left })) }
     requires turn { is_declarers (to_play position.now) ≡ ours }
-    ensures { IsGiven (record { position = position.now; left = left }) cards ours result }
+    ensures given { IsGiven (record { position = position.now; left = left }) cards ours result }
+    ensures limit { memo.new.most ≡ memo.old.most }
 {
-    let mut order = Order::begun(position, left, cards, memo.favourite(turn_of(position)));
+    let mut order = Order::begun(position, left, cards, memo.best_lead(turn_of(position)));
     let mut rest = cards;
     let mut counting = CardSet::empty();
     while let Some(card) = order.first_of(rest) {
@@ -113,7 +117,7 @@ fn best_of(
         let there = search(memo, &after, left.without(card));
         let part = with_winner(position, card, &after, there.counting);
         if there.made == ours {
-            memo.favour(turn_of(position), card);
+            memo.note_best_lead(turn_of(position), card);
             return Answer {
                 made: ours,
                 counting: part,
@@ -121,7 +125,7 @@ fn best_of(
         }
         counting = joined(counting, part);
         rest = without_like(rest, card, part);
-        order = order.whole(position, left, rest);
+        order.complete(position, left, rest);
     }
     Answer {
         made: !ours,

@@ -8,10 +8,11 @@ ghost use Rattle.trick_rules.specs.Play.{is_declarers};
 ghost use Rattle.trick_rules.specs.declared.trump.Trump.TheVariants.{NoTrump};
 ghost use Rattle.sure_tricks.specs.Sure.{above, sure_of};
 ghost use Rattle.alike_states.specs.Alike.{IsClosedUp};
-ghost use Rattle.dd_solver.specs.Sure.{number_in, AreHighest};
+ghost use Rattle.dd_solver.specs.Sure.{AreWinnersIn, AreWinners};
 ghost use Rattle.dd_solver.specs.Answers.{IsAnswer};
 
 use crate::answer::{Answer, joined, up_from};
+use crate::hands::Hands;
 use card_sets::{CardSet, Suit};
 use sure_tricks::{Counts, can_lead_over, own_counts, partners_counts};
 use trick_rules::{Position, Trump};
@@ -47,16 +48,30 @@ pub(crate) fn highest_of(hand: CardSet, suit: Suit, many: u8) -> CardSet
     CardSet::empty()
 }
 
-// The highest cards of each suit of a hand, so many of each, with all higher ones.
-fn counting_of(hand: CardSet, counts: &Counts) -> CardSet
-    requires { IsCardSet hand }
+// The rank winners of a suit among this many of a hand's highest cards, with all higher ones: once
+// no other hand has a card of the suit, the ranks of the rest don't matter.
+fn winners_in(hands: &Hands, suit: Suit, many: u8) -> CardSet
+    requires { IsCardSet hands.now.own }
     ensures closed { IsClosedUp result }
-    ensures within { AreHighest hand counts.now result }
+    ensures next { AreWinnersIn suit many hands.now.own hands.now.next result }
+    ensures partner { AreWinnersIn suit many hands.now.own hands.now.partner result }
+    ensures last { AreWinnersIn suit many hands.now.own hands.now.last result }
 {
-    let spades = highest_of(hand, Suit::Spades, counts.spades);
-    let hearts = highest_of(hand, Suit::Hearts, counts.hearts);
-    let diamonds = highest_of(hand, Suit::Diamonds, counts.diamonds);
-    let clubs = highest_of(hand, Suit::Clubs, counts.clubs);
+    highest_of(hands.own, suit, many.min(hands.most_of_others(suit)))
+}
+
+// The rank winners of each suit, as many of the hand's highest cards as are counted.
+fn rank_winners(hands: &Hands, counts: &Counts) -> CardSet
+    requires { IsCardSet hands.now.own }
+    ensures closed { IsClosedUp result }
+    ensures next { AreWinners counts.now hands.now.own hands.now.next result }
+    ensures partner { AreWinners counts.now hands.now.own hands.now.partner result }
+    ensures last { AreWinners counts.now hands.now.own hands.now.last result }
+{
+    let spades = winners_in(hands, Suit::Spades, counts.spades);
+    let hearts = winners_in(hands, Suit::Hearts, counts.hearts);
+    let diamonds = winners_in(hands, Suit::Diamonds, counts.diamonds);
+    let clubs = winners_in(hands, Suit::Clubs, counts.clubs);
     joined(joined(spades, hearts), joined(diamonds, clubs))
 }
 
@@ -154,8 +169,8 @@ fn joint_answer(position: &Position, left: CardSet, own: &Counts) -> Option<Answ
         return None;
     }
     let seat = position.to_play();
-    let ours = counting_of(position.hand(seat, left), own);
-    let theirs = counting_of(position.hand(seat.next().next(), left), &partners);
+    let ours = rank_winners(&Hands::of(position, left, seat), own);
+    let theirs = rank_winners(&Hands::of(position, left, seat.next().next()), &partners);
     Some(Answer {
         made: position.is_ours(),
         counting: joined(ours, theirs),
@@ -172,9 +187,10 @@ pub(crate) fn sure_answer(position: &Position, left: CardSet) -> Option<Answer>
     let own = own_counts(position, left);
     if are_enough(position, own.total()) {
         let needed = needed_of(position, &own);
+        let hands = Hands::of(position, left, position.to_play());
         return Some(Answer {
             made: position.is_ours(),
-            counting: counting_of(position.hand(position.to_play(), left), &needed),
+            counting: rank_winners(&hands, &needed),
         });
     }
     match position.trump {

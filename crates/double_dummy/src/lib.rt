@@ -1,7 +1,7 @@
 //! Double dummy: whether declarer's side takes the need with all cards seen by all.
-//! It stands on `trick_rules`, whose `makes` says what double dummy is. Its laws are what a faster
-//! solver stands on.
-//! It is promised to answer `makes` by plain minimax, to the last card.
+//! It builds on `trick_rules`, whose `makes` says what double dummy is. A faster solver depends on
+//! its laws.
+//! Its contract promises `makes` by plain minimax, to the last card.
 #![tactic(auto)]
 
 mod in_play;

@@ -32,7 +32,7 @@ fn same_layouts(node: &Node, card: Card, other: Card) -> bool
     node.is_ours() || masks_agree(node, card, other)
 }
 
-// The card to which a choice is equal as the lower of the two, where there is one.
+// The higher card that a choice is equal to, if there is one.
 fn next_equal(node: &Node, choices: CardSet, playing: CardSet, card: Card) -> Option<Card>
     requires node { IsNode node.now }
     requires choices { choices ≡ choices_of node.now }

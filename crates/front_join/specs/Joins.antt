@@ -1,4 +1,4 @@
--- What the fronts of a node's children come to, where a defender chooses among the children.
+-- What the fronts of a node's children come to if a defender chooses among the children.
 use Rattle.std.specs.Prelude.{◌≡◌, ◌↔◌, ℕ, true, List, [], ◌∷◌, length, map, replicate, All, IsPermutation}
 use Rattle.win_vectors.specs.Vectors.{ones_of, restrict_of}
 use Rattle.win_vectors.specs.Fronts.{Vector, HaveWidth, Covers, IsReduced, meets, spreads}
@@ -18,7 +18,7 @@ abbrev pub joined : ℕ → List Child → List Vector
 joined width [] = replicate width true ∷ []
 joined width (c ∷ cs) = meets (joined width cs) (spreads c.mask c.vectors)
 
--- what is covered: a vector, where each child's front covers the part of it that the child has
+-- what is covered: a vector, if each child's front covers the part of it that the child has
 abbrev pub JoinedCovers : Type 0
 JoinedCovers = (width : ℕ) (cs : List Child) (t : Vector) → All (IsChildOf width) cs → length t ≡ width →
     Covers (joined width cs) t ↔ All (λ c. Covers c.vectors (restrict_of t c.mask)) cs

@@ -12,8 +12,8 @@ use std::alloc::{AllocError, Global};
 use std::marker::Model;
 use win_vectors::WinVector;
 
-/// The join of the children that were added: what is left to declarer's side where a defender
-/// chooses among them.
+/// The join of the children that were added: what is left to declarer's side if a defender chooses
+/// among them.
 #[derive(Drop)]
 pub struct Joiner {
     alloc: Global,
@@ -32,7 +32,7 @@ impl Model for Joiner {
 }
 
 impl Joiner {
-    /// A join of no child, for so many layouts: its front is the vector of all ones.
+    /// A join of no child, for `width` layouts: its front is the vector of all ones.
     pub fn new(alloc: Global, width: u16) -> Joiner
         requires low { 1 ≤ width }
         requires high { width ≤ most_layouts }
@@ -51,7 +51,7 @@ impl Joiner {
     }
 
     /// Joins a child: its front, and a mask with a 1 for each layout that it has. The joiner is
-    /// unchanged where memory is wanted.
+    /// unchanged if an allocation fails.
     pub fn add(&mut self, child: &Front, mask: &WinVector) -> Result<(), AllocError>
         requires mask_width { length mask.now ≡ self.old.optimistic.width }
         requires child_width { child.now.width ≡ ones_of mask.now }
@@ -63,7 +63,7 @@ impl Joiner {
         ensures covered { OnOk result (self.new.covered ≡ either_of self.old.covered mask.now) }
         ensures err { OnErr result (self.new ≡ self.old) }
 
-        // So where it was the join of some children, it is now that of the child and these.
+        // So if it was the join of some children, it is now the join of these and the child.
         ensures joined { OnOk result ((children : List Child)
             → IsReduced (joined self.old.optimistic.width children) self.old.optimistic.vectors
             → IsReduced
@@ -77,7 +77,7 @@ impl Joiner {
         Ok(())
     }
 
-    /// The front of the children so far, where a layout that none of them has counts as made.
+    /// The front of the children so far, in which a layout that none of them has counts as made.
     pub fn optimistic(&self) -> &Front
         ensures front { result.now ≡ self.now.optimistic }
         ensures join { IsJoiner self.now }
@@ -101,8 +101,8 @@ impl Joiner {
     }
 }
 
-/// The best meets of one vector of a front and one vector of a child's front, which has 1 where the
-/// mask has 0.
+/// The best meets of one vector of a front and one vector of a child's front, which has 1 at each 0
+/// of the mask.
 pub fn joined_front(
     alloc: Global,
     front: &Front,

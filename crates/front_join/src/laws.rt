@@ -2,7 +2,7 @@
 
 ghost use Rattle.front_join.specs.Joins.{JoinedCovers, JoinedInAnyOrder};
 
-/// A join covers a vector where each child's front covers the part of it that the child has.
+/// A join covers a vector if each child's front covers the part of it that the child has.
 pub fn joined_covers()
     ensures { JoinedCovers }
 {}

@@ -6,11 +6,11 @@ pub record BucketsValue : Type 0 where
   pub buckets : ℕ
   pub digests : List ℕ
 
--- the bucket of a place, among so many
+-- the bucket of a place, among this many
 abbrev pub bucket_at : List ℕ → ℕ → ℕ → ℕ
 bucket_at digests buckets place = slice_index digests place % buckets
 
--- `last` is one more than the last place of the bucket among the places below a limit, and 0 where there is none
+-- `last` is one more than the last place of the bucket among the places below a limit, and 0 if there is none
 pub record IsLast (digests : List ℕ) (buckets bucket limit last : ℕ) : Type 0 where
   pub within : last ≤ limit
   pub there : 0 < last → bucket_at digests buckets (last - 1) ≡ bucket

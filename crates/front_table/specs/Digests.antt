@@ -11,12 +11,12 @@ use Rattle.trick_rules.specs.Nodes.{NodeValue}
 abbrev pub set_writes : List ℕ → HashWrites
 set_writes cards = u64 (number_at cards)
 
--- what is fed to a hasher for a node and so many moves: the whole of both
+-- what a hasher is fed for a node and its moves: the whole of both
 abbrev pub key_writes : NodeValue → ℕ → List HashWrites
 key_writes n moves = set_writes n.position.declarer ∷ set_writes n.position.dummy ∷ set_writes n.position.unseen
     ∷ slice u8 n.position.trick.cards ∷ u8 (places_on Declarer n.position.trick.leader) ∷ u8 n.position.need
     ∷ slice set_writes n.lefts ∷ u8 moves ∷ []
 
--- the digest of a node and so many moves
+-- the digest of a node and its moves
 unfoldable pub digest_of : NodeValue → ℕ → ℕ
 digest_of n moves = finish (fold (fold write) initial (key_writes n moves))

@@ -18,7 +18,7 @@ pub record StoredFrontValue : Type 0 where
   pub moves : ℕ
   pub vectors : List Vector
 
--- the vectors are the front of the node with so many moves, with a bit for each of the node's layouts, and they aren't too many
+-- the vectors are the front of the node with these moves, with a bit for each of the node's layouts, and they aren't too many
 pub record IsStoredFront (e : StoredFrontValue) : Type 0 where
   pub front : IsFront bridge e.node e.moves e.vectors
   pub width : HaveWidth (length e.node.lefts) e.vectors
@@ -45,12 +45,12 @@ HasKey list node moves = (e : StoredFrontValue) × Contains list e × IsOfKey no
 abbrev pub IsKeyAt : List StoredFrontValue → NodeValue → ℕ → ℕ → Type 0
 IsKeyAt list node moves place = (e : StoredFrontValue) × (place < length list) × (slice_index_or list place e ≡ e) × IsOfKey node moves e
 
--- no key stands in the list twice
+-- no key is in the list twice
 abbrev pub HasKeysOnce : List StoredFrontValue → Type 0
 HasKeysOnce list = AllPairs (λ e f. ¬ IsOfKey e.node e.moves f) list
 
--- what becomes of a list with room for so many entries where a proven front is put in: its entry stands at the end where it
--- isn't too wide, its key isn't there, and there is room and memory; else the list stays
+-- what becomes of a list with room for this many entries if a proven front is put in: its entry is added at the end if it
+-- isn't too wide, its key isn't there, and there is room and memory; otherwise the list stays
 abbrev pub PutLeaves : ℕ → List StoredFrontValue → ProvenFrontValue → Put → List StoredFrontValue → Type 0
 PutLeaves room list p Kept later = (¬ IsTooWide p) × (¬ HasKey list p.node p.moves) × (length list < room) × (later ≡ list ++ stored_front_of p ∷ [])
 PutLeaves room list p (Present back) later = (¬ IsTooWide p) × HasKey list p.node p.moves × (later ≡ list)

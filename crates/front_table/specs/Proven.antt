@@ -5,7 +5,7 @@ use Rattle.pareto_fronts.specs.FrontValue.{FrontValue}
 use Rattle.strategy_games.specs.Plans.{IsFront}
 use Rattle.strategy_tree.specs.Bridge.{bridge}
 
--- the front of a node with so many moves, with a bit for each of the node's layouts
+-- the front of a node with these moves, with a bit for each of the node's layouts
 pub record IsFrontAt (n : NodeValue) (moves : ℕ) (found : FrontValue) : Type 0 where
   pub front : IsFront bridge n moves found.vectors
   pub width : found.width ≡ length n.lefts

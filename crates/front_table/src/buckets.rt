@@ -1,4 +1,4 @@
-//! Places of a list in buckets, each by the digest of what stands there.
+//! Places of a list in buckets, each by the digest of what is at that place.
 ghost use Rattle.std.specs.Prelude.{◌≡◌, ℕ, ◌+◌, ◌%◌, ◌^◌, ◌<◌, ◌≤◌, ◌++◌, ◌∷◌, [], OnOk, OnErr, length, slice_index};
 ghost use Rattle.front_table.specs.Buckets.{bucket_at, IsLast, AreLinked};
 
@@ -44,7 +44,7 @@ fn link(digests: &[u64], heads: &mut [u32], earlier: &mut [u32], place: usize)
     heads[bucket] = place as u32 + 1;
 }
 
-// Links each place, where the heads are 0 yet.
+// Links each place; the heads are all 0 before.
 fn link_all(digests: &[u64], heads: &mut [u32], earlier: &mut [u32])
     requires places { length earlier.old ≡ length digests.now }
     requires few { length digests.now < 2 ^ 32 }
@@ -70,7 +70,7 @@ impl Buckets {
         }
     }
 
-    /// One more than the last place of this digest's bucket; 0 where it has none.
+    /// One more than the last place of this digest's bucket; 0 if it has none.
     pub(crate) fn last(&self, digest: u64) -> u32
         ensures { IsLast self.now.digests self.now.buckets (digest % self.now.buckets)
             (length self.now.digests) result }
@@ -81,7 +81,7 @@ impl Buckets {
         self.heads[(digest % self.heads.len() as u64) as usize]
     }
 
-    /// One more than the last place before this one in its bucket; 0 where there is none.
+    /// One more than the last place before this one in its bucket; 0 if there is none.
     pub(crate) fn earlier(&self, place: usize) -> u32
         requires { place < length self.now.digests }
         ensures { IsLast self.now.digests self.now.buckets
@@ -98,7 +98,7 @@ impl Buckets {
         self.digests[place]
     }
 
-    /// Adds a place at the end. The places are as they were where memory is wanted.
+    /// Adds a place at the end. The places are as they were if an allocation fails.
     pub(crate) fn add(&mut self, digest: u64) -> Result<(), AllocError>
         requires { length self.old.digests + 1 < 2 ^ 32 }
         ensures ok { OnOk result (self.new.digests ≡ self.old.digests ++ digest ∷ []) }
@@ -110,7 +110,7 @@ impl Buckets {
         self.push(digest)
     }
 
-    // Adds a place where there are buckets.
+    // Adds a place. There are buckets already.
     fn push(&mut self, digest: u64) -> Result<(), AllocError>
         requires few { length self.old.digests + 1 < 2 ^ 32 }
         requires some { 1 ≤ self.old.buckets }

@@ -15,8 +15,8 @@ use std::alloc::Global;
 use std::marker::Model;
 use trick_rules::Node;
 
-/// Entries in the order in which they came. It only grows, at its end, and no key stands in it
-/// twice.
+/// Entries in the order in which they came. The list only grows, at its end, and no two entries
+/// have the same key.
 #[derive(Drop)]
 pub struct Entries {
     alloc: Global,
@@ -72,8 +72,8 @@ impl Entries {
         self.list.as_slice()
     }
 
-    /// Looks for the front of a node with so many moves, and leaves it in `out` where it is there.
-    /// It takes no memory.
+    /// Looks for the front of a node with `moves` moves, and leaves it in `out` if it is there. It
+    /// takes no memory.
     pub fn look(&self, node: &Node, moves: u8, out: &mut Front) -> bool
         requires width { out.old.width ≡ length node.now.lefts }
         requires room { most_entry_vectors ≤ out.old.room }
@@ -132,7 +132,7 @@ impl Entries {
         None
     }
 
-    // Puts an entry at the end. The list is as it was where memory is wanted.
+    // Puts an entry at the end. The list is as it was if an allocation fails.
     fn keep(&mut self, proven: ProvenFront) -> Result<(), ProvenFront>
         requires narrow { ¬ IsTooWide proven }
         requires new { ¬ HasKey self.old proven.node proven.moves }

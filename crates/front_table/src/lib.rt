@@ -1,6 +1,7 @@
-//! Fronts that are known already, and where a search may look for them.
-//! It stands on `strategy_tree` and `pareto_fronts`.
-//! A hit is the definition's front of that node with those moves; what is put into a store is proved to be one.
+//! Fronts that are known already, and the stores in which a search looks for them.
+//! It builds on `strategy_tree` and `pareto_fronts`.
+//! A hit is the definition's front of that node with those moves; what is put into a store is
+//! proved to be one.
 #![tactic(auto)]
 
 mod buckets;

@@ -12,7 +12,7 @@ use std::alloc::Global;
 use std::marker::Model;
 use trick_rules::Node;
 
-/// A store for one caller: a list of entries, each kept for good, with room for so many.
+/// A store for one caller: a list of at most `room` entries, each kept for good.
 #[derive(Drop)]
 pub struct LocalStore {
     entries: Entries,
@@ -28,7 +28,7 @@ impl Model for LocalStore {
 }
 
 impl LocalStore {
-    /// No entry yet, and room for so many. It takes no memory.
+    /// No entry yet, and room for `room` of them. It takes no memory.
     pub fn new(alloc: Global, room: u32) -> LocalStore
         ensures { result ≡ record { entries = []; room = room } }
     {
@@ -59,7 +59,7 @@ impl FrontStore for LocalStore {
 
     ghost grown_more = { HasGrown-more };
 
-    /// A hit exactly where the list has the key, and else a miss. The list stays.
+    /// A hit exactly when the list has the key, and else a miss. The list stays.
     fn look(&mut self, node: &Node, moves: u8, out: &mut Front) -> Look
         requires width { out.old.width ≡ length node.now.lefts }
         requires room { most_entry_vectors ≤ out.old.room }

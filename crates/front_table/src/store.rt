@@ -1,4 +1,4 @@
-//! Where a search looks for fronts that are known already.
+//! Stores: in them a search looks for fronts that are known already.
 ghost use Rattle.std.specs.Prelude.{◌≡◌, ◌≢◌, ◌≤◌, ⊤, Bool, true, length, IsTrue};
 ghost use Rattle.front_table.specs.Proven.{IsFrontAt};
 ghost use Rattle.front_table.specs.Stores.{HandsBack};
@@ -19,7 +19,7 @@ pub enum Look {
     Busy,
 }
 
-/// What became of an entry. Where it isn't kept, it is handed back.
+/// What became of an entry. If it isn't kept, it is handed back.
 #[derive(Drop)]
 pub enum Put {
     Kept,
@@ -41,7 +41,7 @@ pub trait FrontStore {
     /// How a store may change: an earlier state and a later one.
     ghost grown: { Self → Self → Type 0 };
 
-    /// Looks for the front of a node with so many moves. A hit leaves it in `out`; every other
+    /// Looks for the front of a node with `moves` moves. A hit leaves it in `out`; every other
     /// answer leaves `out` as it was.
     fn look(&mut self, node: &Node, moves: u8, out: &mut Front) -> Look
         requires width { out.old.width ≡ length node.now.lefts }

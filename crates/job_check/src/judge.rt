@@ -16,7 +16,7 @@ use strategy_check::{Verdict, check};
 use trick_rules::Node;
 use win_vectors::Weights;
 
-// Where a plan with its vector and the number behind this is at fault.
+// The fault of a plan with its vector and the number that follows it, if there is one.
 #[tactic(auto, unfolding(am_answer::specs::Judging::entry_fault))]
 fn entry_fault(node: &Node, weights: &Weights, moves: u8, read: &ReadEntry) -> Option<Place>
     requires weighed { length weights.now ≡ length node.now.lefts }
@@ -86,7 +86,7 @@ fn judged(alloc: Global, root: &Root, report: &ReadReport) -> Result<u32, Status
     }
 }
 
-// The number of plans of a report, where each of them is good.
+// The number of plans of a report, if each of them is good.
 #[tactic(auto, unfolding(am_answer::specs::Judging::plans_in))]
 fn count_good_plans(alloc: Global, root: &Root, bytes: &[u8]) -> Result<u32, Status>
     requires weighed { length root.now.kept.weights ≡ length root.now.kept.node.lefts }

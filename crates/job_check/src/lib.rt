@@ -1,6 +1,6 @@
-//! The job `check`: whether each plan of a report wins exactly its vector, without any search.
-//! It stands on `am_report` to read the report, and on `strategy_check` for the verdict on a plan.
-//! Its contract promises the text where head and plans are good, or the first fault.
+//! The job `check`: whether each plan of a report wins exactly its vector, without any search. It
+//! builds on `am_report` to read the report, and on `strategy_check` for the verdict on a plan. Its
+//! contract promises the text where head and plans are good, or the first fault.
 #![tactic(auto)]
 
 mod judge;

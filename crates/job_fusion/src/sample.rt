@@ -10,8 +10,8 @@ use fusion_base::per_card;
 use std::alloc::{AllocError, Global};
 use std::thread::Threads;
 
-/// The table of what plain sampling believes of each card at a root. It fails where memory is
-/// refused, and only there.
+/// The table of what plain sampling believes of each card at a root. It fails only if an allocation
+/// fails.
 pub fn sample_text<R: Threads + Sync>(
     rt: &R,
     alloc: Global,

@@ -88,15 +88,15 @@ fn played_text(
     match_text(alloc, layout, bit, &played.cards, played.made)
 }
 
-/// Plays the first strategy that is printed for a root, by so many moves of declarer's side, in the
-/// kept layout of a number.
+/// Plays out the first strategy that is printed for a root, with `moves` moves of declarer's side,
+/// in one kept layout, by its number.
 ///
-/// The table's first defender sits at Left and its second at Right. With a switch the third is
-/// taken from the table, and comes to Left's seat before the card of that number; the cards are
-/// numbered from 1. Each who sits is told the cards.
+/// The table's first defender sits at Left and its second at Right. With a switch, the table's
+/// third takes over Left's seat before the card of that number; cards are numbered from 1. Each
+/// defender who sits hears the cards.
 ///
-/// Refused with `NoLayout` where the layout of the number isn't kept, and else as `solve` is. The
-/// table is left as it was, but for want of memory.
+/// Errors: `NoLayout` if the layout of the number isn't kept, and otherwise those of `solve`. The
+/// table is left as it was, unless an allocation fails.
 pub fn play_match<R: Threads + Sync, G: Gate>(
     rt: &R,
     alloc: Global,

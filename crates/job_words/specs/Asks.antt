@@ -41,7 +41,7 @@ job_of (jobs.TheVariants.Check report) = Check report.now
 job_of (jobs.TheVariants.Prove moves nodes) = Prove moves nodes
 job_of (jobs.TheVariants.Audit report log) = Audit report.now log.now
 
--- an ask by its value
+-- a request by its value
 abbrev pub ask_of : asks.Ask → AskValue
 ask_of (asks.TheVariants.OnLayouts deal layouts job) = OnLayouts deal.now layouts.now (job_of job)
 ask_of (asks.TheVariants.List deal) = ListOf deal.now
@@ -56,7 +56,7 @@ IsMoves moves = (1 ≤ moves) × (moves ≤ most_moves)
 abbrev pub most_entries : ℕ
 most_entries = 262144
 
--- the most nodes that the tree of a card may have where a log is written of it
+-- the most nodes that the tree of a card may have if a log is written of it
 abbrev pub most_logged : ℕ
 most_logged = 268435456
 
@@ -83,7 +83,7 @@ IsJobWithinLimits (Check report) = is_value report ≡ true
 IsJobWithinLimits (Prove moves nodes) = IsMoves moves × (1 ≤ nodes) × (nodes ≤ most_logged)
 IsJobWithinLimits (Audit report log) = (is_value report ≡ true) × (is_value log ≡ true)
 
--- the limits that an ask keeps
+-- the limits that a request keeps
 abbrev pub IsWithinLimits : AskValue → Type 0
 IsWithinLimits (OnLayouts deal layouts job) =
     (is_value deal ≡ true) × (is_value layouts ≡ true) × IsJobWithinLimits job

@@ -26,7 +26,7 @@ pub record OptionValues : Type 0 where
   pub no_table : Bool
   pub no_cuts : Bool
 
--- a flag holds the text `true` where it was given
+-- a flag holds the text `true` if it was given
 abbrev pub has_flag : Text → List Row → Bool
 has_flag name rows = option_map_or (λ text. bytes_eq text (codes "true")) (one_of name rows) false
 

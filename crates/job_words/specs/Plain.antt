@@ -52,7 +52,7 @@ abbrev pub boards_words : List ℕ → List ℕ → List ℕ → List (List ℕ)
 boards_words deal layouts moves =
     codes "--job" ∷ codes "boards" ∷ codes "--deal" ∷ deal ∷ codes "--layouts" ∷ layouts ∷ codes "--moves" ∷ moves ∷ []
 
--- how to search where the words say nothing of it
+-- how to search if the words say nothing of it
 abbrev pub plain_search : Search
 plain_search = record {
   nodes = 10000000;

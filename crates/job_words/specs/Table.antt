@@ -41,7 +41,7 @@ is_used_so Required given = given
 is_used_so Allowed given = true
 is_used_so Refused given = not given
 
--- some option on how to search is given, but for the number of nodes
+-- some option on how to search is given, except the number of nodes
 abbrev pub has_search : OptionValues → Bool
 has_search o = is_some o.workers || is_some o.shards || is_some o.room || o.no_table || o.no_cuts
 

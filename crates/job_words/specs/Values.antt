@@ -10,7 +10,7 @@ abbrev pub is_value : List ℕ → Bool
 is_value [] = false
 is_value (first ∷ rest) = not (first == 45)
 
--- the value, where it may name a file
+-- the value, if it may name a file
 unfoldable pub file_named : List ℕ → Option (List ℕ)
 file_named text = if is_value text then Some text else None
 
@@ -20,12 +20,12 @@ number_read [] = None
 number_read (digit ∷ digits) =
     if all_ascii_digits (digit ∷ digits) then Some (digits_value 10 (digit ∷ digits)) else None
 
--- the number, where it lies in its range
+-- the number, if it lies in its range
 abbrev pub in_range : ℕ → ℕ → ℕ → Option ℕ
 in_range least most number =
     if nat_le least number && nat_le number most then Some number else None
 
--- the number that the text writes, where it lies in its range
+-- the number that the text writes, if it lies in its range
 unfoldable pub number_in : ℕ → ℕ → List ℕ → Option ℕ
 number_in least most text = option_and_then (in_range least most) (number_read text)
 

@@ -86,7 +86,7 @@ check_in o = do
   report ← o.report >>= file_named
   Some (Check report)
 
--- the log that proves a front complete, where the tree of each card has so many nodes at most
+-- the log that proves a front complete, if the tree of each card has at most this many nodes
 unfoldable pub prove_in : OptionValues → Option LayoutsJobValue
 prove_in o = do
   moves ← moves_in o

@@ -20,7 +20,7 @@ pub struct Search {
 /// The most entries that all shards of a table have room for.
 pub(crate) const MOST_ENTRIES: u64 = 262_144;
 
-/// The most nodes that the tree of a card may have where a log is written of it.
+/// The most nodes that the tree of a card may have if a log is written of it.
 pub(crate) const MOST_LOGGED: u64 = 268_435_456;
 
 /// A job on a deal and its layouts.

@@ -1,7 +1,6 @@
-//! What the words of the command line ask for: one of ten jobs, with just what that job needs.
-//! It stands on clap, which reads the options as one simple command.
-//! Its contract promises the one ask that the grammar of the words gives, or the refusal of all
-//! other words.
+//! What the words of the command line ask for: one of ten jobs, with just what that job needs. It
+//! builds on clap, which reads the options as one simple command. Its contract promises the one ask
+//! that the grammar of the words gives, or the refusal of all other words.
 #![tactic(auto)]
 
 ghost use Rattle.std.specs.Prelude.{◌≡◌, ◌-◌, ◌^◌, ℕ, List, None, Some, IfOk, IfSome, option_map, true};
@@ -25,7 +24,7 @@ use by_job::ask_in;
 use options::read_options;
 use std::alloc::{AllocError, Global};
 
-/// What the words ask for, or None where the program takes no such words. The program's own name
+/// What the words ask for, or `None` if the program takes no such words. The program's own name
 /// isn't one of them.
 #[tactic(auto, unfolding(crate::specs::Words::words_read))]
 pub fn read_words<'a>(alloc: Global, words: &'a [String]) -> Result<Option<Ask<'a>>, AllocError>

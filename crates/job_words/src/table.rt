@@ -40,7 +40,7 @@ impl Use {
     }
 }
 
-/// What a job makes of each option. The options on how to search go together, but for the number of
+/// What a job makes of each option. The options on how to search go together, except the number of
 /// nodes.
 #[derive(Clone, Copy)]
 pub(crate) struct Uses {
@@ -152,7 +152,7 @@ impl Uses {
     }
 }
 
-// Whether an option on how to search is given, but for the number of nodes.
+// Whether an option on how to search is given, except the number of nodes.
 fn has_search(options: &Options<'_>) -> bool
     ensures { result ≡ has_search (options_of options.now) }
 {

@@ -5,7 +5,7 @@ ghost use Rattle.job_words.specs.Values.{file_named, is_value, job_named, number
 use crate::table::Job;
 use byte_text::are_digits;
 
-/// The value, where it may name a file: it isn't empty and doesn't begin with a dash.
+/// The value, if it may name a file: it isn't empty and doesn't begin with a dash.
 #[tactic(auto, unfolding(crate::specs::Values::file_named))]
 pub(crate) fn file_named(value: &str) -> Option<&str>
     ensures value { option_map (λ s. s.now) result ≡ file_named value.now }
@@ -23,7 +23,7 @@ fn is_value(text: &str) -> bool
     }
 }
 
-/// The number that the text writes in decimal digits, where it lies in its range. Leading zeros are
+/// The number that the text writes in decimal digits, if it lies in its range. Leading zeros are
 /// allowed.
 pub(crate) fn number_in(least: u64, most: u64, text: &str) -> Option<u64>
     ensures value { result ≡ number_in least most text.now }

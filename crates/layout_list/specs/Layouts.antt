@@ -66,7 +66,7 @@ kept_of board (first ∷ rest) = kept_over board.plays (first_position board (to
 unfoldable pub layouts_read : List ℕ → BoardValue → Result KeptValue LayoutFault
 layouts_read bytes board = lines_read board board.unseen 0 (layout_lines (numbered_lines bytes)) >>= kept_of board
 
--- a fault that may be given where this is to be read: want of memory, or the fault of what is read
+-- a fault that may come in place of this reading: a failed allocation, or the fault of what is read
 abbrev pub IsLayoutFaultOf : {A : Type 0} → Result A LayoutFault → LayoutFault → Type 0
 IsLayoutFaultOf expected fault = (fault ≡ Memory) ⊎ (expected ≡ Err fault)
 

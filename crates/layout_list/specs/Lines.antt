@@ -66,14 +66,14 @@ abbrev pub begins_blank : List ℕ → Bool
 begins_blank [] = false
 begins_blank (byte ∷ rest) = is_blank byte
 
--- the weight that so many digits at the front of a text write, and what stands behind them, where a blank does
+-- the weight that this many digits write at the beginning of a text, and what follows them, if that begins with a blank
 abbrev pub weight_of_digits : ℕ → List ℕ → Option (ℕ × List ℕ)
 weight_of_digits count text =
     if begins_blank (drop count text) then option_map (λ weight. (weight, drop count text)) (weight_said (take count text))
     else None
 
--- the weight at the front of a line and what stands behind it; weight 1 before the whole line where its first byte that isn't
--- a blank is no digit
+-- the weight that a line begins with and what follows it; if the line's first byte that isn't a blank is no digit, weight 1
+-- and the whole line
 unfoldable pub weight_read : List ℕ → Option (ℕ × List ℕ)
 weight_read line =
     let text = after_blanks line in
@@ -121,7 +121,7 @@ line_read board unseen number line = do
 abbrev pub most_listed : ℕ
 most_listed = 256
 
--- the layouts of the lines, after some that were read: at most 256 in all, and each with the unseen cards of the first where the board doesn't tell them
+-- the layouts of the lines, after some that were read: at most 256 in all, and each with the unseen cards of the first if the board doesn't tell them
 abbrev pub lines_read : BoardValue → Option (List ℕ) → ℕ → List (ℕ × List ℕ) → Result (List Weighed) LayoutFault
 lines_read board unseen count [] = Ok []
 lines_read board unseen count (line ∷ lines) =

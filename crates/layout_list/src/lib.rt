@@ -1,6 +1,5 @@
-//! A layout file: the layouts that the user thinks possible, and those that the play rules out.
-//! It stands on `pbn_deal` for the board and the Deal form, and on `trick_rules` for the laws of
-//! play.
+//! A layout file: the layouts that the user thinks possible, and those that the play rules out. It
+//! builds on `pbn_deal` for the board and the Deal form, and on `trick_rules` for the laws of play.
 //! Its contract promises the kept layouts with their root node, or the first fault with its line.
 #![tactic(auto)]
 

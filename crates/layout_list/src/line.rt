@@ -61,7 +61,7 @@ fn weight_said(digits: &[u8]) -> Option<u32>
     if weight == 0 { None } else { Some(weight) }
 }
 
-// How many digits stand at the front.
+// How many digits a text begins with.
 fn digits_len(text: &[u8]) -> usize
     ensures len { result ≡ position_or_len ends_digits text.now }
     ensures inside { result ≤ length text.now }
@@ -82,7 +82,7 @@ fn begins_blank(text: &[u8]) -> bool
     }
 }
 
-// The weight that so many digits at the front of a text write, and what stands behind them.
+// The weight that the first `count` digits of a text write, and what follows them.
 fn weight_of_digits(count: usize, text: &[u8]) -> Option<(u32, &[u8])>
     requires inside { count ≤ length text.now }
     requires digits { all_ascii_digits (take count text.now) ≡ true }
@@ -98,7 +98,7 @@ fn weight_of_digits(count: usize, text: &[u8]) -> Option<(u32, &[u8])>
     Some((weight, rest))
 }
 
-// The weight at the front of a line and what stands behind it. A line that begins with no digit has
+// The weight that a line begins with, and what follows it. A line that begins with no digit has
 // weight 1.
 #[tactic(auto, unfolding(crate::specs::Lines::weight_read))]
 fn read_weight(line: &[u8]) -> Option<(u32, &[u8])>

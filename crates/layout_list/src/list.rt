@@ -24,7 +24,7 @@ use trick_rules::{Node, Position};
 use win_vectors::Weights;
 
 // The layouts that the play allows, by number, weight and Left's cards after it, and those that it
-// doesn't. The position after the play is there where a layout is allowed.
+// doesn't. There is a position after the play as soon as a layout is allowed.
 #[derive(Debug, Drop)]
 struct Sorting {
     numbers: Vec<u16>,
@@ -197,9 +197,9 @@ fn keep(alloc: Global, board: &Board, layouts: &[Weighed]) -> Result<Kept, Layou
 /// A line is a layout in the Deal form, unless it is of blanks alone or begins with `%`. A weight
 /// from 1 to 1,000,000 may stand before it with a blank between them; a layout without one has
 /// weight 1. The layout shows all four hands, those of declarer's side as on the board and those of
-/// the defenders with the unseen cards, which are the first layout's where the board doesn't tell
+/// the defenders with the unseen cards, which are the first layout's if the board doesn't tell
 /// them. The file has at most 256 layouts. The first fault in the order of the lines is given, and
-/// `NoneLeft` where the play allows none. At a layout's line the order is `TooMany`, `BadWeight`,
+/// `NoneLeft` if the play allows none. At a layout's line the order is `TooMany`, `BadWeight`,
 /// `BadLine`, `OtherHands`.
 #[tactic(auto, unfolding(crate::specs::Layouts::layouts_read))]
 pub fn layouts(alloc: Global, bytes: &[u8], board: &Board) -> Result<Kept, LayoutFault>

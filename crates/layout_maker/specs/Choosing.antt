@@ -30,7 +30,7 @@ narrowed Left trick unseen card may = record { left = without (filter (shows_voi
 narrowed Dummy trick unseen card may = may
 narrowed Right trick unseen card may = record { left = take_out card may.left; right = without (filter (shows_void trick card) unseen) may.right }
 
--- the same after all cards; none where a defender played a card that wasn't unseen
+-- the same after all cards; none if a defender played a card that wasn't unseen
 abbrev pub after_plays : Trump → TrickValue → List ℕ → MayHold → List Played → Option MayHold
 after_plays trump trick unseen may [] = Some may
 after_plays trump trick unseen may (play ∷ plays) =
@@ -47,7 +47,7 @@ fits may cards hand = list_all (λ card. if has_card hand card then has_card may
 unfoldable pub fitting_hands : MayHold → ℕ → List ℕ → List (List ℕ)
 fitting_hands may size cards = filter (fits may cards) (hands_of_size size cards)
 
--- in how many ways so many of some things can be chosen
+-- the number of ways to choose this many of some things
 abbrev pub ways : ℕ → ℕ → ℕ
 ways things zero = 1
 ways zero (suc chosen) = 0

@@ -16,7 +16,7 @@ use Rattle.layout_maker.specs.declared.fault.MakeFault.TheVariants.{TooManyFit, 
 abbrev pub most_unseen : ℕ
 most_unseen = 26
 
--- each hand of so many of these cards: those with the first card, and then those without it
+-- each hand of this many of these cards: those with the first card, and then those without it
 abbrev pub hands_of_size : ℕ → List ℕ → List (List ℕ)
 hands_of_size zero cards = [] ∷ []
 hands_of_size (suc size) [] = []
@@ -26,7 +26,7 @@ hands_of_size (suc size) (card ∷ cards) = map (λ hand. card ∷ hand) (hands_
 abbrev pub layout_with : List ℕ → List ℕ → Layout
 layout_with unseen left = record { left = left; right = filter (λ card. not (has_card left card)) unseen }
 
--- every division of the unseen cards in which Left has so many
+-- every division of the unseen cards in which Left has this many
 abbrev pub divisions : ℕ → List ℕ → List Layout
 divisions size unseen = map (layout_with unseen) (hands_of_size size unseen)
 
@@ -56,13 +56,13 @@ layouts_shown board (Some unseen) = if_few (layouts_over board unseen)
 abbrev pub layouts_made : BoardValue → Result (List Layout) MakeFault
 layouts_made board = layouts_shown board board.unseen
 
--- a fault that may be given where this is to be listed: want of memory, or the reason
+-- a fault that may come in place of this list: a failed allocation, or the reason
 abbrev pub IsMakeFaultOf : Result (List Layout) MakeFault → MakeFault → Type 0
 IsMakeFaultOf expected fault = (fault ≡ Memory) ⊎ (expected ≡ Err fault)
 
 -- ---- what one would say of them
 
--- a division of the unseen cards between the defenders, in which Left has so many
+-- a division of the unseen cards between the defenders, in which Left has this many
 pub record IsDivision (unseen : List ℕ) (size : ℕ) (layout : Layout) : Type 0 where
   pub left_set : IsCardSet layout.left
   pub right_set : IsCardSet layout.right

@@ -23,8 +23,8 @@ fn follows(card: Card, suit: Suit) -> bool
     card.suit() == suit
 }
 
-// The unseen cards that a seat doesn't hold when it plays this card: those of the suit led, where
-// it doesn't follow suit.
+// The unseen cards that a seat doesn't hold when it plays this card: those of the suit led, if it
+// doesn't follow suit.
 fn void_cards(trick: &Trick, unseen: CardSet, card: Card) -> CardSet
     ensures { result ≡ filter (shows_void trick.now.cards card) unseen }
 {
@@ -62,8 +62,8 @@ fn may_play(hidden: CardSet, seat: Seat, card: Card) -> bool
     matches!(seat, Seat::Declarer | Seat::Dummy) || hidden.has(card)
 }
 
-/// The cards that each defender may hold as the play tells: `None` where a defender played a card
-/// that wasn't unseen.
+/// The cards that each defender may hold as the play tells: `None` if a defender played a card that
+/// wasn't unseen.
 pub fn may_hold(board: &Board, unseen: CardSet) -> Option<MayHold>
     ensures { result ≡ after_plays board.now.trump (first_trick board.now) unseen
         (record { left = unseen; right = unseen }) board.now.plays }

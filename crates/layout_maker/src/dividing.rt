@@ -10,7 +10,7 @@ use card_sets::CardSet;
 use layout_list::Layout;
 use std::alloc::{AllocError, Global};
 
-/// Left's hands: each has the sure cards, and so many of the free ones.
+/// Left's hands: each has the sure cards, and this many of the free ones.
 #[derive(Clone, Copy, Debug)]
 pub struct Choices {
     pub sure: CardSet,
@@ -18,7 +18,7 @@ pub struct Choices {
     pub wanted: u8,
 }
 
-/// Left's hands of this size that fit what each defender may hold: `None` only where none does.
+/// Left's hands of this size that fit what each defender may hold: `None` only if none does.
 ///
 /// Each has the cards that Right can't hold, and the rest from those that both may hold.
 pub fn fitting_choices(may: &MayHold, unseen: CardSet, size: u8) -> Option<Choices>
@@ -55,7 +55,7 @@ fn with_one_more(row: &[u64; 14], things: u8) -> [u64; 14]
     next
 }
 
-/// In how many ways so many of some things can be chosen.
+/// The number of ways to choose `chosen` of the things.
 pub fn ways(things: u8, chosen: u8) -> u64
     requires few { things ≤ most_unseen }
     requires small { chosen ≤ 13 }
@@ -69,7 +69,7 @@ pub fn ways(things: u8, chosen: u8) -> u64
     row[chosen as usize]
 }
 
-// Adds the layouts in which Left has these cards and so many of the free ones.
+// Adds the layouts in which Left has these cards and `wanted` of the free ones.
 fn add_layouts(
     layouts: &mut Vec<Layout>,
     unseen: CardSet,

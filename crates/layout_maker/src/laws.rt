@@ -17,7 +17,7 @@ pub fn each_layout_is_an_allowed_division()
         → All (λ layout. is_allowed board unseen layout ≡ true) (layouts_over board unseen) }
 {}
 
-/// Each such division that the play allows stands in the list.
+/// Each such division that the play allows is in the list.
 #[tactic(auto, using(crate::proofs::Listed::each_division_is_there))]
 pub fn each_allowed_division_is_listed()
     ensures { (board : BoardValue) (unseen : List ℕ) (layout : Layout) → IsBoard board
@@ -33,7 +33,7 @@ pub fn no_layout_is_listed_twice()
         → AllPairs (λ layout later. layout ≢ later) (layouts_over board unseen) }
 {}
 
-/// The layouts stand in the order of Left's cards still held, compared card by card in card order.
+/// The layouts are in the order of Left's cards still held, compared card by card in card order.
 #[tactic(auto, using(crate::proofs::Listed::in_order_of_what_is_held))]
 pub fn layouts_stand_in_the_order_of_lefts_cards()
     ensures { (board : BoardValue) (unseen : List ℕ) → IsBoard board → board.unseen ≡ Some unseen

@@ -1,9 +1,7 @@
 //! Layouts that nobody had to write: all layouts of a board that the play allows, and a whole
-//! problem made from a number.
-//! It stands on `pbn_deal` for boards and the Deal form, and on `layout_list` for what the play
-//! says of a layout.
-//! Its contract promises every layout once, in order, or their exact number, and the two texts of a
-//! problem byte for byte.
+//! problem made from a number. It builds on `pbn_deal` for boards and the Deal form, and on
+//! `layout_list` for what the play says of a layout. Its contract promises every layout once, in
+//! order, or their exact number, and the two texts of a problem byte for byte.
 #![tactic(auto)]
 
 mod allowed;

@@ -40,9 +40,9 @@ fn listed(alloc: Global, unseen: CardSet, choices: &Choices) -> Result<Vec<Layou
 /// the first card.
 ///
 /// The order is that of Left's cards still held, compared card by card in card order. The fault is
-/// `NotShown` exactly where the board doesn't tell the unseen cards, else `NoneFit` exactly where
-/// the play allows no division, and else `TooManyFit` exactly where it allows more than 256,
-/// with their number. `Memory` may come in place of any answer.
+/// `NotShown` exactly when the board doesn't tell the unseen cards, else `NoneFit` exactly when the
+/// play allows no division, and else `TooManyFit` exactly when it allows more than 256, with their
+/// number. `Memory` may come in place of any answer.
 pub fn all_layouts(alloc: Global, board: &Board) -> Result<Vec<Layout>, MakeFault>
     ensures { MatchResult result
         (λ layouts. layouts_made board.now ≡ Ok layouts.items)

@@ -20,7 +20,7 @@ use Rattle.log_check.proofs.CitedLines.{cited-next, cited-end, behind-next, behi
 pub alike-refl : (vs : List Vector) → CoverAlike vs vs
 alike-refl vs = (λ v mem. (v, mem, Dominates-refl v), λ v mem. (v, mem, Dominates-refl v))
 
-covers-trans : (a b c : List Vector) → CoversAll a b → CoversAll b c → CoversAll a c
+pub covers-trans : (a b c : List Vector) → CoversAll a b → CoversAll b c → CoversAll a c
 covers-trans a b c ab bc v mem =
     let u = bc v mem in
     let w = ab u.0 u.1 in
@@ -36,7 +36,7 @@ covered_alike vs a b alike covers = covers-trans vs b a covers alike.1
 pub alike-reduced : (all front : List Vector) → IsReduced all front → CoverAlike all front
 alike-reduced all front reduced = (λ v mem. (v, reduced.reached v mem, Dominates-refl v), λ v mem. reduced.covered v mem)
 
-covers-meets : (a a' b b' : List Vector) (mask : Vector) → CoversAll a a' → CoversAll b b'
+pub covers-meets : (a a' b b' : List Vector) (mask : Vector) → CoversAll a a' → CoversAll b b'
     → CoversAll (meets a (spreads mask b)) (meets a' (spreads mask b'))
 covers-meets a a' b b' mask firsts seconds v mem =
     let m = Contains-of_meets a' (spreads mask b') v mem in

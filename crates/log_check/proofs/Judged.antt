@@ -1,8 +1,8 @@
 -- What the rules ask, against what is tested.
-use Rattle.std.proofs.Common.{◌==◌, ◌≡◌, ◌≢◌, ◌+◌, ◌<◌, ◌≤◌, ◌∙◌, ℕ, zero, suc, true, false, Some, List, [], ◌∷◌, length, take, get_or, refl, sym, ap, subst, ⊎_elim, arith}
+use Rattle.std.proofs.Common.{◌==◌, ◌≡◌, ◌≢◌, ◌+◌, ◌<◌, ◌≤◌, ◌∙◌, ℕ, zero, suc, true, false, Some, List, [], ◌∷◌, ◌++◌, length, take, get_or, refl, sym, ap, subst, ⊎_elim, arith}
 use Rattle.std.specs.Prelude.{slice_get}
 use Rattle.std.proofs.Math.Nat.{eq-or-lt_of_le}
-use Rattle.std.proofs.lemmas.List.{take_all}
+use Rattle.std.proofs.lemmas.List.{take_all, length-append, take-append-le, get_or-append-add}
 use Rattle.std.proofs.lemmas.Bool.{eqb-false, eqb-true}
 use Rattle.std.proofs.lemmas.Option.{slice_get-get_or}
 use Rattle.win_vectors.specs.Fronts.{Vector, HaveWidth, CoversAll}
@@ -98,6 +98,19 @@ sound-more n moves lines p l low is are sound place line at =
     subst (λ (earlier : List LogLine). IsSoundLine n moves earlier line) (take-less lines place p (omega arith))
     (are place line (slice_get-of_take lines p place line before there.1)))
     (eq-or-lt_of_le near))
+
+pub sound-push : (n : NodeValue) (moves : ℕ) (lines : List LogLine) (l : LogLine) → AreSound n moves lines → IsSoundLine n moves lines l
+    → AreSound n moves (lines ++ l ∷ [])
+sound-push n moves lines l are sound =
+    let all = lines ++ l ∷ [] in
+    let long : length all ≡ length lines + 1 = length-append lines (l ∷ []) in
+    let firsts : take (length lines) all ≡ lines = take-append-le (length lines) lines (l ∷ []) (omega arith) ∙ take_all (length lines) lines (omega arith) in
+    let end : length lines + 0 ≡ length lines = omega arith in
+    let last : get_or all (length lines) l ≡ l = subst (λ k. get_or all k l ≡ l) end (get_or-append-add lines (l ∷ []) 0 l) in
+    subst (λ (ls : List LogLine). AreSound n moves ls) (take_all (length lines + 1) all (omega arith))
+    (sound-more n moves all (length lines) l (omega arith) (sym last)
+    (subst (λ (ls : List LogLine). AreSound n moves ls) (sym firsts) are)
+    (subst (λ (ls : List LogLine). IsSoundLine n moves ls l) (sym firsts) sound))
 
 -- ---- verdicts
 

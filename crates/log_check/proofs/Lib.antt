@@ -1,3 +1,4 @@
+pub mod Alike
 pub mod PathNodes
 pub mod ValidLogs
 pub mod CitedLines

@@ -1,5 +1,6 @@
 -- What the checker has found out so far.
 use Rattle.std.specs.Prelude.{◌≡◌, ◌<◌, ◌≤◌, ◌+◌, ◌++◌, ℕ, List, [], ◌∷◌, length, All, AllPairs, Contains}
+use Rattle.std.specs.List.{AllZip}
 use Rattle.win_vectors.specs.Fronts.{Vector, HaveWidth, CoversAll}
 use Rattle.trick_rules.specs.Nodes.{NodeValue, child}
 use Rattle.log_check.specs.declared.lines.LogLine.{LogLine}
@@ -34,3 +35,15 @@ HaveChildWidths node path lines = (l : LogLine) (card : ℕ) → Contains lines 
 -- each of two lists covers the other
 abbrev pub CoverAlike : List Vector → List Vector → Type 0
 CoverAlike vs ws = CoversAll vs ws × CoversAll ws vs
+
+-- two lines alike: they differ at most in their vectors, which cover each other
+pub record SayAlike (one other : LogLine) : Type 0 where
+  pub rule : one.rule ≡ other.rule
+  pub path : one.path ≡ other.path
+  pub moves : one.moves ≡ other.moves
+  pub from : one.from ≡ other.from
+  pub vectors : CoverAlike one.vectors other.vectors
+
+-- so many lines, each like the one at its place
+abbrev pub SayAllAlike : List LogLine → List LogLine → Type 0
+SayAllAlike ones others = AllZip SayAlike ones others

@@ -3,6 +3,7 @@ ghost use Rattle.std.specs.Prelude.{◌≡◌, ◌↔◌, IfOk, IsTrue, length};
 ghost use Rattle.log_check.specs.Logs.{EndsAtRoot};
 ghost use Rattle.log_check.specs.LogVerdicts.{IsLogVerdict};
 
+use crate::best::{best_line, best_vectors};
 use crate::covering::covers_all;
 use crate::lines::{Log, LogLine};
 use crate::sound::is_sound;
@@ -33,12 +34,16 @@ pub fn check_log(
     ensures { IfOk result (IsLogVerdict node.now moves vectors.now log.now) }
 {
     let lines = log.as_slice();
+    let mut judged: Vec<LogLine> = Vec::new(alloc);
     for place in 0..lines.len() {
-        if !is_sound(alloc, node, moves, &lines[..place], &lines[place])? {
+        let line = best_line(alloc, &lines[place])?;
+        if !is_sound(alloc, node, moves, &judged, &line)? {
             return Ok(LogVerdict::No(place as u32 + 1));
         }
+        judged.push(line)?;
     }
-    if ends_at_root(vectors, lines) {
+    let best = best_vectors(alloc, vectors)?;
+    if ends_at_root(best.as_slice(), &judged) {
         Ok(LogVerdict::Yes)
     } else {
         Ok(LogVerdict::No(lines.len() as u32 + 1))

@@ -1,13 +1,12 @@
 //! What the lines of a defender's cards leave together.
 ghost use Rattle.std.specs.Prelude.{◌≡◌, ◌≤◌, ℕ, List, IfOk, length, map};
-ghost use Rattle.win_vectors.specs.Vectors.{most_layouts};
-ghost use Rattle.win_vectors.specs.Fronts.{HaveWidth};
 ghost use Rattle.trick_rules.specs.Nodes.{choices, child_mask};
 ghost use Rattle.strategy_games.specs.Joins.{joins};
 ghost use Rattle.log_check.specs.declared.lines.LogLine.{LogLine};
 ghost use Rattle.log_check.specs.Logs.{cited_lines, StandBehind};
 ghost use Rattle.log_check.specs.Steps.{AreNumbers, StandBehindSome, HaveChildWidths, CoverAlike};
 
+use crate::best::front_of;
 use crate::lines::LogLine;
 use front_join::joined_front;
 use pareto_fronts::Front;
@@ -45,21 +44,6 @@ pub fn joined_lines(
         let (child, mask) = node.child(alloc, cited.path.get(line.path.len()))?;
         let won = front_of(alloc, child.width(), cited.vectors.as_slice())?;
         front = joined_front(alloc, &front, &won, mask)?;
-    }
-    Ok(front)
-}
-
-/// The best vectors of a list.
-fn front_of(alloc: Global, width: u16, vectors: &[WinVector]) -> Result<Front, AllocError>
-    requires low { 1 ≤ width }
-    requires high { width ≤ most_layouts }
-    requires widths { HaveWidth width vectors.now }
-    ensures width { IfOk result (λ front. front.width ≡ width) }
-    ensures alike { IfOk result (λ front. CoverAlike vectors.now front.vectors) }
-{
-    let mut front = Front::new(alloc, width);
-    for vector in vectors {
-        front.insert(*vector)?;
     }
     Ok(front)
 }

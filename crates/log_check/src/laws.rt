@@ -1,12 +1,13 @@
 //! The laws of logs. A call does nothing: its contract is the law.
-ghost use Rattle.std.specs.Prelude.{◌≡◌, ℕ, List, Some, slice_get};
+ghost use Rattle.std.specs.Prelude.{◌≡◌, ◌↔◌, ℕ, List, Some, slice_get};
 ghost use Rattle.win_vectors.specs.Fronts.{Vector};
 ghost use Rattle.trick_rules.specs.Nodes.{NodeValue, IsNode};
 ghost use Rattle.strategy_games.specs.Plans.{IsBelow};
 ghost use Rattle.strategy_tree.specs.Bridge.{bridge};
 ghost use Rattle.log_check.specs.declared.lines.LogLine.{LogLine};
 ghost use Rattle.log_check.specs.declared.check.LogVerdict.{LogVerdict};
-ghost use Rattle.log_check.specs.Logs.{node_after, AreSound, IsValidLog};
+ghost use Rattle.log_check.specs.Logs.{node_after, AreSound, IsSoundLine, IsValidLog};
+ghost use Rattle.log_check.specs.Steps.{CoverAlike, SayAlike, SayAllAlike};
 ghost use Rattle.log_check.specs.LogVerdicts.{IsLogVerdict};
 
 /// No strategy wins a vector that the vectors proved by a valid log don't dominate.
@@ -29,4 +30,15 @@ pub fn one_log_verdict()
     ensures { (n : NodeValue) (moves : ℕ) (vectors : List Vector) (lines : List LogLine)
         (one other : LogVerdict) → IsLogVerdict n moves vectors lines one
         → IsLogVerdict n moves vectors lines other → one ≡ other }
+{}
+
+/// What a line's own vectors dominate changes nothing: a line is sound behind others exactly where
+/// one alike is behind others alike, and a log is valid exactly where one alike is.
+pub fn dominated_vectors_change_nothing()
+    ensures line { (n : NodeValue) (moves : ℕ) (earlier others : List LogLine)
+        (one other : LogLine) → SayAllAlike earlier others → SayAlike one other
+        → IsSoundLine n moves earlier one ↔ IsSoundLine n moves others other }
+    ensures log { (n : NodeValue) (moves : ℕ) (vectors best : List Vector)
+        (lines others : List LogLine) → CoverAlike vectors best → SayAllAlike lines others
+        → IsValidLog n moves vectors lines ↔ IsValidLog n moves best others }
 {}

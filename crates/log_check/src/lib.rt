@@ -4,6 +4,7 @@
 //! A log is accepted exactly where each of its lines is sound, and then no strategy wins more.
 #![tactic(auto)]
 
+mod best;
 mod check;
 mod cites;
 mod covering;

@@ -1,5 +1,5 @@
 //! A log in memory.
-ghost use Rattle.std.specs.Prelude.{◌≡◌, ◌<◌, ◌≤◌, ◌++◌, ◌∷◌, [], length, OnOk, OnErr};
+ghost use Rattle.std.specs.Prelude.{◌≡◌, ◌<◌, ◌≤◌, ◌++◌, ◌∷◌, [], length, IfOk, OnOk, OnErr};
 ghost use Rattle.log_check.specs.Limits.{most_lines};
 
 use std::alloc::{AllocError, Global};
@@ -45,6 +45,15 @@ impl LineList {
         }
     }
 
+    /// A list of these numbers. It takes no more memory than they need.
+    pub fn of(alloc: Global, numbers: &[u32]) -> Result<LineList, AllocError>
+        ensures { IfOk result (λ list. list ≡ numbers.now) }
+    {
+        Ok(LineList {
+            numbers: numbers.to_vec(alloc)?,
+        })
+    }
+
     /// Puts a number at the end. The list is unchanged where memory is wanted.
     pub fn push(&mut self, number: u32) -> Result<(), AllocError>
         ensures ok { OnOk result (self.new ≡ self.old ++ number ∷ []) }
@@ -85,6 +94,15 @@ impl VectorList {
         VectorList {
             vectors: Vec::new(alloc),
         }
+    }
+
+    /// A list of these vectors. It takes no more memory than they need.
+    pub fn of(alloc: Global, vectors: &[WinVector]) -> Result<VectorList, AllocError>
+        ensures { IfOk result (λ list. list ≡ vectors.now) }
+    {
+        Ok(VectorList {
+            vectors: vectors.to_vec(alloc)?,
+        })
     }
 
     /// Puts a vector at the end. The list is unchanged where memory is wanted.

@@ -9,7 +9,7 @@ pub record FrontValue : Type 0 where
   pub vectors : List Vector
   pub room : ℕ
 
--- so many vectors more fit without memory
+-- this many vectors more fit without memory
 abbrev pub HasSpareRoom : FrontValue → ℕ → Type 0
 HasSpareRoom f more = length f.vectors + more ≤ f.room
 

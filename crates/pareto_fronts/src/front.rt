@@ -42,7 +42,7 @@ impl Model for Front {
 }
 
 impl Front {
-    /// A front with no vector, for so many layouts.
+    /// A front with no vector, for `width` layouts.
     pub fn new(alloc: Global, width: u16) -> Front
         requires low { 1 ≤ width }
         requires high { width ≤ most_layouts }
@@ -125,7 +125,7 @@ impl Front {
         None
     }
 
-    /// Makes room for so many more vectors.
+    /// Makes room for `more` more vectors.
     pub fn reserve(&mut self, more: usize) -> Result<(), AllocError>
         ensures vectors { HaveSameVectors self.old self.new }
         ensures ok { OnOk result (HasSpareRoom self.new more) }
@@ -136,8 +136,8 @@ impl Front {
         self.vectors.reserve(more)
     }
 
-    /// Leaves the best of its vectors and of this one. The front is unchanged where memory is
-    /// wanted, which may be where there is no spare room.
+    /// Leaves the best of its vectors and of this one. If an allocation fails, which needs that
+    /// there is no spare room, the front is unchanged.
     pub fn insert(&mut self, vector: WinVector) -> Result<(), AllocError>
         requires { length vector ≡ self.old.width }
         ensures front { IsSoundFront self.new }
@@ -155,8 +155,8 @@ impl Front {
         Ok(())
     }
 
-    /// Leaves the best of the vectors of both fronts. The front is unchanged where memory is
-    /// wanted, which may be where its spare room is less than the other's length.
+    /// Leaves the best of the vectors of both fronts. If an allocation fails, which needs that the
+    /// spare room is less than the other's length, the front is unchanged.
     pub fn union(&mut self, other: &Front) -> Result<(), AllocError>
         requires { other.now.width ≡ self.old.width }
         ensures front { IsSoundFront self.new }
@@ -176,7 +176,7 @@ impl Front {
         Ok(())
     }
 
-    /// Puts a vector at the end, where the vectors with it are their own reduced list.
+    /// Puts a vector at the end. The vectors together with it must be their own reduced list.
     pub fn append(&mut self, vector: WinVector)
         requires width { length vector ≡ self.old.width }
         requires reduced { IsReduced (self.old.vectors ++ vector ∷ [])
@@ -223,7 +223,7 @@ impl Front {
         self.width = width;
     }
 
-    // Puts in a vector at its place, and takes out those that it dominates: they stand behind it.
+    // Puts a vector in at its place, and takes out those that it dominates, which come after it.
     fn put(&mut self, place: usize, vector: WinVector)
         requires same_width { length vector ≡ self.old.width }
         requires spare { HasSpareRoom self.old 1 }
@@ -248,7 +248,7 @@ fn is_covered(vectors: &[WinVector], vector: WinVector) -> bool
     vectors.iter().any(|mine| mine.dominates(vector))
 }
 
-// Takes out the vectors that this one dominates, which stand behind its place.
+// Takes out the vectors that this one dominates, which come after its place.
 fn remove_dominated(
     vectors: &mut SmallVec<WinVector, INLINE_VECTORS>,
     place: usize,
@@ -281,8 +281,8 @@ fn dominates_alike(vector: WinVector, mine: WinVector) -> bool
     vector.width() == mine.width() && vector.dominates(mine)
 }
 
-// Where a vector stands in an ordered list, if no vector of the list dominates it. Those that could
-// stand before it.
+// The place of a vector in an ordered list, if no vector of the list dominates it. Only those
+// before the place could.
 fn place_for(vectors: &[WinVector], vector: WinVector) -> Option<usize>
     requires widths { HaveWidth (length vector) vectors.now }
     requires ordered { AllPairs Precedes vectors.now }

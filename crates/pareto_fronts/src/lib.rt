@@ -1,8 +1,8 @@
-//! Fronts: the best win vectors that were found, in printing order, none of which dominates
+//! Pareto fronts: the best win vectors found so far, in printing order, none of which dominates
 //! another.
-//! It stands on `win_vectors`, and on `smallvec` for short lists that need no allocation.
-//! Each call leaves exactly the reduced list of what it was given, or on want of memory the front
-//! as it was.
+//! It builds on `win_vectors`, and on `smallvec` for short lists that need no allocation.
+//! Each call leaves exactly the reduced list of what it was given, or the front as it was if an
+//! allocation fails.
 #![tactic(auto)]
 
 mod front;

@@ -35,13 +35,13 @@ both_hands None right = None
 both_hands (Some left) None = None
 both_hands (Some left) (Some right) = Some (together left right)
 
--- the cards that the two defenders hold together: what is left of the pack where no card is missing, and otherwise their hands where both are shown
+-- the cards that the two defenders hold together: what is left of the pack if no card is missing, and otherwise their hands if both are shown
 abbrev pub unseen_in : DealValue → Compass → List ℕ → List ℕ → Option (List ℕ)
 unseen_in deal declarer own dummy =
     if length own == 13 then Some (cards_where (λ card. not (has_card own card) && not (has_card dummy card)))
     else both_hands (hand_at deal (compass_of declarer Left)) (hand_at deal (compass_of declarer Right))
 
--- the board before the first card, where the hands of declarer's side are shown
+-- the board before the first card, if the hands of declarer's side are shown
 abbrev pub dealt_of : GameValue → DealValue → Contract → Compass → Option (List ℕ) → Option (List ℕ) → Result BoardValue BoardRefusal
 dealt_of game deal contract declarer (Some own) (Some dummy) = do
   ending ← ending_read (line_named (codes "Deal") game) declarer contract (length own) (tag_named (codes "EndNeed") game) (tag_named (codes "EndLead") game)
@@ -68,11 +68,11 @@ is_led_wrongly board tag entries = list_any (λ e. is_some e.card) entries && no
 abbrev pub section_played : BoardValue → List Entry → Result (List Played) BoardRefusal
 section_played board entries = rows_played board.trump board.leader (tricks_of board) (first_course board) (rows_of entries)
 
--- the play of a board by these entries, where the tag names the seat that leads first
+-- the play of a board by these entries, if the tag names the seat that leads first
 abbrev pub entries_played : BoardValue → TagValue → List Entry → Result (List Played) BoardRefusal
 entries_played board tag entries = if is_led_wrongly board tag entries then Err (Fault tag.line PlayLeader) else section_played board entries
 
--- the play that the Play tag tells; none where there is no such tag
+-- the play that the Play tag tells; none if there is no such tag
 abbrev pub play_of : BoardValue → Option TagValue → Result (List Played) BoardRefusal
 play_of board None = Ok []
 play_of board (Some tag) = section_read tag.tokens >>= entries_played board tag
@@ -83,7 +83,7 @@ plays_in game board = play_of board (tag_named (codes "Play") game)
 
 -- ---- the whole
 
--- the fault of an inherited value where there is one, and else what was read
+-- the fault of an inherited value if there is one, and otherwise what was read
 abbrev pub unless_inherited : Option ℕ → Result BoardValue BoardRefusal → Result BoardValue BoardRefusal
 unless_inherited None board = board
 unless_inherited (Some line) board = Err (Fault line Inherited)

@@ -87,7 +87,7 @@ next_course trump course card = record {
   trick = next_trick trump course.trick card;
 }
 
--- declarer's and dummy's card is held at that moment, and follows suit where that hand can; nothing is known of a defender's card
+-- declarer's and dummy's card is held at that moment, and follows suit if that hand can; nothing is known of a defender's card
 abbrev pub IsFair : Course → Seat → ℕ → Type 0
 IsFair course Declarer card = has_card (legal_cards course.trick.cards course.declarer) card ≡ true
 IsFair course Left card = Unit {0}
@@ -148,6 +148,6 @@ pub record IsBoard (b : BoardValue) : Type 0 where
   pub fair : IsCourse b.trump (first_course b) b.plays
   pub short : length b.plays ≤ 4 * tricks_of b
 
--- the seat to play after the plays; none where the play is over
+-- the seat to play after the plays; none if the play is over
 abbrev pub turn_of : BoardValue → Option Seat
 turn_of b = if length b.plays == 4 * tricks_of b then None else Some (turn_in (trick_after b.trump (first_trick b) b.plays))

@@ -12,7 +12,7 @@ use Rattle.pbn_deal.specs.declared.deal.DealFault.{DealFault}
 use Rattle.pbn_deal.specs.declared.deal.DealFault.TheVariants.{Seat, HandCount, SuitCount, RankLetter, Repeated, Sizes}
 use Rattle.pbn_deal.specs.Hands.{has_four_suits, has_rank_letters, hand_cards, hand_read}
 
--- the seat whose letter stands at the front with a colon after it, and what follows the colon
+-- the seat whose letter and colon a value begins with, and what follows the colon
 abbrev pub seat_ahead : List ℕ → Option (Compass × List ℕ)
 seat_ahead [] = None
 seat_ahead (letter ∷ []) = None
@@ -53,7 +53,7 @@ hands_read first hands =
     else if not (are_one_size (shown_sizes (map hand_read hands))) then Err Sizes
     else Ok (record { hands = from_north first (map hand_read hands) })
 
--- what stands at the front, read on
+-- what a text begins with, read on
 abbrev pub seat_read : Option (Compass × List ℕ) → Result DealValue DealFault
 seat_read None = Err Seat
 seat_read (Some ahead) = hands_read ahead.0 (words ahead.1)
@@ -62,7 +62,7 @@ seat_read (Some ahead) = hands_read ahead.0 (words ahead.1)
 unfoldable pub deal_read : List ℕ → Result DealValue DealFault
 deal_read value = seat_read (seat_ahead (after_blanks value))
 
--- the hand of a seat; `None` where it isn't shown
+-- the hand of a seat; `None` if it isn't shown
 abbrev pub hand_at : DealValue → Compass → Option (List ℕ)
 hand_at deal seat = slice_index_or deal.hands (compass_place seat) None
 

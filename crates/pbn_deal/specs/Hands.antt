@@ -1,4 +1,4 @@
--- A hand in the Deal form: a dash where it isn't shown, or four suits with full stops between them.
+-- A hand in the Deal form: a dash if it isn't shown, or four suits with full stops between them.
 use Rattle.std.specs.Prelude.{ℕ, Bool, false, ◌||◌, ◌==◌, List, [], ◌∷◌, length, map, filter_map, flat_map, zip, Option, Some, None, is_some, if◌then◌else◌}
 use Rattle.std.specs.List.{slice_split, list_all}
 use Rattle.card_sets.specs.declared.card.Suit.{Suit}
@@ -41,10 +41,10 @@ suit_cards suit letters = map (card_of suit) (filter_map rank_read letters)
 abbrev pub cards_in : List Suit → List (List ℕ) → List ℕ
 cards_in suits parts = flat_map (λ part. suit_cards part.0 part.1) (zip suits parts)
 
--- the cards of a hand, as they are written; none where it isn't shown
+-- the cards of a hand, as they are written; none if it isn't shown
 unfoldable pub hand_cards : List ℕ → List ℕ
 hand_cards hand = if is_hidden hand then [] else cards_in suit_order (suits_of hand)
 
--- a hand as it is read: the set of its cards, or `None` where it isn't shown
+-- a hand as it is read: the set of its cards, or `None` if it isn't shown
 unfoldable pub hand_read : List ℕ → Option (List ℕ)
 hand_read hand = if is_hidden hand then None else Some (cards_where (has_card (hand_cards hand)))

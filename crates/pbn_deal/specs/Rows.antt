@@ -52,7 +52,7 @@ gap_line (entry ∷ rest) next =
 
 -- ---- cards
 
--- a card of declarer's side must be in its hand, and follow suit where the hand can
+-- a card of declarer's side must be in its hand, and follow suit if the hand can
 abbrev pub hand_fault : List ℕ → List ℕ → ℕ → Option BoardFault
 hand_fault trick hand card =
     if not (has_card hand card) then Some PlayNotHeld else if not (has_card (legal_cards trick hand) card) then Some PlayRevoke else None
@@ -61,19 +61,19 @@ hand_fault trick hand card =
 abbrev pub defender_fault : ℕ → Option BoardFault
 defender_fault tricks = if tricks == 0 then Some PlayNotHeld else None
 
--- what is wrong with a card of a seat, where so many tricks are left
+-- what is wrong with a card of a seat, with this many tricks left
 abbrev pub card_fault : ℕ → Course → Seat → ℕ → Option BoardFault
 card_fault tricks course Declarer card = hand_fault course.trick.cards course.declarer card
 card_fault tricks course Left card = defender_fault tricks
 card_fault tricks course Dummy card = hand_fault course.trick.cards course.dummy card
 card_fault tricks course Right card = defender_fault tricks
 
--- no more plays where there is no card yet, and else what is read with it
+-- no more plays if there is no card yet, and otherwise what is read with it
 abbrev pub if_card : Option ℕ → (ℕ → Result (List Played) BoardRefusal) → Result (List Played) BoardRefusal
 if_card None read = Ok []
 if_card (Some card) read = read card
 
--- a fault at this line where there is one, and else the plays
+-- a fault at this line if there is one, and otherwise the plays
 abbrev pub unless_board_fault : Option BoardFault → ℕ → Result (List Played) BoardRefusal → Result (List Played) BoardRefusal
 unless_board_fault None line plays = plays
 unless_board_fault (Some fault) line plays = Err (Fault line fault)
@@ -86,7 +86,7 @@ row_played trump tricks course (entry ∷ rest) =
     (λ card. unless_board_fault (card_fault tricks course (turn_in course.trick) card) entry.line
     (prepend (record { seat = turn_in course.trick; card = card } ∷ []) (row_played trump tricks (next_course trump course card) rest)))
 
--- a gap at this line where there is one, and else the plays
+-- a gap at this line if there is one, and otherwise the plays
 abbrev pub unless_gap : Option ℕ → Result (List Played) BoardRefusal → Result (List Played) BoardRefusal
 unless_gap None plays = plays
 unless_gap (Some line) plays = Err (Fault line PlayGap)

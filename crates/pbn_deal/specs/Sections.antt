@@ -37,7 +37,7 @@ is_skipped_mark Note = true
 is_skipped_mark (Card card) = false
 is_skipped_mark Other = false
 
--- neither a card nor anything else that may stand in the section
+-- neither a card nor anything else that the section may have
 abbrev pub is_other : Mark → Bool
 is_other End = false
 is_other Plus = false
@@ -77,7 +77,7 @@ section_of tokens = before_last_plus (filter (λ token. not (is_skipped_mark (ma
 abbrev pub entry_of : TokenValue → Entry
 entry_of token = record { card = card_marked (mark_of token.text); line = token.line }
 
--- a token that is no card where there is one, and else the entries
+-- a token that is no card if there is one, and otherwise the entries
 abbrev pub unless_other : Option TokenValue → List Entry → Result (List Entry) BoardRefusal
 unless_other None entries = Ok entries
 unless_other (Some token) entries = Err (Fault token.line PlayCard)
@@ -91,6 +91,6 @@ abbrev pub prepend : {A E : Type 0} → List A → Result (List A) E → Result 
 prepend front (Ok rest) = Ok (front ++ rest)
 prepend front (Err refusal) = Err refusal
 
--- a refusal that may be given where this is to be read: want of memory, or the refusal of what is read
+-- a refusal that may come in place of this reading: a failed allocation, or the refusal of what is read
 abbrev pub IsRefusalOf : {A : Type 0} → Result A BoardRefusal → BoardRefusal → Type 0
 IsRefusalOf expected refusal = (refusal ≡ Memory) ⊎ (expected ≡ Err refusal)

@@ -83,7 +83,7 @@ past_letter letter (byte ∷ rest) = if is_letter letter byte then rest else byt
 abbrev pub is_risk : List ℕ → Bool
 is_risk text = length (after_blanks (past_letter 88 (past_letter 88 text))) == 0
 
--- these trumps, where nothing follows but X, XX and blanks
+-- these trumps, if nothing follows but X, XX and blanks
 abbrev pub if_risk : Trump → List ℕ → Option Trump
 if_risk trump text = if is_risk text then Some trump else None
 
@@ -132,7 +132,7 @@ need_read (tens ∷ ones ∷ []) =
     if is_ascii_digit tens && is_ascii_digit ones && nat_le (10 * (tens - 48) + (ones - 48)) 13 then Some (10 * (tens - 48) + (ones - 48)) else None
 need_read _ = None
 
--- the need and the first leader: by both tags of an ending, or by the contract where there is neither and no card is missing
+-- the need and the first leader: by both tags of an ending, or by the contract if there is neither and no card is missing
 abbrev pub ending_read : ℕ → Compass → Contract → ℕ → Option TagValue → Option TagValue → Result Ending BoardRefusal
 ending_read line declarer contract tricks None None =
     if tricks == 13 then Ok (record { need = contract.level + 6; leader = Left }) else Err (Fault line EndTags)

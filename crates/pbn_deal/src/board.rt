@@ -44,7 +44,7 @@ pub fn seat_of(declarer: Compass, place: Compass) -> Seat
 /// A sound board: hands, need, leader and unseen cards are those before the first played card.
 ///
 /// The need is the tricks that declarer's side must take, 0 to 13. The unseen cards are those that
-/// the two defenders hold together, `None` where the file doesn't tell them.
+/// the two defenders hold together, `None` if the file doesn't tell them.
 #[derive(Debug, Drop)]
 pub struct Board {
     declarer: Compass,
@@ -173,7 +173,7 @@ impl Board {
         self.dummy_hand
     }
 
-    /// The cards that the two defenders held together before the first played card, where the file
+    /// The cards that the two defenders held together before the first played card, if the file
     /// tells them.
     pub fn unseen(&self) -> Option<CardSet>
         ensures value { result ≡ self.now.unseen }
@@ -190,7 +190,7 @@ impl Board {
         &self.plays
     }
 
-    /// The seat to play after the plays: `None` exactly where the play is over. It takes no memory.
+    /// The seat to play after the plays: `None` exactly when the play is over. It takes no memory.
     pub fn turn(&self) -> Option<Seat>
         ensures { result ≡ turn_of self.now }
     {

@@ -1,4 +1,4 @@
-//! The course of play, as far as the hands of declarer's side tell it.
+//! The course of play, seen from the hands of declarer's side alone.
 ghost use Rattle.std.specs.Prelude.{◌≡◌, ◌<◌, length};
 ghost use Rattle.pbn_deal.specs.Boards.{next_course};
 

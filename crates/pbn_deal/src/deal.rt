@@ -18,7 +18,7 @@ pub struct DealValue {
 }
 
 impl DealValue {
-    /// The hand of a seat; `None` where it isn't shown.
+    /// The hand of a seat; `None` if it isn't shown.
     pub fn hand(&self, seat: Compass) -> Option<CardSet>
         ensures { result ≡ hand_at self.now seat }
     {
@@ -34,7 +34,7 @@ impl DealValue {
 /// What is wrong with a value in the Deal form: the first fault in this order.
 #[derive(Clone, Copy, Debug, PartialEq, Eq, Error)]
 pub enum DealFault {
-    /// No seat letter with a colon after it stands at the front.
+    /// The value doesn't begin with a seat letter and a colon.
     #[error("no seat letter with a colon after it stands at the front")]
     Seat,
     /// The number of hands isn't four.
@@ -54,7 +54,7 @@ pub enum DealFault {
     Sizes,
 }
 
-// The seat whose letter stands at the front with a colon after it, and what follows the colon.
+// The seat whose letter and colon a value begins with, and what follows the colon.
 fn seat_ahead(text: &[u8]) -> Option<(Compass, &[u8])>
     ensures { option_map (λ found. (found.0, found.1.now)) result ≡ seat_ahead text.now }
 {
@@ -64,7 +64,7 @@ fn seat_ahead(text: &[u8]) -> Option<(Compass, &[u8])>
     }
 }
 
-// The words of a text, where it has four.
+// The words of a text, if there are four.
 fn four_words(text: &[u8]) -> Option<FourHands<'_>>
     ensures { MatchOption result ((length (words text.now) == 4) ≡ false)
         (λ found. words text.now ≡ hands_of found) }
@@ -144,10 +144,10 @@ fn hands_of_value(value: &[u8]) -> Result<DealValue, DealFault>
 /// The hands of a value in the Deal form: a seat letter, a colon, and four hands clockwise from
 /// that seat with blanks between them.
 ///
-/// A hand is `-` where it isn't shown, or its suits in the order spades, hearts, diamonds, clubs,
-/// with full stops between them. Letters are read in both cases, ranks in any order, and blanks at
-/// both ends don't count. Where the value has several faults, the first in the order of `DealFault`
-/// is given. It takes no memory.
+/// A hand is `-` if it isn't shown, or its suits in the order spades, hearts, diamonds, clubs, with
+/// full stops between them. Letters are read in both cases, ranks in any order, and blanks at both
+/// ends don't count. If the value has several faults, the first in the order of `DealFault` is
+/// given. It takes no memory.
 pub fn read_deal(value: &[u8]) -> Result<DealValue, DealFault>
     ensures value { result ≡ deal_read value.now }
     ensures sound { IfOk result IsSoundDeal }

@@ -100,8 +100,7 @@ impl Dealer {
         Ok(full)
     }
 
-    // The hand that a word shows; `Repeated` where a card of it was seen before or stands twice in
-    // it.
+    // The hand that a word shows; `Repeated` if a card of it was seen before or is in it twice.
     fn hand(&mut self, word: &[u8]) -> Result<Option<CardSet>, DealFault>
         ensures { MatchResult result
             (λ hand. (hand ≡ hand_read word.now)
@@ -153,7 +152,7 @@ impl FourHands<'_> {
             && has_rank_letters(self.fourth)
     }
 
-    /// The hands as sets; `Repeated` where a card stands twice in them.
+    /// The hands as sets; `Repeated` if a card is in them twice.
     pub fn deal(&self) -> Result<[Option<CardSet>; 4], DealFault>
         ensures { MatchResult result
             (λ hands. (hands ≡ map hand_read (hands_of self.now))

@@ -1,8 +1,7 @@
-//! The Deal form, and a deal file's game as a board: the deal, the contract and the play so far.
-//! It stands on `pbn_text` for games, on `card_letters` and `card_sets` for hands, and on
-//! `trick_rules` for the laws of play.
-//! Its contract promises that a value or a game is read as the grammar says or refused with its
-//! first fault, and that what is written is read back.
+//! The Deal form, and a deal file's game as a board: the deal, the contract and the play so far. It
+//! builds on `pbn_text` for games, on `card_letters` and `card_sets` for hands, and on
+//! `trick_rules` for the laws of play. Its contract promises that a value or a game is read as the
+//! grammar says or refused with its first fault, and that what is written is read back.
 #![tactic(auto)]
 
 mod board;

@@ -12,7 +12,7 @@ use card_sets::Card;
 pub enum Mark {
     /// `*`: the section ends.
     End,
-    /// `+`: a card not yet played where a card follows, and otherwise the end of the section.
+    /// `+`: a card not yet played if a card follows, and otherwise the end of the section.
     Plus,
     /// `-`: a card not yet played.
     Gap,
@@ -58,7 +58,7 @@ fn card_of(text: &[u8]) -> Option<Card>
     }
 }
 
-/// What a token of the Play section says, by its bytes as they stand in the file.
+/// What a token of the Play section says, by its bytes in the file.
 #[tactic(auto, unfolding(crate::specs::Marks::mark_of))]
 pub fn read_mark(text: &[u8]) -> Mark
     ensures { result ≡ mark_of text.now }

@@ -40,7 +40,7 @@ fn pack_without(own: CardSet, dummy: CardSet) -> CardSet
     CardSet::pack().minus(own).minus(dummy)
 }
 
-// The cards that the two defenders hold together, where the deal tells them.
+// The cards that the two defenders hold together, if the deal tells them.
 fn unseen_cards(
     deal: &DealValue,
     declarer: Compass,

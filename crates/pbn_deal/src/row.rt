@@ -32,7 +32,7 @@ fn entry_at(entries: &[Entry], place: usize, line: u32) -> Entry
     }
 }
 
-// The first row of entries, filled up where it has fewer than four, and the entries after it.
+// The first row of entries, filled up if it has fewer than four, and the entries after it.
 #[tactic(auto, using(crate::proofs::RowSteps::rows_of_split))]
 fn split_row(entries: &[Entry]) -> ([Entry; 4], &[Entry])
     requires { 0 < length entries.now }
@@ -96,7 +96,7 @@ fn hand_fault(trick: &Trick, hand: CardSet, card: Card) -> Option<BoardFault>
     }
 }
 
-// What is wrong with a card of a seat, where so many tricks are left.
+// What is wrong with a card of a seat, with this many tricks left.
 fn card_fault(tricks: u8, course: &Course, seat: Seat, card: Card) -> Option<BoardFault>
     ensures { result ≡ card_fault tricks course.now seat card }
 {
@@ -143,8 +143,8 @@ fn play_row(
     Ok(plays)
 }
 
-/// The play that the entries of a section tell by rows, or the first fault. The course is that
-/// before the first card, the seat is the one that leads first, and so many tricks are to be
+/// The play that the entries of a section give row by row, or the first fault. The course is the
+/// one before the first card, the seat is that of the first leader, and `tricks` tricks are to be
 /// played.
 pub fn play_rows(
     alloc: Global,

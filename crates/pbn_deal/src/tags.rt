@@ -221,8 +221,8 @@ fn end_tags(line: u32) -> BoardRefusal
     }
 }
 
-/// The need and the first leader, by the tags EndNeed and EndLead, or by the contract where there
-/// is neither and the hands have 13 cards. The line is that of the Deal tag.
+/// The need and the first leader, by the tags EndNeed and EndLead, or by the contract if there is
+/// neither and the hands have 13 cards. The line is that of the Deal tag.
 pub fn read_ending(
     line: u32,
     declarer: Compass,

@@ -1,4 +1,4 @@
--- Games as they are written: lines with what stands in them, and lines of blanks between them.
+-- Games as they are written: lines with what is in them, and lines of blanks between them.
 use Rattle.std.specs.Prelude.{◌≡◌, ◌⊎◌, ℕ, Bool, ◌==◌, List, [], ◌∷◌, ◌++◌, flat_map, codes, if◌then◌else◌}
 use Rattle.std.specs.List.{list_any}
 use Rattle.byte_text.specs.Lines.{line_of}
@@ -11,7 +11,7 @@ pub record PlainTag : Type 0 where
   pub before_value : List ℕ
   pub before_end : List ℕ
 
--- what stands in a line: a blank, a tag pair, a word, the characters of a string, or the text of a comment in braces
+-- what is in a line: a blank, a tag pair, a word, the characters of a string, or the text of a comment in braces
 pub data PlainItem : Type 0 where
   blank : ℕ → PlainItem
   tag_pair : PlainTag → PlainItem
@@ -19,7 +19,7 @@ pub data PlainItem : Type 0 where
   quoted : List ℕ → PlainItem
   comment : List ℕ → PlainItem
 
--- a line: what stands in it; the same, and a comment after a semicolon; or what follows a percent sign
+-- a line: what is in it; the same, and a comment after a semicolon; or what follows a percent sign
 pub data PlainLine : Type 0 where
   items_line : List PlainItem → PlainLine
   commented : List PlainItem → List ℕ → PlainLine

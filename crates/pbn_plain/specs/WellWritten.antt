@@ -5,23 +5,23 @@ use Rattle.byte_text.specs.Blanks.{is_blank}
 use Rattle.byte_text.specs.Lines.{is_line_end}
 use Rattle.pbn_plain.specs.PlainText.{PlainTag, PlainItem, blank, tag_pair, word, quoted, comment, PlainLine, items_line, commented, skipped, PlainGroup, is_one_of, item_text}
 
--- a byte that may stand in a text: from a space on, or a tab, a line feed, a vertical tab or a carriage return
+-- a byte that a text may have: from a space on, or a tab, a line feed, a vertical tab or a carriage return
 abbrev pub is_text_byte : ℕ → Bool
 is_text_byte byte = nat_le 32 byte || is_one_of (codes "\t\n\u{b}\r") byte
 
--- a byte that may stand in a line
+-- a byte that a line may have
 abbrev pub is_line_byte : ℕ → Bool
 is_line_byte byte = is_text_byte byte && not (is_line_end byte)
 
--- a byte that may stand in a word
+-- a byte that a word may have
 abbrev pub is_word_byte : ℕ → Bool
 is_word_byte byte = is_text_byte byte && not (is_one_of (codes " \t\r\n[{;\"") byte)
 
--- a byte that may stand in a comment in braces
+-- a byte that a comment in braces may have
 abbrev pub is_comment_byte : ℕ → Bool
 is_comment_byte byte = is_text_byte byte && not (is_one_of (codes "}") byte)
 
--- a byte that may stand in a name
+-- a byte that a name may have
 abbrev pub is_name_letter : ℕ → Bool
 is_name_letter byte = is_one_of (codes "ABCDEFGHIJKLMNOPQRSTUVWXYZabcdefghijklmnopqrstuvwxyz0123456789_") byte
 

@@ -1,5 +1,6 @@
-//! Games as a person writes them down, line by line, and that they are read back as they stand.
-//! It stands on `pbn_text`, whose grammar goes the way of a scanner.
+//! Games as a person writes them down, line by line, and the law that they are read back as they
+//! were written.
+//! It builds on `pbn_text`, whose grammar goes the way of a scanner.
 //! Definitions and a law alone: a misreading that grammar and reader share would break it.
 #![tactic(auto)]
 

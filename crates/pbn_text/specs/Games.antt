@@ -1,4 +1,4 @@
--- What a PBN text says: games, their tags, and the tokens that stand below a tag.
+-- What a PBN text says: games, their tags, and the tokens below a tag.
 use Rattle.std.specs.Prelude.{ℕ, List}
 
 -- a token, and the line on which it begins

@@ -41,7 +41,7 @@ game_of group = record { tags = tags_of group }
 abbrev pub has_tag : GameValue → Bool
 has_tag game = nat_lt 0 (length game.tags)
 
--- the first fault of a text, with its line, where a tag pair stands before it in its game or not
+-- the first fault of a text, with its line, whether its game has a tag pair before it or not
 abbrev pub first_fault : Bool → List Piece → Option (ℕ × Syntax)
 first_fault has_tag_before [] = None
 first_fault has_tag_before (passed ∷ rest) = first_fault has_tag_before rest
@@ -54,16 +54,16 @@ first_fault has_tag_before (fault line kind ∷ rest) = Some (line, kind)
 unfoldable pub games_in : List Piece → List GameValue
 games_in text = filter has_tag (map game_of (slice_split is_game_end text))
 
--- the first fault where there is one, and else what was read
+-- the first fault if there is one, and otherwise what was read
 abbrev pub or_fault : {A : Type 0} → Option (ℕ × Syntax) → A → Result A (ℕ × Syntax)
 or_fault None value = Ok value
 or_fault (Some found) value = Err found
 
--- a byte that stands in no text: 0 to 8, 12, and 14 to 31
+-- a byte that no text may have: 0 to 8, 12, and 14 to 31
 abbrev pub is_no_text : ℕ → Bool
 is_no_text byte = nat_le byte 8 || byte == 12 || (nat_le 14 byte && nat_le byte 31)
 
--- the line of the first byte that stands in no text
+-- the line of the first byte that no text may have
 unfoldable pub no_text_fault : List ℕ → Option (ℕ × Syntax)
 no_text_fault bytes =
     let place = position_or_len is_no_text bytes in
@@ -85,6 +85,6 @@ abbrev pub unless_fault : Option (ℕ × Syntax) → Result (List GameValue) (�
 unless_fault None read = read
 unless_fault (Some found) read = Err found
 
--- the games of a file, or its first fault with its line; a byte that stands in no text comes before all other faults
+-- the games of a file, or its first fault with its line; a byte that no text may have comes before all other faults
 unfoldable pub games_read : List ℕ → Result (List GameValue) (ℕ × Syntax)
 games_read bytes = unless_fault (no_text_fault bytes) (text_read (without_mark bytes))

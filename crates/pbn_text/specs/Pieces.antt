@@ -66,7 +66,7 @@ named_tag line [] text = ahead_of (fault line BadTag) []
 named_tag line (byte ∷ bytes) [] = ahead_of (fault line BadTag) []
 named_tag line (byte ∷ bytes) (quote ∷ text) = if quote == 34 then quoted_tag line (byte ∷ bytes) text (string_len text) else ahead_of (fault line BadTag) []
 
--- a byte that stands in no name
+-- a byte that no name may have
 abbrev pub ends_name : ℕ → Bool
 ends_name byte = not (is_name_byte byte)
 

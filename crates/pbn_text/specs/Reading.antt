@@ -16,7 +16,7 @@ use Rattle.byte_text.specs.Lines.{is_line_end}
 use Rattle.pbn_text.specs.Games.{TokenValue, TagValue, GameValue}
 use Rattle.pbn_text.specs.Grammar.{has_tag}
 
--- what was found, without where it lies in memory
+-- what was found, whatever its place in memory
 abbrev pub piece_of : Item → Piece
 piece_of items.Passed = passed
 piece_of items.GameEnd = game_end
@@ -56,7 +56,7 @@ with_token pair more = record pair { tokens = pair.tokens ++ more ∷ [] }
 abbrev pub open_tags : List TagValue → Option TagValue → List TagValue
 open_tags tags last = tags ++ option_to_list last
 
--- games with one more, where it has a tag pair
+-- games with one more, if it has a tag pair
 abbrev pub with_game : List GameValue → List TagValue → List GameValue
 with_game games tags = if has_tag (record { tags = tags }) then games ++ record { tags = tags } ∷ [] else games
 
@@ -84,7 +84,7 @@ abbrev pub Closes : Collector → Collector → Result (Unit {0}) TextFault → 
 Closes old new (Ok done) = (new.games.items ≡ old.games.items) × (new.tags.items ≡ open_tags old.tags.items old.last) × (new.last ≡ None)
 Closes old new (Err reason) = reason ≡ faults.Memory
 
--- the game was put to the others, where it has a tag pair; else memory ran out
+-- the game was added to the others, if it has a tag pair; otherwise memory ran out
 abbrev pub Ends : Collector → Collector → Result (Unit {0}) TextFault → Type 0
 Ends old new (Ok done) =
     (new.games.items ≡ with_game old.games.items (open_tags old.tags.items old.last)) × (new.tags.items ≡ []) × (new.last ≡ None)

@@ -1,7 +1,7 @@
 -- Strings: characters between two quotes on one line, in which a backslash takes the next character as it stands.
 use Rattle.std.specs.Prelude.{ℕ, ◌+◌, List, [], ◌∷◌, Option, Some, None, option_map, ◌==◌, if◌then◌else◌}
 
--- how many bytes stand after an opening quote up to the closing quote, which is counted; `None` where the line ends before it
+-- how many bytes follow an opening quote up to the closing quote, which is counted; `None` if the line ends before it
 unfoldable pub string_len : List ℕ → Option ℕ
 string_len [] = None
 string_len (byte ∷ []) = if byte == 34 then Some 1 else None

@@ -91,7 +91,7 @@ impl Collector {
         }
     }
 
-    /// The games, where nothing is left to read.
+    /// The games, if nothing is left to read.
     pub fn into_games(self, alloc: Global) -> Result<Vec<Game>, TextFault>
         ensures { GivesGames result (games_after self []) }
     {

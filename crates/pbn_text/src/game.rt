@@ -6,7 +6,7 @@ use std::marker::Model;
 /// A string, or a run of bytes without blanks.
 #[derive(Debug, Drop)]
 pub struct Token {
-    /// The bytes as they stand in the file, a string's quotes and backslashes among them.
+    /// The bytes as they are in the file, with a string's quotes and backslashes.
     pub text: Text,
     /// The line on which it begins, from 1.
     pub line: u32,

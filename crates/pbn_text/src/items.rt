@@ -10,7 +10,7 @@ use crate::scan::{is_blank_line, name_len, past_line, place_of, string_len, toke
 use byte_text::{Text, skip_blanks};
 use std::alloc::Global;
 
-/// What stands at the front of a text.
+/// What a text begins with.
 #[derive(Debug, Drop)]
 pub enum Item {
     /// A blank, the end of a line, a comment or a line that is skipped.

@@ -1,7 +1,6 @@
-//! PBN text: bytes as games of tag pairs and tokens.
-//! It stands on `byte_text`, whose texts hold what was read.
-//! Its contract promises that what the grammar accepts is read as the grammar says, and that all
-//! else is refused with the first fault and its line.
+//! PBN text: bytes as games of tag pairs and tokens. It builds on `byte_text`, whose texts hold
+//! what was read. Its contract promises that what the grammar accepts is read as the grammar says,
+//! and that all else is refused with the first fault and its line.
 #![tactic(auto)]
 
 mod collector;

@@ -8,7 +8,7 @@ use crate::scan::ends_line;
 use byte_text::count_line_ends;
 use std::alloc::Global;
 
-/// A text that is being read: what is left of it, and where that begins.
+/// A text that is being read: what is left of it, and at what line that begins.
 #[derive(Debug, Drop)]
 pub struct Reader<'a> {
     /// Whether what is left begins a line.

@@ -12,7 +12,7 @@ use crate::reader::Reader;
 use byte_text::line_number;
 use std::alloc::Global;
 
-// How many bytes stand before the first that stands in no text.
+// How many bytes come before the first that no text may have.
 fn text_len(bytes: &[u8]) -> usize
     ensures len { result ≡ position_or_len is_no_text bytes.now }
     ensures inside { result ≤ length bytes.now }
@@ -23,7 +23,7 @@ fn text_len(bytes: &[u8]) -> usize
         .unwrap_or(bytes.len())
 }
 
-// The line of the first byte that stands in no text.
+// The line of the first byte that no text may have.
 #[tactic(auto, unfolding(crate::specs::Grammar::no_text_fault))]
 fn no_text_line(bytes: &[u8]) -> Option<u32>
     requires { length bytes.now < 2 ^ 32 - 1 }
@@ -50,9 +50,9 @@ fn without_mark(bytes: &[u8]) -> &[u8]
 /// The games of a file of PBN text, in the order of the file.
 ///
 /// A UTF-8 byte order mark at the front, lines that begin with `%` and comments are passed over,
-/// and a line of blanks alone ends a game. A tag name may stand twice in a game: both tag pairs are
-/// given. A file at fault is refused with its first fault in reading order and the line where that
-/// begins; `NotText` comes before all others.
+/// and a line of blanks alone ends a game. A game may have the same tag name twice: both tag pairs
+/// are given. A file at fault is refused with its first fault in reading order and the line at
+/// which that fault begins; `NotText` comes before all others.
 #[tactic(auto, unfolding(crate::specs::Grammar::games_read))]
 pub fn games(alloc: Global, bytes: &[u8]) -> Result<Vec<Game>, TextFault>
     requires { length bytes.now < 2 ^ 32 - 1 }
@@ -68,7 +68,7 @@ pub fn games(alloc: Global, bytes: &[u8]) -> Result<Vec<Game>, TextFault>
     read_text(alloc, without_mark(bytes))
 }
 
-// The games of a text whose bytes all may stand in a text.
+// The games of a text that has only bytes that a text may have.
 fn read_text(alloc: Global, text: &[u8]) -> Result<Vec<Game>, TextFault>
     requires { length text.now < 2 ^ 32 - 1 }
     ensures read { GivesGames result (text_read text.now) }

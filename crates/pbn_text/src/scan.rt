@@ -37,7 +37,7 @@ pub fn ends_line(bytes: &[u8]) -> bool
     matches!(bytes, [.., b'\n'])
 }
 
-/// How many letters, digits and underscores stand at the front.
+/// How many letters, digits and underscores a text begins with.
 pub fn name_len(text: &[u8]) -> usize
     ensures len { result ≡ position_or_len ends_name text.now }
     ensures inside { result ≤ length text.now }

@@ -12,7 +12,7 @@ use std::alloc::{AllocError, Global};
 use trick_rules::Node;
 use win_vectors::WinVector;
 
-/// The front of a node with so many moves of declarer's side, in printing order. It goes through
+/// The front of a node with `moves` moves of declarer's side, in printing order. It goes through
 /// the whole tree.
 #[cycle(front)]
 pub fn plain_front(alloc: Global, node: &Node, moves: u8) -> Result<Front, AllocError>

@@ -60,7 +60,7 @@ is_free : (plan : TablePlan) (k word : ℕ) (home : Option (Option E)) (views : 
 is_free plan k word home views zero_word (inl h) = h.1
 is_free plan k word home views zero_word (inr h) = absurd (let e = h.0 in omega arith)
 
-pub takes_turn : (plan : TablePlan) (slots id i : ℕ) (m : Sat) → i < plan.shards → m.0.plan ≡ plan → length m.0.shards ≡ plan.shards → IsOut m.0
+pub takes_turn : (plan : TablePlan) (slots id i : ℕ) (m : Sat) → i < plan.shards → m.0.plan ≡ plan → length m.0.shards ≡ plan.shards → (seen_at i m.0).inside ≡ false
     → Allows (IsSharded plan) slots id m i (λ n. either (n == 0) 1 n) (took (step slots i 0 1 none) m)
 takes_turn plan slots id i m inside of_plan all out s h homes at fits =
     let word = slice_index s.words i in
@@ -91,7 +91,7 @@ takes_turn plan slots id i m inside of_plan all out s h homes at fits =
       tt,
       touched plan s h i word id m.0 w s.homes at (λ k ne. changed_else i k _ m.0 ne) refl (λ k ne. refl)
           (λ _. subst (λ x. IsOneShard plan i word (get_elem? s.homes i) (set (map (seen_at i) s.views) id x)) (sym now)
-          (change_one plan i word (get_elem? s.homes i) (map (seen_at i) s.views) id id (seen_at i m.0) (seen_at i m.0) _ mine mine (out i).0 (out i).0
+          (change_one plan i word (get_elem? s.homes i) (map (seen_at i) s.views) id id (seen_at i m.0) (seen_at i m.0) _ mine mine out out
           (λ list o _. (o.0, o.1, prefix_none list)) one)),
       ((λ e. absurd (busy e)), (λ _. (refl, refl))),
     ))

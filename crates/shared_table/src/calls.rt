@@ -11,7 +11,7 @@ use pareto_fronts::Front;
 use trick_rules::Node;
 
 impl SharedTable {
-    /// Looks for the front of a node with so many moves in the list of its shard. A hit leaves it
+    /// Looks for the front of a node with `moves` moves in the list of its shard. A hit leaves it
     /// in `out`. It takes no memory and doesn't wait.
     pub fn look(&self, pass: &mut Pass, node: &Node, moves: u8, out: &mut Front) -> Look
         requires pass { IsPassOf self.now pass.old }

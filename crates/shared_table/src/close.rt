@@ -1,13 +1,15 @@
 //! How a table is closed.
-ghost use Rattle.std.specs.Prelude.{◌≡◌, ◌<◌, false, slice_set, slice_index_or, IfOk, IsTrue};
-ghost use Rattle.std.specs.Slots.{slots_items, slots_filled, slots_len, IsFull};
-ghost use Rattle.shared_table.specs.Passes.{IsPassOf, table_plan};
-ghost use Rattle.shared_table.specs.Ends.{AreEnds, IsEndIn};
+ghost use Rattle.std.specs.Prelude.{◌≡◌, ◌<◌, false, IfOk, OnErr};
+ghost use Rattle.shared_table.specs.Shards.{seen_at};
+ghost use Rattle.shared_table.specs.Passes.{IsPassOf, IsSeatAt, table_id_of, table_plan, view_of};
+ghost use Rattle.shared_table.specs.Passes.{OthersStay};
+ghost use Rattle.shared_table.specs.Ends.{AreEnds, IsEndOf};
 
+use crate::rule::{TableView, Takes};
 use crate::{Pass, SharedTable};
-use atomic_table::Closed;
+use atomic_table::Seat;
 use front_table::Entries;
-use std::alloc::{AllocError, Global};
+use std::alloc::AllocError;
 
 /// How a shard ended.
 #[derive(Drop)]
@@ -24,43 +26,42 @@ pub struct ClosedTable {
     pub shards: Vec<ShardEnd>,
 }
 
-// How a shard ended, by its word and its slot.
-fn end_of(closed: &mut Closed<Entries, Global>, shard: usize) -> ShardEnd
-    requires words { (shard < slots_len closed.old.words) × IsFull closed.old.words }
-    requires slots { (shard < slots_len closed.old.slots)
-        × IsTrue (slice_index_or (slots_filled closed.old.slots) shard false) }
-    ensures end { IsEndIn (slots_items closed.old.words) (slots_items closed.old.slots) shard
-        result }
-    ensures words { closed.new.words ≡ closed.old.words }
-    ensures slots { (slots_items closed.new.slots ≡ slots_items closed.old.slots)
-        × (slots_len closed.new.slots ≡ slots_len closed.old.slots) }
-    ensures taken { slots_filled closed.new.slots
-        ≡ slice_set (slots_filled closed.old.slots) shard false }
-{
-    let word = closed.word(shard);
-    let list = closed.take(shard);
-    if word == 0 {
-        ShardEnd::Home(list)
-    } else {
-        ShardEnd::Held
-    }
-}
-
 impl SharedTable {
-    /// How each shard ended. Where memory is wanted, the table is dropped.
-    pub fn close(self, pass: Pass) -> Result<ClosedTable, AllocError>
-        requires pass { IsPassOf self pass }
-        ensures ends { IfOk result (λ closed. AreEnds (table_plan self) pass closed.shards.items) }
+    // Takes the list of a shard, if nobody has its turn. The turn isn't given back.
+    fn take_list(&self, seat: &mut Seat<Entries, TableView>, shard: u32) -> ShardEnd
+        requires seat { IsSeatAt (table_id_of self.now) (table_plan self.now) seat.old }
+        requires shard { shard < (table_plan self.now).shards }
+        requires outside { (seen_at shard seat.old.me.0).inside ≡ false }
+        ensures seat { IsSeatAt (table_id_of self.now) (table_plan self.now) seat.new }
+        ensures end { IsEndOf (table_plan self.now) shard (seen_at shard seat.old.me.0)
+            (seen_at shard seat.new.me.0) result }
+        ensures others { OthersStay shard seat.old.me.0 seat.new.me.0 }
     {
-        let SharedTable { table, plan, alloc } = self;
-        let mut shards = Vec::with_capacity(alloc, plan.shards as usize)?;
-        let Pass { seat } = pass;
-        let mut closed = table.close_with(seat);
-        for shard in 0..plan.shards as usize {
-            // There is room, so this can't fail.
-            let _ = shards.push(end_of(&mut closed, shard));
+        let table = &self.table.shared;
+        let place = shard as usize;
+        let found = table.compare_exchange::<Takes>(seat, place, 0, 1);
+        if found == 0 {
+            ShardEnd::Home(table.exchange(seat, place, Entries::new(self.alloc)))
+        } else {
+            ShardEnd::Held
         }
-        closed.free();
+    }
+
+    /// How each shard ended: the list that it has at this call, or that another pass is inside. The
+    /// pass counts which, as a look does. If an allocation fails, the table is dropped.
+    pub fn close(self, pass: &mut Pass) -> Result<ClosedTable, AllocError>
+        requires pass { IsPassOf self pass.old }
+        ensures ends { IfOk result (λ closed. AreEnds (table_plan self) (view_of pass.old)
+            (view_of pass.new) closed.shards.items) }
+        ensures refused { OnErr result (pass.new ≡ pass.old) }
+    {
+        let count = self.plan.shards;
+        let mut shards = Vec::with_capacity(self.alloc, count as usize)?;
+        for shard in 0..count {
+            let end = self.take_list(&mut pass.seat, shard);
+            // There is room, so this can't fail.
+            let _ = shards.push(end);
+        }
         Ok(ClosedTable { shards })
     }
 }

@@ -1,5 +1,5 @@
 //! A table of proven fronts that several threads share.
-//! It stands on `front_table` and `atomic_table`.
+//! It builds on `front_table` and `atomic_table`.
 //! Each answer is exactly that of one list, which only grows, whatever the other threads do.
 #![tactic(auto)]
 

@@ -21,7 +21,7 @@ fn empty_lists(alloc: Global, count: u32) -> Result<Vec<Entries>, AllocError>
 }
 
 impl SharedTable {
-    /// A table of so many shards, each with room for so many entries and no entry yet, and the
+    /// A table of `shards` shards, each with room for `room` entries and no entry yet, and the
     /// first pass. Memory for entries is taken as they come.
     pub fn new(alloc: Global, shards: u32, room: u32) -> Result<(SharedTable, Pass), AllocError>
         requires shards { (1 ≤ shards) × (shards ≤ most_shards) }

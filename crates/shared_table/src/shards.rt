@@ -23,7 +23,7 @@ fn numbers_added(cards: CardSet) -> u32
 }
 
 impl SharedTable {
-    /// The shard of a node with so many moves: the numbers (0 to 51) of the cards in declarer's
+    /// The shard of a node with `moves` moves: the numbers (0 to 51) of the cards in declarer's
     /// hand, in dummy's hand and in the unseen set, plus the moves, modulo the number of shards.
     pub fn shard(&self, node: &Node, moves: u8) -> u32
         ensures shard { result ≡ shard_of (table_plan self.now).shards node.now moves }

@@ -8,7 +8,7 @@ use Rattle.strategy_tree.specs.Bridge.{bridge}
 use Rattle.strategy_check.specs.declared.verdict.Verdict.{Verdict}
 use Rattle.strategy_check.specs.declared.verdict.Verdict.TheVariants.{Good, NotAStrategy, OtherVector}
 
--- the first layout, counted from 1, where the vectors differ, and the first vector's bit there
+-- the first layout, counted from 1, at which the vectors differ, and the first vector's bit there
 pub record IsFirstDifference (own given : Vector) (layout : ℕ) (bit : Bool) : Type 0 where
   pub counted : 1 ≤ layout
   pub same_before : take (layout - 1) own ≡ take (layout - 1) given

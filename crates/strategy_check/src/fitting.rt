@@ -11,8 +11,8 @@ use crate::inline_node::InlineNode;
 use card_sets::CardSet;
 use strategy_tree::{Plan, Reply};
 
-/// The number of a plan's last node where so many nodes came before the plan, or of its first node
-/// that doesn't fit.
+/// The number of a plan's last node, with `before` nodes before the plan, or of its first node that
+/// doesn't fit.
 #[cycle(fitting)]
 pub fn count_fitting(plan: &Plan, node: &InlineNode, moves: u8, before: u32) -> Result<u32, u32>
     requires { before + node_count (plan_of plan.now) < 2 ^ 32 }

@@ -8,7 +8,7 @@ ghost use Rattle.strategy_tree.specs.PlanRead.{plan_read};
 ghost use Rattle.strategy_check.specs.declared.verdict.Verdict.{Verdict};
 ghost use Rattle.strategy_check.specs.Verdicts.{IsVerdict};
 
-/// A plan has one verdict only: each comes exactly where it says that it does.
+/// A plan has one verdict only: each verdict comes exactly when what it says is true.
 #[tactic(auto, using(crate::proofs::OneVerdict::one_verdict))]
 pub fn one_verdict()
     ensures { (node : NodeValue) (moves : ℕ) (plan : Plan ℕ) (vector : Vector) (one other : Verdict)

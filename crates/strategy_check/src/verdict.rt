@@ -19,12 +19,12 @@ pub enum Verdict {
     /// It is no strategy. The number is that of the first plan node that doesn't fit, counted from
     /// 1, each node before those below it.
     NotAStrategy(u32),
-    /// It is a strategy that wins another vector: the first layout where the two differ, counted
+    /// It is a strategy that wins another vector: the first layout at which the two differ, counted
     /// from 1, and whether the plan wins that layout.
     OtherVector(u16, bool),
 }
 
-/// Plays a plan against every defence in every layout of a node, with so many moves of declarer's
+/// Plays a plan against every defence in every layout of a node, with `moves` moves of declarer's
 /// side, and compares what it wins with a vector.
 ///
 /// The vector is as wide as the node, and the plan has fewer than 2^32 nodes. It takes no memory.

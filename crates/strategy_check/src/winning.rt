@@ -12,7 +12,7 @@ use double_dummy::makes_plain;
 use strategy_tree::{Plan, Reply};
 use trick_rules::{Position, play};
 
-// Whether the contract is made by double dummy. No card is played where that is decided.
+// Whether the contract is made by double dummy. No card is played if the result is decided.
 fn makes(position: &Position, left: CardSet) -> bool
     requires { IsState (record { position = position.now; left = left }) }
     ensures { result ≡ makes_in (record { position = position.now; left = left }) }

@@ -1,4 +1,4 @@
--- Nodes that look alike to declarer's side: play goes on at the one as it does at the other.
+-- Nodes that look alike to declarer's side: play goes on at both in the same way.
 use Rattle.std.specs.Prelude.{◌≡◌, false, map, Contains}
 use Rattle.strategy_games.specs.Games.{Game, mask}
 
@@ -12,8 +12,8 @@ module _ {N S C : Type 0} (g : Game N S C) (Sound : N → Type 0) where
     -- they have as many layouts, and double dummy makes the same of them, in order,
     pub results : (n p : N) → Sound n → Sound p → R n p
         → map (λ s. g.makes s) (g.states n) ≡ map (λ s. g.makes s) (g.states p)
-    -- and while the result is open each choice of the one has a choice of the other that is legal in
-    -- the same layouts, and R holds of the children,
+    -- and while the result is open each choice of one has a choice of the other that is legal in the same layouts, and
+    -- R holds of the children,
     pub there : (n p : N) (c : C) → Sound n → Sound p → R n p → g.is_decided n ≡ false
         → Contains (g.choices n) c
         → (d : C) × Contains (g.choices p) d × (mask g n c ≡ mask g p d) × R (g.child n c) (g.child p d)

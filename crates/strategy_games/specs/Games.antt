@@ -42,7 +42,7 @@ module _ {N S C : Type 0} (g : Game N S C) where
     pub record IsDoubleDummy : Type 0 where
       -- declarer's side makes where some card does
       pub ours : (n : N) (s : S) (c : C) → Sound n → Contains (g.states n) s → g.is_decided n ≡ false → g.is_ours n ≡ true → Contains (g.choices n) c → g.makes (g.after c s) ≡ true → g.makes s ≡ true
-      -- against the defenders it makes where each of their legal cards lets it
+      -- against the defenders it makes if each of their legal cards lets it
       pub theirs : (n : N) (s : S) → Sound n → Contains (g.states n) s → g.is_decided n ≡ false → g.is_ours n ≡ false
           → ((c : C) → Contains (g.choices n) c → g.is_legal c s ≡ true → g.makes (g.after c s) ≡ true) → g.makes s ≡ true
 

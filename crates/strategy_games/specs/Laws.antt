@@ -24,7 +24,7 @@ module _ {N S C : Type 0} (g : Game N S C) (Sound : N → Type 0) where
 
   -- the recursion on fronts
   pub record HasRecursion : Type 0 where
-    -- where the plan stops: double dummy's results
+    -- if the plan stops: double dummy's results
     pub at_stop : (n : N) (m : ℕ) → stops g n m ≡ true → IsFront g n m (map (λ s. g.makes s) (g.states n) ∷ [])
     -- at declarer's side: the best vectors of the children's fronts with a move less
     pub at_declarer : (n : N) (m : ℕ) (fs : List (List Vector)) (f : List Vector) → Sound n → g.is_over n ≡ false → g.is_ours n ≡ true
@@ -92,7 +92,7 @@ module _ {N S C : Type 0} (g : Game N S C) (Sound : N → Type 0) where
     -- what measures most of the front has it
     pub greatest : (n : N) (m : ℕ) (f : List Vector) (u : Vector) → IsFront g n m f → Contains f u
         → ((w : Vector) → Contains f w → measure w ≤ measure u) → IsBestBy g measure n m (measure u)
-    -- where the result is decided: that of no layout, or of each
+    -- if the result is decided: that of no layout, or of each
     pub decided : (n : N) (m b : ℕ) → Sound n → g.is_decided n ≡ true → IsBestBy g measure n m b
         → (b ≡ measure (replicate (length (g.states n)) false))
         ⊎ (b ≡ measure (replicate (length (g.states n)) true))
@@ -107,7 +107,7 @@ module _ {N S C : Type 0} (g : Game N S C) (Sound : N → Type 0) where
     pub wins : (n : N) (m : ℕ) (c : C) → Sound n → g.is_decided n ≡ false → g.is_ours n ≡ true
         → IsNamedBy g measure n (suc m) c → (q : Plan C) × (b : ℕ) × Fits g (Play c q) n (suc m)
         × IsBestBy g measure n (suc m) b × (measure (wins_vector g (Play c q) n) ≡ b)
-    -- where the result is decided it is the first of the choices
+    -- if the result is decided it is the first of the choices
     pub decided : (n : N) (m : ℕ) (c : C) (rest : List C) → Sound n → g.is_decided n ≡ true
         → g.is_ours n ≡ true → g.choices n ≡ c ∷ rest → IsNamedBy g measure n (suc m) c
 
@@ -117,7 +117,7 @@ module _ {N S C : Type 0} (g : Game N S C) (Sound : N → Type 0) where
     pub open by_ones use {exists, unique, most}
     pub first : (n : N) (m : ℕ) (v : Vector) (rest : List Vector) → IsFront g n m (v ∷ rest)
         → IsBestCount g n m (ones_of v)
-    -- where the result is decided: no layout, or each
+    -- if the result is decided: no layout, or each
     pub decided : (n : N) (m b : ℕ) → Sound n → g.is_decided n ≡ true → IsBestCount g n m b
         → (b ≡ 0) ⊎ (b ≡ length (g.states n))
 
@@ -129,7 +129,7 @@ module _ {N S C : Type 0} (g : Game N S C) (Sound : N → Type 0) where
   pub record HasBestWeight : Type 0 where
     pub best : (ws : List ℕ) → HasBestBy (weight_of ws)
     pub named : (ws : List ℕ) → HasNamedBy (weight_of ws)
-    -- where the result is decided: nothing, or the sum of the weights
+    -- if the result is decided: nothing, or the sum of the weights
     pub decided : (ws : List ℕ) (n : N) (m b : ℕ) → Sound n → g.is_decided n ≡ true
         → length ws ≡ length (g.states n) → IsBestWeight g ws n m b → (b ≡ 0) ⊎ (b ≡ sum ws)
     -- with weight 1 at each layout: the best count, and the card that is named by it
@@ -151,7 +151,7 @@ module _ {N S C : Type 0} (g : Game N S C) (Sound : N → Type 0) where
   HaveOneFront R = (n p : N) (m : ℕ) (f : List Vector) → Sound n → Sound p → R n p
       → IsFront g n m f ↔ IsFront g p m f
 
-  -- where a search may stop early
+  -- when a search may stop early
   pub record HasCuts : Type 0 where
     -- a list that covers the front covers what every strategy wins,
     pub covered : (n : N) (m : ℕ) (f alpha : List Vector) → IsFront g n m f → CoversAll alpha f → IsBelow g n m alpha
@@ -165,7 +165,7 @@ module _ {N S C : Type 0} (g : Game N S C) (Sound : N → Type 0) where
     -- and what covers with these moves covers with more.
     pub below_deeper : (n : N) (m extra : ℕ) (alpha : List Vector) → Sound n
         → IsBelow g n m alpha → IsBelow g n (m + extra) alpha
-    -- Where no layout is won with these moves, none is with more.
+    -- If no layout is won with these moves, none is with more.
     pub lost : (n : N) (m extra : ℕ) → Sound n
         → IsFront g n m (replicate (length (g.states n)) false ∷ [])
         → IsFront g n (m + extra) (replicate (length (g.states n)) false ∷ [])
@@ -186,7 +186,7 @@ module _ {N S C : Type 0} (g : Game N S C) (Sound : N → Type 0) where
     pub same_best : (measure : Vector → ℕ) → IsMonotone measure → IsEnoughBy measure
     pub same_count : IsEnoughBy ones_of
 
--- by a test of equal cards: no node of a plan is at fault exactly where the plan fits, and a node at fault is one of its nodes
+-- by a test of equal cards: no node of a plan is at fault exactly when the plan fits, and a node at fault is one of its nodes
 pub record HasFirstMisfit {N S C : Type 0} (g : Game N S C) (same : C → C → Bool) : Type 0 where
   pub none : (p : Plan C) (n : N) (m : ℕ) → Fits g p n m ↔ (first_misfit g same p n m ≡ None)
   pub within : (p : Plan C) (n : N) (m i : ℕ) → first_misfit g same p n m ≡ Some i → (1 ≤ i) × (i ≤ node_count p)

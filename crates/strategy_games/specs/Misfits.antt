@@ -1,4 +1,4 @@
--- Where a plan is at fault: its nodes are numbered from 1, each before those below it.
+-- The node at which a plan is at fault: nodes are numbered from 1, each before those below it.
 use Rattle.std.specs.Prelude.{ℕ, ◌+◌, zero, suc, Bool, true, false, not, ◌&&◌, List, [], ◌∷◌, Option, Some, None, if◌then◌else◌}
 use Rattle.std.specs.List.{list_any}
 use Rattle.strategy_games.specs.Games.{Game}

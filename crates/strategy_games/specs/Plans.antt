@@ -41,7 +41,7 @@ module _ {N S C : Type 0} (g : Game N S C) where
     FitEach (Reply c q rs) n m = Fits q (g.child n c) m × FitEach rs n m
 
   abbrev mutual
-    -- where the play may come to in this layout, when the defenders know layout and plan
+    -- the states that play may come to in this layout, when the defenders know layout and plan
     pub ends : Plan C → S → List S
     ends Stop s = s ∷ []
     ends (Play c q) s = ends q (g.after c s)
@@ -60,7 +60,7 @@ module _ {N S C : Type 0} (g : Game N S C) where
   wins_vector p n = map (λ s. wins p s) (g.states n)
 
   abbrev mutual
-    -- the plan stops only where the result is decided
+    -- the plan stops only if the result is decided
     pub IsComplete : Plan C → N → Type 0
     IsComplete Stop n = g.is_decided n ≡ true
     IsComplete (Play c q) n = IsComplete q (g.child n c)
@@ -89,6 +89,6 @@ module _ {N S C : Type 0} (g : Game N S C) where
   size_within (suc k) n zero = 1
   size_within (suc k) n (suc m) = if g.is_decided n then 1 else (if g.is_ours n then 1 + sum_by (λ c. size_within k (g.child n c) m) (g.choices n) else 1 + sum_by (λ c. size_within k (g.child n c) (suc m)) (g.choices n))
 
-  -- how many nodes a search meets: one where it stops, else one and those of each child
+  -- how many nodes a search enters: one if it stops, otherwise one and those of each child
   abbrev pub tree_size : N → ℕ → ℕ
   tree_size n m = size_within (g.cards_left n) n m

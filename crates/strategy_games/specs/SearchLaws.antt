@@ -14,21 +14,21 @@ module _ {N S C : Type 0} (g : Game N S C) (Sound : N → Type 0) where
         → g.is_decided n ≡ false → g.is_ours n ≡ false → Contains (g.choices n) c
         → IsBelow g (g.child n c) (suc m) beta → CoversAll alpha (spreads (mask g n c) beta)
         → IsBelow g n (suc m) alpha
-    -- The front over some cards of declarer's side is the front where it covers what each other wins,
+    -- The front over some cards of declarer's side is the front if it covers what each other wins,
     pub cards : (n : N) (m : ℕ) (cs : List C) (f : List Vector) → Sound n
         → g.is_over n ≡ false → g.is_ours n ≡ true
         → ((c : C) → Contains cs c → Contains (g.choices n) c)
         → ((c : C) → Contains (g.choices n) c → Contains cs c ⊎ IsBelow g (g.child n c) m f)
         → IsFrontOf (WinsByCard g n m cs) f → IsFront g n (suc m) f
-    -- and so where each choice has one among them whose child's front covers what its own child wins.
+    -- and also if each choice has one among them whose child's front covers what its own child wins.
     pub covering_cards : (n : N) (m : ℕ) (cs : List C) (f : List Vector) → Sound n
         → g.is_over n ≡ false → g.is_ours n ≡ true
         → ((c : C) → Contains cs c → Contains (g.choices n) c)
         → ((c : C) → Contains (g.choices n) c → (d : C) × Contains cs d
         × ((h : List Vector) → IsFront g (g.child n d) m h → IsBelow g (g.child n c) m h))
         → IsFrontOf (WinsByCard g n m cs) f → IsFront g n (suc m) f
-    -- The front over some of a defender's cards is the front where each choice has one among them that
-    -- is legal in the same layouts and whose child has the same front.
+    -- The front over some of a defender's cards is the front if each choice has one among them that is legal in the
+    -- same layouts and whose child has the same front.
     pub equal_replies : (n : N) (m : ℕ) (cs : List C) (f : List Vector) → Sound n
         → g.is_over n ≡ false → g.is_ours n ≡ false
         → ((c : C) → Contains cs c → Contains (g.choices n) c)
@@ -64,7 +64,7 @@ module _ {N S C : Type 0} (g : Game N S C) (Sound : N → Type 0) where
     pub all : (n : N) (m b : ℕ) (c : C) → Sound n → g.is_over n ≡ false → g.is_ours n ≡ true
         → IsLeader g measure n m (g.choices n) b c
         → IsBestBy g measure n (suc m) b × IsNamedBy g measure n (suc m) c
-    -- So it has and is where the front over the cards so far covers the front with a move less,
+    -- The same holds as soon as the front over the cards so far covers the front with a move less,
     pub same_front : (n : N) (m b : ℕ) (cs later : List C) (c : C) (f less : List Vector)
         → Sound n → g.is_over n ≡ false → g.is_ours n ≡ true → g.choices n ≡ cs ++ later
         → IsLeader g measure n m cs b c → IsFrontOf (WinsByCard g n m cs) f
@@ -83,10 +83,10 @@ module _ {N S C : Type 0} (g : Game N S C) (Sound : N → Type 0) where
 
   -- the vectors that miss a 1 of u tell whether u is kept
   pub record HasMisses : Type 0 where
-    -- a vector dominates u exactly where none of them dominates it,
+    -- a vector dominates u exactly when none of them dominates it,
     pub tell : (u v : Vector) → length v ≡ length u
         → Dominates v u ↔ (Covers (misses u) v → ⊥)
-    -- so that they cover what a child wins exactly where its card doesn't keep u.
+    -- so that they cover what a child wins exactly when its card doesn't keep u.
     pub below : (n : N) (m : ℕ) (c : C) (u : Vector) → Sound (g.child n c)
         → length (g.states (g.child n c)) ≡ length u
         → IsBelow g (g.child n c) m (misses u) ↔ (Keeps g n m u c → ⊥)
@@ -97,7 +97,7 @@ module _ {N S C : Type 0} (g : Game N S C) (Sound : N → Type 0) where
         → ((v : Vector) → Contains f v
         → (p : Plan C) × Fits g p n m × IsComplete g p n × (wins_vector g p n ≡ v))
         → IsFront g n (m + extra) f
-    -- as where the chosen plans are such
+    -- for example if the chosen plans are such
     pub chosen : (n : N) (m extra : ℕ) (f : List Vector) → Sound n → IsFront g n m f
         → ((v : Vector) (p : Plan C) → Contains f v → IsChosenPlan g p n m v → IsComplete g p n)
         → IsFront g n (m + extra) f

@@ -1,6 +1,8 @@
-//! What declarer's strategies win when several layouts are possible, and which win vectors are the best that any of them reaches.
-//! It stands on `win_vectors`; a game gives its nodes, cards and double dummy by implementing `HiddenGame`, and nothing here runs.
-//! Each function's contract is a law that holds for every such game; the definitions stand in specs/.
+//! What declarer's strategies win when several layouts are possible, and which win vectors are the
+//! best that any of them reaches.
+//! It builds on `win_vectors`; a game gives its nodes, cards and double dummy by implementing
+//! `HiddenGame`, and nothing here runs.
+//! Each function's contract is a law that holds for every such game; the definitions are in specs/.
 #![tactic(auto)]
 
 ghost use Rattle.std.specs.Prelude.{Bool, Decides, ◌≡◌, ℕ};
@@ -94,7 +96,7 @@ pub fn chosen_plan_wins<G: HiddenGame>()
     ensures { HasChosenPlan G.game G.Sound }
 {}
 
-/// The size of the tree is 1 where the plan stops and else 1 more than its children's sizes
+/// The size of the tree is 1 if the plan stops, and otherwise 1 more than its children's sizes
 /// together; it never falls as the moves rise, and a child's size is below its node's.
 pub fn tree_size_laws<G: HiddenGame>()
     ensures { HasSizes G.game G.Sound }
@@ -130,7 +132,7 @@ pub fn named_card_wins<G: HiddenGame>()
     ensures { HasNamedCard G.game G.Sound }
 {}
 
-/// Where a search may stop early: a list that covers a node's front, the front with a move less,
+/// When a search may stop early: a list that covers a node's front, the front with a move less,
 /// each child of declarer's side, or the replies to some of a defender's cards covers what every
 /// strategy wins.
 pub fn cuts_hold<G: HiddenGame>()
@@ -143,15 +145,15 @@ pub fn some_cards_are_enough<G: HiddenGame>()
     ensures { HasEnoughCards G.game G.Sound }
 {}
 
-/// The first of declarer's cards that keeps the greatest measure so far leads; a card that the front
-/// over the earlier ones covers changes nothing, and in the end, or where a loop may stop, the leader
-/// has the best and is named.
+/// The first of declarer's cards that keeps the greatest measure so far leads. A card that the
+/// front over the earlier ones covers changes nothing. In the end, or when a loop may stop, the
+/// leader has the best and is named.
 pub fn leader_is_named<G: HiddenGame>()
     ensures { (measure : Vector → ℕ) → IsMonotone measure → HasLeaders G.game G.Sound measure }
 {}
 
-/// A vector dominates another exactly where none that misses one of its ones dominates it: so a list
-/// of those covers what a child wins exactly where its card doesn't keep the vector.
+/// A vector dominates u exactly when none of the vectors that miss a 1 of u dominates it; so a list
+/// of those covers what a child wins exactly when its card doesn't keep u.
 pub fn misses_tell<G: HiddenGame>()
     ensures { HasMisses G.game G.Sound }
 {}
@@ -162,7 +164,7 @@ pub fn complete_plans_are_exact<G: HiddenGame>()
     ensures { HasExactness G.game G.Sound }
 {}
 
-/// A plan has no first misfit exactly where it is a strategy.
+/// A plan has no first misfit exactly when it is a strategy.
 pub fn first_misfit_tells<G: HiddenGame>()
     ensures { HasFirstMisfit G.game G.same }
 {}

@@ -1,4 +1,4 @@
--- What a plan in memory stands for.
+-- What a plan in memory means.
 use Rattle.std.specs.Prelude.{ℕ, List, [], ◌∷◌, map, box_value}
 use Rattle.strategy_games.specs.Plans as games
 use Rattle.strategy_tree.specs.declared.plan.Plan.{Plan}

@@ -41,12 +41,12 @@ reply_line text = option_and_then card_named (text_after (codes "on ") text)
 
 -- ---- one node after another
 
--- a line that has to stand at a place
+-- a line that has to be at a place
 abbrev pub line_or_fault : {A : Type 0} → ℕ → Option A → Result A PlanFault
 line_or_fault at None = Err (Line at)
 line_or_fault at (Some x) = Ok x
 
--- so many replies, given how the plans in them are read, and the place after them
+-- this many replies, given how the plans in them are read, and the place after them
 abbrev pub replies_read : (ℕ → Result (Plan ℕ × ℕ) PlanFault) → ℕ → List ℕ → ℕ → Result (Replies ℕ × ℕ) PlanFault
 replies_read below zero bytes at = Ok (games.NoReply, at)
 replies_read below (suc count) bytes at = do
@@ -65,7 +65,7 @@ below_line below bytes (Hear count) at = do
   replies ← replies_read below count bytes at
   Ok (games.Hear replies.0, replies.1)
 
--- the plan whose first line begins at a place, and the place after its last line, where so many levels of nodes may stand
+-- the plan whose first line begins at a place, and the place after its last line, with at most this many levels of nodes
 unfoldable pub node_read : ℕ → List ℕ → ℕ → Result (Plan ℕ × ℕ) PlanFault
 node_read zero bytes at = Err (Deep at)
 node_read (suc levels) bytes at = do

@@ -12,7 +12,7 @@ stop_line = line_of (codes "stop")
 unfoldable pub play_line : ℕ → List ℕ
 play_line card = line_of (codes "play " ++ letters_of card)
 
--- so many replies follow
+-- this many replies follow
 unfoldable pub hear_line : ℕ → List ℕ
 hear_line count = line_of (codes "hear " ++ decimal count)
 

@@ -116,9 +116,9 @@ pub fn best_count()
         → IsFront bridge n moves (vector ∷ rest) → IsBestCount bridge n moves (ones_of vector) }
 {}
 
-/// Where declarer's side is to play and play isn't over exactly one card is named, and some
-/// strategy that begins with it wins the best count. Where the result is decided it is the first of
-/// the choices.
+/// If declarer's side is to play and play isn't over, exactly one card is named, and some strategy
+/// that begins with it wins the best count. If the result is decided, it is the first of the
+/// choices.
 pub fn named_card()
     ensures exists { (n : NodeValue) (moves : ℕ) → IsNode n → is_over n.position ≡ false
         → is_declarers (to_play n.position) ≡ true
@@ -169,11 +169,10 @@ pub fn tree_size_child()
         → tree_size bridge (child n card) (suc moves) < tree_size bridge n (suc moves) }
 {}
 
-// ---- where a search may stop early
+// ---- when a search may stop early
 
-/// A list covers what every strategy wins where it covers the front, where it covers such a list,
-/// and where it covers the front with fewer moves; it still does with more moves. An empty list
-/// never does.
+/// A list covers what every strategy wins if it covers the front, if it covers such a list, and if
+/// it covers the front with fewer moves; it still does with more moves. An empty list never does.
 pub fn cuts()
     ensures covered { (n : NodeValue) (moves : ℕ) (front alpha : List Vector)
         → IsFront bridge n moves front
@@ -191,14 +190,14 @@ pub fn cuts()
     ensures never { (n : NodeValue) (moves : ℕ) → IsNode n → IsBelow bridge n moves [] → ⊥ }
 {}
 
-/// Where no layout is won with some moves, none is with more.
+/// If no layout is won with some moves, none is with more.
 pub fn lost()
     ensures { (n : NodeValue) (moves extra : ℕ) → IsNode n
         → IsFront bridge n moves (replicate (length n.lefts) false ∷ [])
         → IsFront bridge n (moves + extra) (replicate (length n.lefts) false ∷ []) }
 {}
 
-/// At declarer's side a list covers what every strategy wins where it does so at each child. At a
+/// At declarer's side a list covers what every strategy wins if it does so at each child. At a
 /// defender it is enough that it covers the front over some of the cards, whose vectors have 1 at
 /// each layout that is not joined yet.
 pub fn early_cut()
@@ -245,10 +244,10 @@ pub fn one_reply()
         → IsBelow bridge n (suc moves) alpha }
 {}
 
-/// The front over some cards of declarer's side is the front where it covers what each other card
-/// wins, and where each choice has one among them whose child's front covers what its own child
-/// wins. At either side one of equal cards is enough: a choice is left out for one that is legal in
-/// the same layouts and whose child has the same front.
+/// The front over some cards of declarer's side is the front if it covers what each other card
+/// wins, and also if each choice has one among those cards whose child's front covers what its own
+/// child wins. At either side one of equal cards is enough: a choice is left out for one that is
+/// legal in the same layouts and whose child has the same front.
 pub fn enough_cards()
     ensures cards { (n : NodeValue) (moves : ℕ) (cards : List ℕ) (front : List Vector) → IsNode n
         → is_over n.position ≡ false → is_declarers (to_play n.position) ≡ true
@@ -287,16 +286,17 @@ pub fn enough_cards()
         → IsFront bridge n (suc moves) front }
 {}
 
-/// The first of declarer's cards that keeps the greatest measure so far leads. A card that the front
-/// over the earlier ones covers changes nothing and isn't named; in the end, and where the front so
-/// far covers the front with a move less or the leader has the best with a move less, the leader has
-/// the best and is named. This holds for the count of ones and for each monotone measure.
+/// The first of declarer's cards that keeps the greatest measure so far leads. A card that the
+/// front over the earlier ones covers changes nothing and isn't named. In the end, and as soon as
+/// the front so far covers the front with a move less or the leader has the best with a move less,
+/// the leader has the best and is named. This holds for the count of ones and for each monotone
+/// measure.
 pub fn leaders()
     ensures { (measure : Vector → ℕ) → IsMonotone measure → HasLeaders bridge IsNode measure }
 {}
 
-/// A vector dominates u exactly where none of the vectors that miss a 1 of u dominates it; so these
-/// cover what a child wins exactly where its card doesn't keep u.
+/// A vector dominates u exactly when none of the vectors that miss a 1 of u dominates it; so these
+/// cover what a child wins exactly when its card doesn't keep u.
 pub fn misses_tell()
     ensures tell { (u v : Vector) → length v ≡ length u
         → Dominates v u ↔ (Covers (misses u) v → ⊥) }
@@ -305,8 +305,8 @@ pub fn misses_tell()
         → IsBelow bridge (child n card) moves (misses u) ↔ (Keeps bridge n moves u card → ⊥) }
 {}
 
-/// The front is the same with any number of moves more where each of its vectors is won by a plan
-/// that stops only at a decided result, as where the chosen plans are such.
+/// The front is the same with any number of moves more if each of its vectors is won by a plan that
+/// stops only at a decided result, for example if the chosen plans are such.
 pub fn complete_plans_are_exact()
     ensures complete { (n : NodeValue) (moves extra : ℕ) (front : List Vector) → IsNode n
         → IsFront bridge n moves front
@@ -322,8 +322,8 @@ pub fn complete_plans_are_exact()
 
 // ---- plans at fault
 
-/// No node of a plan is at fault exactly where the plan is a strategy, and a node at fault is one
-/// of its nodes.
+/// No node of a plan is at fault exactly when the plan is a strategy, and a node at fault is one of
+/// its nodes.
 pub fn first_misfit()
     ensures none { (plan : Plan ℕ) (n : NodeValue) (moves : ℕ)
         → Fits bridge plan n moves ↔ (first_misfit bridge ◌==◌ plan n moves ≡ None) }

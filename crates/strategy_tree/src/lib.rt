@@ -1,5 +1,6 @@
-//! Bridge as a game of hidden layouts: declarer's strategies in memory and in text, what they win, and the laws of their fronts.
-//! It stands on the rules of play, on win vectors and on the theory of games with hidden layouts.
+//! Bridge as a game of hidden layouts: declarer's strategies in memory and in text, what they win,
+//! and the laws of their fronts.
+//! It builds on the rules of play, on win vectors and on the theory of games with hidden layouts.
 //! A contract speaks of a plan as a tree of cards, and each law is the contract of a function.
 #![tactic(auto)]
 

@@ -14,9 +14,9 @@ use std::alloc::{AllocError, Global};
 /// Why no plan was read.
 #[derive(Clone, Copy, Debug, PartialEq, Eq)]
 pub enum PlanFault {
-    /// The line that begins at this place isn't one that may stand there.
+    /// The line that begins at this place can't be here.
     Line(usize),
-    /// A node would stand at level 65, and its line would begin at this place.
+    /// A node would be at level 65, and its line would begin at this place.
     Deep(usize),
     /// There is no memory for the plan.
     Memory,
@@ -62,7 +62,7 @@ pub fn read_plan(alloc: Global, bytes: &[u8], start: usize) -> Result<(Plan, usi
 }
 
 /// Law: what is written of a plan of at most 64 levels, each defender's node of which has 1 to 52
-/// replies, is read back, whatever follows, and ends where the text ended.
+/// replies, is read back, whatever follows, up to the place where the text ended.
 ///
 /// Appends the lines of the plan to a text, and reads them from the text's old end.
 pub fn plan_text_reads_back(
@@ -87,7 +87,7 @@ pub fn plan_text_reads_back(
     read_plan(alloc, out.bytes(), start)
 }
 
-// The same where a plan may have so many levels.
+// The same for a plan of at most `levels` levels.
 #[cycle(read)]
 fn read_node(alloc: Global, bytes: &[u8], at: usize, levels: u8) -> Result<(Plan, usize), PlanFault>
     requires { at ≤ length bytes.now }
@@ -117,7 +117,7 @@ fn read_node(alloc: Global, bytes: &[u8], at: usize, levels: u8) -> Result<(Plan
     }
 }
 
-// So many replies, whose plans may have so many levels.
+// The next `count` replies, whose plans have at most `levels` levels.
 #[cycle(read)]
 fn read_replies(
     alloc: Global,

@@ -14,7 +14,7 @@ use std::alloc::{AllocError, Global};
 impl Plan {
     /// Appends the lines of the plan, each node before those below it: `stop`, `play` with a card,
     /// or `hear` with the number of replies, and then for each reply `on` with the defender's card
-    /// and the lines of its plan. Where memory is refused, the text is unchanged.
+    /// and the lines of its plan. If an allocation fails, the text is unchanged.
     pub fn lines(&self, alloc: Global, out: &mut Text) -> Result<(), AllocError>
         ensures appended { OnOk result (out.new ≡ out.old ++ plan_text (plan_of self.now)) }
         ensures cards { OnOk result (HasCards (plan_of self.now)) }
@@ -26,7 +26,7 @@ impl Plan {
     }
 }
 
-// Appends the lines of a plan, or some of them where memory is refused.
+// Appends the lines of a plan, or some of them if an allocation fails.
 #[cycle(write)]
 fn write_plan(plan: &Plan, alloc: Global, out: &mut Text) -> Result<(), AllocError>
     ensures appended { OnOk result (out.new ≡ out.old ++ plan_text (plan_of plan.now)) }

@@ -62,7 +62,7 @@ fn is_higher(card: Card, cards: CardSet) -> bool
     !cards.has(card) && cards.after(card).is_none()
 }
 
-// How many cards of the one set come after each card of the other.
+// How many cards of the first set come after each card of the second.
 fn top_count(own: CardSet, theirs: CardSet) -> u8
     ensures { result ≡ count_above own theirs }
 {

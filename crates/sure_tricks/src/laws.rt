@@ -21,8 +21,8 @@ pub fn sure_cards_win()
         → tricks_left s.position < s.position.need + length sure → makes s ≡ false }
 {}
 
-/// At no trump its partner's sure cards take a trick each too, as far as there are tricks, where
-/// the hand on lead has a card of a suit in which its partner has one.
+/// At no trump its partner's sure cards take a trick each too, up to the tricks left, if the hand
+/// on lead has a card of a suit in which its partner has one.
 #[tactic(auto, using(crate::proofs::Together::our_cards_win_together, crate::proofs::Together::their_cards_win_together))]
 pub fn sure_cards_win_together()
     ensures ours { (s : State) (sure partners : List ℕ) (link card : ℕ) → IsState s

@@ -1,6 +1,6 @@
-//! Tricks that a side takes whatever the others do, told by a look at the cards.
-//! It stands on the rules of play.
-//! What is told is proved to hold of double dummy.
+//! Quick tricks: tricks that a side takes whatever the others do, seen by a look at the cards.
+//! It builds on the rules of play.
+//! What it counts is proved to hold of double dummy.
 #![tactic(auto)]
 
 mod count;

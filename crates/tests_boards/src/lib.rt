@@ -1,5 +1,5 @@
 //! Tests of deals, boards, layouts and reports: worked examples, with values from outside.
-//! It stands on the readers and writers of these, by their public calls alone.
+//! It builds on the readers and writers of these, by their public calls alone.
 //! Its one contract states the first numbers that are drawn from 0.
 #![tactic(auto)]
 

@@ -16,7 +16,7 @@ fn spade(rank: u8) -> Card
     Card::new(Suit::Spades, Rank::new(rank))
 }
 
-// A report of one vector of so many ones.
+// A report of one vector of this many ones.
 fn wide_report(alloc: Global, width: usize) -> Result<Text, AllocError> {
     let mut text = Text::new(alloc);
     text.push(b"alphamu report 2\nmoves 1\nfront 1\nvector ")?;
@@ -27,7 +27,7 @@ fn wide_report(alloc: Global, width: usize) -> Result<Text, AllocError> {
     Ok(text)
 }
 
-// Why a report of one vector of so many ones is refused, where it is.
+// Why a report of one vector of this many ones is refused, if it is.
 fn fault_of_width(alloc: Global, width: usize) -> Result<Option<ReportFault>, Fail> {
     let text = wide_report(alloc, width)?;
     if text.bytes().len() > 10_000 {

@@ -29,14 +29,14 @@ const TRICK_HEAD: &str =
 const TRICK_FRONT: &str =
     "front 2\nvector 10 count 1\nplay SK\nstop\nvector 01 count 1\nplay SJ\nstop\ncard SJ count 1\nend\n";
 
-// The first head and front where the second layout weighs 3.
+// The first head and front with a weight of 3 for the second layout.
 const WEIGHED_HEAD: &str =
     "alphamu report 2\ndeclarer S\ntrump NT\nneed 1\nhand S KJ...\nhand N 32...\ntrick N -\nturn N\nmoves 2\nkept 1 2\nweights 1 3\n";
 
 const WEIGHED_FRONT: &str =
     "front 2\nvector 01 weight 3\nplay S2\nhear 3\non S7\nplay SJ\nstop\non SQ\nplay SK\nstop\non SA\nplay SJ\nstop\nvector 10 weight 1\nplay S2\nhear 3\non S7\nplay SK\nstop\non SQ\nplay SK\nstop\non SA\nplay SJ\nstop\ncard S2 weight 3\nend\n";
 
-// What stands above each text that is refused below the head.
+// The lines above each text that is refused below the head.
 const START: &str = "alphamu report 1\nmoves 1\n";
 
 const WEIGHED_START: &str = "alphamu report 2\nmoves 1\n";

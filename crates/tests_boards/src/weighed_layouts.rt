@@ -6,7 +6,7 @@ use std::alloc::{AllocError, Global};
 use std::test::Fail;
 use win_vectors::Weights;
 
-// The weight of a layout, which is counted from 0; 0 where there is none.
+// The weight of a layout, which is counted from 0; 0 if there is none.
 fn weight_at(weights: &Weights, place: usize) -> u32 {
     if place < weights.width() as usize {
         weights.get(place as u16)

@@ -104,7 +104,7 @@ fn needs_made(rt: &impl Abort, solver: &mut Solver, draws: &mut Draws, tricks: u
     made
 }
 
-/// How many needs of so many endings are made, with those of three and of four tricks in turn.
+/// How many needs are made in this many endings, of three and of four tricks in turn.
 fn needs_of_endings(rt: &impl Abort, alloc: Global, limit: u32, endings: u8) -> u32
     requires { limit ≤ 262144 }
 {

@@ -5,8 +5,8 @@ use card_sets::{CardSet, Seat, Suit};
 use std::process::Abort;
 use trick_rules::{Position, Trump, play};
 
-/// A trick with its cards in the order of play, how many legal cards each seat had, who takes it,
-/// and the need after it.
+/// A trick with its cards in the order of play, how many legal cards each seat had, its winner, and
+/// the need after it.
 type Line = (&'static str, [u8; 4], Seat, u8);
 
 /// Spades are trumps, and three tricks are needed.

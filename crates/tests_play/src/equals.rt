@@ -4,7 +4,7 @@ use crate::nodes::assert_same;
 use equal_cards::one_of_equals;
 use std::test::Fail;
 
-/// Endings, and the cards of the seat to lead of which none is equal to a lower one.
+/// Endings, and the cards of the seat to lead none of which is equal to a lower one.
 const KEPT: [(&'static str, &'static str); 7] = [
     ("SJSK/S2S3/S5S7SQSA/2/1/N/S5SQ S5SA", "S2"),
     // The queen lies between.

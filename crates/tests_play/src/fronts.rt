@@ -162,7 +162,7 @@ fn unite_more(rt: &impl Abort, alloc: Global) -> Result<(), AllocError> {
     Ok(())
 }
 
-// Where the first, second or third allocation fails, one of these calls is refused.
+// If the first, second or third allocation fails, one of these calls is refused.
 #[test]
 fn is_unchanged_where_memory_is_wanted(rt: HostRuntime) {
     let _ = reserve_more(&rt, rt.alloc());

@@ -127,7 +127,7 @@ pub fn front_of(rt: &impl Abort, alloc: Global, text: &str) -> Result<Front, All
     Ok(front.expect(rt, "a front has a vector"))
 }
 
-/// Fails where a front hasn't exactly the vectors of a text, in this order.
+/// Fails if a front hasn't exactly the vectors of a text, in this order.
 /// No clause: a test that goes on has seen it.
 pub fn assert_vectors(rt: &impl Abort, front: &Front, text: &str) {
     let mut place = 0;

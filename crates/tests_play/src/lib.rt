@@ -1,6 +1,6 @@
 //! Tests of cards, play, fronts, strategies, the search, play-outs and sampling, by public calls
 //! alone.
-//! It stands on the crates that it tests, and nothing stands on it.
+//! It builds on the crates that it tests, and no crate builds on it.
 //! It promises nothing: what its tables hold was worked out by the laws of bridge, by hand or by
 //! another program.
 #![tactic(auto)]

@@ -4,7 +4,7 @@ use card_sets::CardSet;
 use std::process::Abort;
 use std::test::Fail;
 
-/// Fails where the two sets differ.
+/// Fails if the two sets differ.
 pub fn assert_same(rt: &impl Abort, one: CardSet, other: CardSet) {
     assert!(rt; one.is_subset(other));
     assert!(rt; other.is_subset(one));

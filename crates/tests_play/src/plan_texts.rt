@@ -21,7 +21,7 @@ const SOUND: [(&'static str, usize); 5] = [
     ("hear 2\non DT\nstop\non cT\nstop\n", 29),
 ];
 
-/// Texts, and where the first line begins that can't stand there.
+/// Texts, and the beginning of the first line that can't be there.
 const FAULTY: [(&'static str, usize); 16] = [
     ("", 0),
     ("stop", 0),
@@ -106,7 +106,7 @@ fn lines_are_appended_whole_or_not_at_all(rt: HostRuntime) -> Result<(), Fail> {
     Ok(())
 }
 
-// Where the plan at the front of a text ends, or its fault.
+// The end of the plan that a text begins with, or its fault.
 fn end_of(alloc: Global, text: &[u8]) -> Result<usize, PlanFault> {
     let (_, end) = read_plan(alloc, text, 0)?;
     Ok(end)

@@ -10,7 +10,8 @@ use std::process::Abort;
 use std::test::Fail;
 use strategy_tree::Plan;
 
-/// The plan with two moves that wins the second layout, where each search may enter so many nodes.
+/// The plan with two moves that wins the second layout, by searches that may each enter `nodes`
+/// nodes.
 fn second_plan(
     rt: &impl Abort,
     alloc: Global,

@@ -58,7 +58,7 @@ impl Defender for Secretive {
     }
 }
 
-/// The strategy of a text, at a node with so many moves.
+/// The strategy of a text, at a node with `moves` moves.
 fn strategy(
     rt: &impl Abort,
     alloc: Global,
@@ -101,7 +101,7 @@ fn play(
     Ok(played)
 }
 
-/// Fails where the cards aren't those of a text, or the result isn't this one.
+/// Fails if the cards aren't those of a text, or the result isn't this one.
 fn assert_played(rt: &impl Abort, played: &PlayOut, text: &str, made: bool) {
     let mut place = 0;
     for letters in text.split(' ') {
@@ -116,7 +116,7 @@ fn assert_played(rt: &impl Abort, played: &PlayOut, text: &str, made: bool) {
     assert_eq!(rt; played.made, made, "{text}");
 }
 
-/// Fails where the record of a defender isn't the cards of a text.
+/// Fails if the record of a defender isn't the cards of a text.
 fn assert_heard(rt: &impl Abort, defender: &Box<dyn Defender>, text: &str) {
     let mut place = 0;
     for letters in text.split(' ') {
@@ -146,7 +146,7 @@ fn low_cards_lose_a_trick_that_they_could_take(rt: HostRuntime) -> Result<(), Fa
     Ok(())
 }
 
-/// A defender who plays high takes the king in time, and knows what was played before he came.
+/// A defender of the high style takes the king in time, and knows what was played before.
 #[test]
 fn a_high_card_from_the_fourth_card_on(rt: HostRuntime) -> Result<(), Fail> {
     let alloc = rt.alloc();

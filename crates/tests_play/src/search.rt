@@ -74,7 +74,7 @@ fn ten_nodes_over_each_store(rt: HostRuntime) -> Result<(), Fail> {
     assert_ten_nodes(&rt, rt.alloc(), &mut AlwaysBusy)
 }
 
-/// What a search with each cut finds, in ample memory and within so many nodes.
+/// What a search with each cut finds, in ample memory and within `nodes` nodes.
 fn cut_search<S: FrontStore>(
     rt: &impl Abort,
     alloc: Global,

@@ -19,11 +19,11 @@ const SECOND: &'static [u8] =
 /// No reply to the ace, which Right may hold.
 const NO_REPLY: &'static [u8] = b"play S2\nhear 2\non S7\nplay SK\nstop\non SQ\nplay SK\nstop\n";
 
-/// The king is played on the ace, and then once more where no moves are left.
+/// The king is played on the ace, and then once more with no moves left.
 const TWICE: &'static [u8] =
     b"play S2\nhear 3\non S7\nplay SK\nstop\non SQ\nplay SK\nstop\non SA\nplay SK\nplay SK\nstop\n";
 
-/// The verdict on a plan of the ending, where declarer's side has so many moves.
+/// The verdict on a plan of the ending, with `moves` moves of declarer's side.
 fn judge(
     rt: &impl Abort,
     alloc: Global,

@@ -33,7 +33,8 @@ fn failing_reads_end_a_run(rt: HostRuntime) -> Result<(), Fail> {
     Ok(())
 }
 
-// Whether a run ends so with these bytes written to the output, and then a line where it isn't done.
+// Whether a run ends this way with these bytes written to the output, and then a line if it isn't
+// done.
 fn leaves<R: Threads + Sync>(
     rt: &R,
     alloc: Global,

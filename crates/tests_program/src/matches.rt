@@ -8,10 +8,10 @@ use card_sets::{Card, Rank, Suit};
 use std::process::Abort;
 use std::test::Fail;
 
-// The ranks of the spades that are played where the third defender comes in before the fourth card.
+// The ranks of the spades that are played if the third defender comes in before the fourth card.
 const SWITCHED: [u8; 8] = [2, 7, 13, 14, 5, 3, 12, 11];
 
-// Fails where the record of a defender isn't these spades.
+// Fails if the record of a defender isn't these spades.
 fn assert_heard(rt: &impl Abort, defender: &Box<dyn Defender>) {
     let mut place = 0;
     for rank in SWITCHED {

@@ -83,8 +83,8 @@ pub fn ran_at<R: Threads + Sync, G: Gate>(
     Ok(Run { status, out, err })
 }
 
-/// How the words end, and who then sits at a table of two defenders who play low and a third who
-/// plays high.
+/// How the words end, and the defenders then at a table of two who play low and a third who plays
+/// high.
 /// No clause, as at `Run::ends_with`.
 pub fn ended<R: Threads + Sync, G: Gate>(
     rt: &R,

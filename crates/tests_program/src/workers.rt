@@ -1,4 +1,4 @@
-//! Workers beside each other, as a gate sees them.
+//! Workers side by side, as a gate sees them.
 ghost use Rattle.std.specs.Prelude.{◌≤◌};
 
 use crate::queen::{QUEEN, QUEEN_LAYOUTS, QUEEN_REPORT, ran, ran_at, shelf_of};
@@ -14,8 +14,8 @@ use std::thread::{self, Threads};
 // How often a gate looks before it gives up.
 const TURNS: u32 = 20_000_000;
 
-// Lets each of two cards enter so many times. Then it holds the first until the second was left once
-// more; or each until the other was entered. It notes where it gave up.
+// Lets each of two cards enter `free` times. Then it holds the first until the second has left once
+// more, or each until the other has entered. It notes if it gave up.
 #[derive(Drop)]
 struct Holding {
     first: Card,

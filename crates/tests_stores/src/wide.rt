@@ -1,4 +1,4 @@
-//! A front of 65 vectors, one more than a store keeps.
+//! A front of 65 vectors, one more than a table keeps.
 ghost use Rattle.std.specs.Prelude.{IfOk};
 ghost use Rattle.front_table.specs.Proven.{IsFrontAt};
 
@@ -6,8 +6,9 @@ use crate::endings::many_layouts;
 use alphamu_core::{Budget, Found, SearchFault, search};
 use cut_rules::{CutRules, Stop};
 use dd_solver::Solver;
-use front_table::{FrontStore, LocalStore, Look, MOST_ENTRY_VECTORS, NoStore, ProvenFront, Put};
+use front_table::{FrontStore, Look, MOST_ENTRY_VECTORS, NoStore, ProvenFront, Put};
 use pareto_fronts::Front;
+use shared_table::{SharedStore, SharedTable};
 use std::alloc::Global;
 use std::process::Abort;
 use std::test::Fail;
@@ -49,10 +50,11 @@ fn entry_of(alloc: Global, node: &Node) -> Result<ProvenFront, SearchFault> {
 }
 
 #[test]
-fn a_wide_front_is_kept_beside_a_store(rt: HostRuntime) -> Result<(), Fail> {
+fn a_wide_front_is_kept_beside_a_table(rt: HostRuntime) -> Result<(), Fail> {
     let alloc = rt.alloc();
     let node = many_layouts(&rt, alloc)?;
-    let mut narrow = LocalStore::new(alloc, 64);
+    let (table, mut pass) = SharedTable::new(alloc, 1, 64)?;
+    let mut narrow = SharedStore::new(&table, &mut pass);
     assert!(rt; matches!(narrow.put(entry_of(alloc, &node)?), Put::TooWide(_)));
     let mut store = WideStore::new(alloc, narrow);
     let mut out = Front::new(alloc, node.width());
@@ -70,7 +72,8 @@ fn a_wide_front_is_kept_beside_a_store(rt: HostRuntime) -> Result<(), Fail> {
 fn a_search_finds_a_wide_front_at_once(rt: HostRuntime) -> Result<(), Fail> {
     let alloc = rt.alloc();
     let node = many_layouts(&rt, alloc)?;
-    let mut store = WideStore::new(alloc, LocalStore::new(alloc, 1000));
+    let (table, mut pass) = SharedTable::new(alloc, 16, 64)?;
+    let mut store = WideStore::new(alloc, SharedStore::new(&table, &mut pass));
     let front = front_over(alloc, &mut store, &node, 1_000_000)?;
     let again = front_over(alloc, &mut store, &node, 1)?;
     assert_eq!(rt; front.len(), 65);
@@ -82,7 +85,8 @@ fn a_search_finds_a_wide_front_at_once(rt: HostRuntime) -> Result<(), Fail> {
 fn found_when_asked_again(rt: &impl Abort, alloc: Global) -> Result<(), SearchFault> {
     let node = many_layouts(rt, alloc)?;
     let entry = entry_of(alloc, &node)?;
-    let mut store = WideStore::new(alloc, LocalStore::new(alloc, 64));
+    let (table, mut pass) = SharedTable::new(alloc, 1, 64)?;
+    let mut store = WideStore::new(alloc, SharedStore::new(&table, &mut pass));
     let mut out = Front::new(alloc, node.width());
     out.reserve(MOST_ENTRY_VECTORS)?;
     if let Put::Memory(back) = store.put(entry) {

@@ -1,5 +1,5 @@
 //! Tests of texts, words, files, streams and PBN text: worked examples, with values from outside.
-//! It stands on what reads and writes these, by public calls alone.
+//! It builds on what reads and writes these, by public calls alone.
 //! It has no function, so it promises nothing: its tests run what the contracts of the others say.
 #![tactic(auto)]
 

@@ -49,7 +49,7 @@ fn answers_of<R: Threads + Abort + Sync, G: Gate>(
     Ok(run_boards(rt, alloc, &problems, 2, options, &table, &mut pass, gate))
 }
 
-// The vectors of an answer, which plays the two and wins so many layouts.
+// The vectors of an answer, which plays the two and wins this many layouts.
 fn assert_answer(rt: &impl Abort, answer: &SolveAnswer, vectors: &[WinVector], weight: u32) {
     assert_eq!(rt; answer.entries.len(), vectors.len());
     for place in 0..answer.entries.len() {

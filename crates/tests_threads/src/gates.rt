@@ -7,8 +7,8 @@ use std::thread;
 /// How often a gate looks before it gives up.
 const TURNS: u32 = 20_000_000;
 
-/// Lets each of two cards enter so many times, and holds it at the next `enter` until one for the
-/// other was seen as often. It notes where it gave up.
+/// Lets each of two cards enter `free` times, and holds it at the next `enter` until the other has
+/// entered as often. It notes if it gave up.
 #[derive(Drop)]
 pub struct Meeting {
     one: Card,
@@ -69,7 +69,7 @@ impl Gate for Meeting {
     fn leave(&self, _worker: u32, _card: Card) {}
 }
 
-/// Holds the first `enter` of all until one by another worker was seen. It notes where it gave up.
+/// Holds the first `enter` of all until another worker enters. It notes if it gave up.
 #[derive(Drop)]
 pub struct Company {
     /// The number of the worker that came first, counted from 1, or 0 before it came.

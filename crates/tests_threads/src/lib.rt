@@ -1,5 +1,5 @@
 //! Tests of what threads share, by public calls alone.
-//! It stands on the crates that it tests, and nothing stands on it.
+//! It builds on the crates that it tests, and no crate builds on it.
 //! It promises nothing: what its tests expect was worked out by hand, and is the same however the
 //! threads take turns.
 #![tactic(auto)]

@@ -15,7 +15,7 @@ use std::test::Fail;
 use trick_rules::Node;
 use win_vectors::WinVector;
 
-/// The entry of a node with so many moves.
+/// The entry of a node with `moves` moves.
 pub fn entry_of(alloc: Global, node: &Node, moves: u8) -> Result<ProvenFront, AllocError> {
     let front = plain_front(alloc, node, moves)?;
     Ok(ProvenFront::new(node.copy(alloc)?, moves, front))
@@ -56,7 +56,7 @@ fn a_table_of_one_entry(rt: HostRuntime) -> Result<(), Fail> {
     );
     let mut out = room_for(alloc, &root)?;
     assert!(rt; table.look(&mut pass, &root, 1, &mut out) == Look::Miss);
-    let closed = table.close(pass)?;
+    let closed = table.close(&mut pass)?;
     assert_eq!(rt; closed.shards.len(), 1);
     match &closed.shards[0] {
         ShardEnd::Home(list) => assert_eq!(rt; list.len(), 1),

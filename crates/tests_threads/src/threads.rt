@@ -15,13 +15,13 @@ use std::thread::Threads;
 use trick_rules::Node;
 use work_tickets::{TicketPass, Tickets};
 
-/// How often a put is tried where the shard's turn is taken.
+/// How often a put is tried while another holds the shard's turn.
 const TRIES: u32 = 100;
 
 /// How many keys there are: the moves of a node.
 const KEYS: u8 = 8;
 
-// Puts the entry of a node with so many moves, if a turn is got within the tries.
+// Puts the entry of a node with `moves` moves, if it gets the shard's turn within the tries.
 fn put_one(alloc: Global, table: &SharedTable, pass: &mut Pass, node: &Node, moves: u8)
     requires { IsPassOf table.now pass.old }
     ensures { IsPassOf table.now pass.new }
@@ -169,7 +169,7 @@ fn two_threads_on_one_shard(rt: HostRuntime) -> Result<(), Fail> {
     let pass = put_by_two(&rt, alloc, &table, pass, &node);
     let mut pass = put_all(alloc, &table, pass, &node);
     assert_eq!(rt; found(alloc, &table, &mut pass, &node)?, 8);
-    assert_eq!(rt; entries_of(&table.close(pass)?), 8);
+    assert_eq!(rt; entries_of(&table.close(&mut pass)?), 8);
     Ok(())
 }
 
@@ -181,7 +181,7 @@ fn two_threads_on_many_shards(rt: HostRuntime) -> Result<(), Fail> {
     let pass = put_by_two(&rt, alloc, &table, pass, &node);
     let mut pass = put_all(alloc, &table, pass, &node);
     assert_eq!(rt; found(alloc, &table, &mut pass, &node)?, 8);
-    assert_eq!(rt; entries_of(&table.close(pass)?), 8);
+    assert_eq!(rt; entries_of(&table.close(&mut pass)?), 8);
     Ok(())
 }
 
@@ -193,7 +193,7 @@ fn eight_threads_on_one_shard(rt: HostRuntime) -> Result<(), Fail> {
     let pass = put_by_eight(&rt, alloc, &table, pass, &node);
     let mut pass = put_all(alloc, &table, pass, &node);
     assert_eq!(rt; found(alloc, &table, &mut pass, &node)?, 8);
-    assert_eq!(rt; entries_of(&table.close(pass)?), 8);
+    assert_eq!(rt; entries_of(&table.close(&mut pass)?), 8);
     Ok(())
 }
 
@@ -205,7 +205,7 @@ fn eight_threads_on_many_shards(rt: HostRuntime) -> Result<(), Fail> {
     let pass = put_by_eight(&rt, alloc, &table, pass, &node);
     let mut pass = put_all(alloc, &table, pass, &node);
     assert_eq!(rt; found(alloc, &table, &mut pass, &node)?, 8);
-    assert_eq!(rt; entries_of(&table.close(pass)?), 8);
+    assert_eq!(rt; entries_of(&table.close(&mut pass)?), 8);
     Ok(())
 }
 
@@ -247,7 +247,7 @@ fn drawn_beside<R: Threads + Sync>(rt: &R, alloc: Global, n: u32) -> Result<(Vec
         { draw_all(alloc, shared, second) },
     );
     tickets.join(&mut first, second);
-    let drawn = tickets.close(first);
+    let drawn = tickets.close(&mut first);
     let mut numbers = ours?;
     let mut more = theirs?;
     numbers.append(&mut more)?;

@@ -8,7 +8,7 @@ fn two_tickets(rt: HostRuntime) -> Result<(), Fail> {
     assert_eq!(rt; tickets.draw(&mut pass), Some(0));
     assert_eq!(rt; tickets.draw(&mut pass), Some(1));
     assert_eq!(rt; tickets.draw(&mut pass), None);
-    assert_eq!(rt; tickets.close(pass), 2);
+    assert_eq!(rt; tickets.close(&mut pass), 2);
     Ok(())
 }
 
@@ -21,6 +21,6 @@ fn passes_that_part_and_join(rt: HostRuntime) -> Result<(), Fail> {
     tickets.join(&mut pass, other);
     assert_eq!(rt; tickets.draw(&mut pass), Some(2));
     assert_eq!(rt; tickets.draw(&mut pass), None);
-    assert_eq!(rt; tickets.close(pass), 3);
+    assert_eq!(rt; tickets.close(&mut pass), 3);
     Ok(())
 }

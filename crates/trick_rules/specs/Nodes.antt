@@ -26,7 +26,7 @@ pub record IsNode (n : NodeValue) : Type 0 where
 abbrev pub states : NodeValue → List State
 states n = map (λ left. record { position = n.position; left = left }) n.lefts
 
--- where a plan stops: no moves of declarer's side are left, or the result is decided
+-- a plan stops here: no moves of declarer's side are left, or the result is decided
 abbrev pub stops : NodeValue → ℕ → Bool
 stops n moves = (moves == 0) || is_some (decided n.position)
 

@@ -1,4 +1,5 @@
--- The rules of play: which cards are legal, who takes a trick, what follows a card, and who can make the contract.
+-- The rules of play: which cards are legal, which seat wins a trick, what follows a card, and who can make the
+-- contract.
 use Rattle.std.specs.Prelude.{◌≡◌, ◌≢◌, ◌<◌, slice_index, ℕ, zero, suc, ◌+◌, ◌-◌, Bool, true, false, not, ◌&&◌, ◌||◌, Option, None, Some, List, [], ◌∷◌, ◌++◌, length, map, filter, if◌then◌else◌, ◌==◌, max, nat_lt}
 use Rattle.std.specs.List.{list_any, list_all, position_or_len}
 use Rattle.card_sets.specs.declared.card.Suit.{Suit}
@@ -15,23 +16,23 @@ use Rattle.trick_rules.specs.Positions.{TrickValue, PositionValue, State, seat_a
 abbrev pub of_suit : Suit → List ℕ → List ℕ
 of_suit suit cards = filter (λ c. same_suit (suit_of c) suit) cards
 
--- the first list, or the second where the first is empty
+-- the first list, or the second if the first is empty
 abbrev pub or_whole : List ℕ → List ℕ → List ℕ
 or_whole [] hand = hand
 or_whole (c ∷ cs) hand = c ∷ cs
 
--- the whole hand for the leader; otherwise the cards of the suit led, or the whole hand where it has none.
--- The trick's cards come first, then the hand
+-- the whole hand for the leader; otherwise the cards of the suit led, or the whole hand if it has none. The trick's
+-- cards come first, then the hand
 abbrev pub legal_cards : List ℕ → List ℕ → List ℕ
 legal_cards [] hand = hand
 legal_cards (led ∷ rest) hand = or_whole (of_suit (suit_of led) hand) hand
 
--- the suit led, where the trick has a card
+-- the suit led, if the trick has a card
 abbrev pub suit_led : List ℕ → Option Suit
 suit_led [] = None
 suit_led (led ∷ rest) = Some (suit_of led)
 
--- ---- who takes a trick
+-- ---- the winner of a trick
 
 abbrev pub is_trump : Trump → ℕ → Bool
 is_trump NoTrump card = false
@@ -126,7 +127,7 @@ CanPlay t card = has_card (held_by t (to_play t)) card ≡ true
 abbrev pub is_over : PositionValue → Bool
 is_over t = tricks_left t == 0
 
--- made where the need is 0, failed where it is greater than the tricks left, and open otherwise
+-- made if the need is 0, failed if it is greater than the tricks left, and open otherwise
 abbrev pub decided : PositionValue → Option Bool
 decided t = if t.need == 0 then Some true else if nat_lt (tricks_left t) t.need then Some false else None
 

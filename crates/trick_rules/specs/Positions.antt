@@ -46,7 +46,7 @@ seat_place Right = 3
 abbrev pub places_on : Seat → Seat → ℕ
 places_on leader seat = (seat_place seat + 4 - seat_place leader) % 4
 
--- a seat has played where it sits fewer places after the leader than the trick has cards
+-- a seat has played if it sits fewer places after the leader than the trick has cards
 abbrev pub has_played : PositionValue → Seat → Bool
 has_played t seat = nat_lt (places_on t.trick.leader seat) (length t.trick.cards)
 

@@ -112,7 +112,7 @@ pub fn hands_are_apart()
 
 // ---- double dummy
 
-/// A play that is over makes where no need is left.
+/// A play that is over makes if no need is left.
 #[tactic(auto, using(crate::proofs::PlayLaws::makes_at_the_end))]
 pub fn makes_at_the_end()
     ensures { (s : State) → is_over s.position ≡ true → makes s ≡ (s.position.need == 0) }
@@ -126,7 +126,7 @@ pub fn makes_by_some_card()
         → makes s ≡ list_any (λ card. makes (after s card)) (legal_in s) }
 {}
 
-/// At a defender's turn declarer's side makes where each legal card makes.
+/// At a defender's turn declarer's side makes if each legal card makes.
 #[tactic(auto, using(crate::proofs::PlayLaws::makes_against_each_card))]
 pub fn makes_against_each_card()
     ensures { (s : State) → IsState s → is_over s.position ≡ false
@@ -180,7 +180,7 @@ pub fn our_choices_are_legal_everywhere()
         → All (λ s. has_card (legal_in s) card ≡ true) (states n) }
 {}
 
-/// A card is among the choices where it is legal in some layout.
+/// A card is among the choices if it is legal in some layout.
 #[tactic(auto, using(crate::proofs::PlayLaws::what_is_legal_is_a_choice))]
 pub fn what_is_legal_is_a_choice()
     ensures { (n : NodeValue) (card : ℕ) (s : State) → IsNode n → Contains (states n) s

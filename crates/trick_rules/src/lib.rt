@@ -1,6 +1,6 @@
 //! The laws of bridge play: tricks, positions, and nodes with the layouts that are thought
 //! possible.
-//! It stands on `card_sets` for cards and seats, and on `win_vectors` for the layouts that a card
+//! It builds on `card_sets` for cards and seats, and on `win_vectors` for the layouts that a card
 //! keeps.
 //! Each call is promised to equal its definition in `specs/`; `laws` says what those definitions
 //! come to.

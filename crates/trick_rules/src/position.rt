@@ -51,7 +51,7 @@ impl Model for Position {
 
 impl Position {
     #[tactic(auto, using(crate::proofs::BetweenTricks::between_tricks_sound, crate::proofs::BetweenTricks::hands_from_sound))]
-    /// The position with no card in the trick: `None` exactly where it would not be sound.
+    /// The position with no card in the trick: `None` exactly when it would not be sound.
     pub fn between_tricks(
         declarer: CardSet,
         dummy: CardSet,
@@ -116,8 +116,8 @@ impl Position {
         self.tricks_left() == 0
     }
 
-    /// What is certain already: `Some(true)` exactly where the need is 0, `Some(false)` exactly
-    /// where it is greater than the tricks left.
+    /// What is certain already: `Some(true)` exactly when the need is 0, `Some(false)` exactly when
+    /// it is greater than the tricks left.
     pub fn decided(&self) -> Option<bool>
         ensures { result ≡ result_of self.now }
     {

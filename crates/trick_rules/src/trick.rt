@@ -1,4 +1,4 @@
-//! A trick, and who takes it.
+//! A trick, and its winner.
 ghost use Rattle.std.specs.Prelude.{◌≡◌, ◌≤◌, ◌<◌, length, [], IsTrue, ◌↔◌};
 ghost use Rattle.trick_rules.specs.Positions.{seat_after as seat_that_many_on};
 ghost use Rattle.trick_rules.specs.Play.{suit_led, legal_cards, is_trump as is_trump_card, strength as strength_of, next_trick, winner_of};
@@ -34,7 +34,7 @@ impl Trick {
         }
     }
 
-    /// The suit led: `None` exactly where the trick has no card.
+    /// The suit led: `None` exactly when the trick has no card.
     pub fn suit_led(&self) -> Option<Suit>
         ensures { result ≡ suit_led self.now.cards }
     {
@@ -99,8 +99,8 @@ impl Trick {
     }
 }
 
-// How high a card stands in a trick: a trump above every other card, a card of the suit led above
-// those of the other suits.
+// The rank of a card within a trick: a trump ranks above every other card, a card of the suit led
+// above those of the other suits.
 fn strength(trump: Trump, led: Suit, card: Card) -> u8
     ensures value { result ≡ strength_of trump led card }
     ensures small { result < 64 }
@@ -136,8 +136,8 @@ fn seat_after(places: usize, seat: Seat) -> Seat
     there
 }
 
-/// Who takes a trick of four cards: the highest trump, or where there is none the highest card of
-/// the suit led.
+/// The winner of a trick of four cards: the seat of the highest trump, or if there is none of the
+/// highest card of the suit led.
 pub fn winner(trick: &Trick, trump: Trump) -> Seat
     requires { length trick.now.cards ≡ 4 }
     ensures { result ≡ winner_of trump trick.now }

@@ -22,7 +22,7 @@ fn fill(vectors: &[WinVector], out: &mut Front)
     }
 }
 
-/// Leaves the vectors of a front in `out`, which is as it was where memory is wanted.
+/// Leaves the vectors of a front in `out`, which is as it was if an allocation fails.
 pub fn leave(front: &Front, out: &mut Front) -> Result<(), AllocError>
     requires width { out.old.width ≡ front.now.width }
     ensures vectors { OnOk result (out.new.vectors ≡ front.now.vectors) }

@@ -48,14 +48,14 @@ impl WideFronts {
         }
     }
 
-    /// Looks for the front of a node with so many moves, and leaves it in `out` where it is there.
-    /// `out` is as it was where it isn't, or where memory is wanted for room in it.
+    /// Looks for the front of a node with `moves` moves, and leaves it in `out` if it is there.
+    /// `out` is as it was if it isn't, or if an allocation fails for room in it.
     pub fn look(&self, node: &Node, moves: u8, out: &mut Front) -> Result<bool, AllocError>
         requires width { out.old.width ≡ length node.now.lefts }
         ensures found { IfOk result (λ found. IsTrue found ↔ HasFront self.now node.now moves) }
         ensures front { IfOk result (λ found. IsTrue found → IsFrontAt node.now moves out.new) }
         ensures unchanged { IfOk result (λ found. found ≡ false → out.new ≡ out.old) }
-        ensures err { OnErr result (out.new ≡ out.old) }
+        ensures err { OnErr result ((out.new ≡ out.old) × HasFront self.now node.now moves) }
         ensures succeeds { HasSpareRoom out.old most_wide_vectors → IsOk result }
         ensures width { out.new.width ≡ out.old.width }
         ensures room { out.old.room ≤ out.new.room }
@@ -67,8 +67,8 @@ impl WideFronts {
         Ok(true)
     }
 
-    /// Puts the entry into its slot, in place of what stands there, if it has at most 512 vectors.
-    /// It takes memory for the slots where nothing was kept before.
+    /// Puts the entry into its slot, in place of what is there, if it has at most 512 vectors. It
+    /// takes memory for the slots if nothing was kept before.
     pub fn put(&mut self, entry: ProvenFront) -> Put
         ensures back { HandsBack entry result }
         ensures answer { PutLeavesWide self.old entry result self.new }

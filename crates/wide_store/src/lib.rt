@@ -1,5 +1,5 @@
-//! Proven fronts that are too wide for other stores, kept beside one of these.
-//! It stands on `front_table`, whose entries have at most 64 vectors.
+//! Proven fronts that are too wide for a shared table, kept outside it.
+//! It builds on `front_table`, whose entries have at most 64 vectors, and on `shared_table`.
 //! A hit is the definition's front of that node with those moves; an entry of up to 512 vectors is
 //! found until another takes its slot.
 #![tactic(auto)]

@@ -28,7 +28,7 @@ fn hash(node: &Node, moves: u8) -> u64
     hasher.finish()
 }
 
-/// The slot of a node with so many moves.
+/// The slot of a node with `moves` moves.
 pub fn slot_of(node: &Node, moves: u8) -> usize
     ensures value { result ≡ slot_of_key node.now moves }
     ensures within { result < slot_count }

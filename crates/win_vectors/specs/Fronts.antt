@@ -22,7 +22,7 @@ IsAtLeast false true = ⊥
 abbrev pub Dominates : Vector → Vector → Type 0
 Dominates u v = AllZip IsAtLeast u v
 
--- u stands before v where vectors are listed: it has more ones, or as many and a 1 at the first layout where the two differ
+-- u comes before v in a list of vectors: it has more ones, or as many and a 1 at the first layout at which the two differ
 abbrev pub Precedes : Vector → Vector → Type 0
 Precedes u v = vector_order u v ≡ Less
 
@@ -34,8 +34,8 @@ Covers front v = (u : Vector) × Contains front u × Dominates u v
 abbrev pub CoversAll : List Vector → List Vector → Type 0
 CoversAll front other = (v : Vector) → Contains other v → Covers front v
 
--- the list is the front of a set of vectors: its members are of the set, each vector of the set is dominated by one of them,
--- no one dominates another, and they stand in order
+-- the list is the front of a set of vectors: its members are in the set, each vector of the set is dominated by one of them,
+-- no one dominates another, and they are in order
 pub record IsFrontOf (Can : Vector → Type 0) (front : List Vector) : Type 0 where
   pub reached : (v : Vector) → Contains front v → Can v
   pub covered : (v : Vector) → Can v → Covers front v

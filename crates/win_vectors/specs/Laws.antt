@@ -20,7 +20,7 @@ SameMembers xs ys = (v : Vector) → Contains xs v ↔ Contains ys v
 abbrev pub CoverTheSame : List Vector → List Vector → Type 0
 CoverTheSame xs ys = (v : Vector) → Covers xs v ↔ Covers ys v
 
--- no vector of the list dominates another, they stand in order, and they cover what the other list covers
+-- no vector of the list dominates another, they are in order, and they cover what the other list covers
 pub record IsOrderedCover (all front : List Vector) : Type 0 where
   pub apart : (u v : Vector) → Contains front u → Contains front v → Dominates u v → u ≡ v
   pub ordered : AllPairs Precedes front
@@ -42,7 +42,7 @@ ReducedListsTheBest = (all front : List Vector) → IsReduced all front ↔ List
 abbrev pub ReducedIsTheCover : Type 0
 ReducedIsTheCover = (all front : List Vector) → IsReduced all front ↔ IsOrderedCover all front
 
--- it doesn't depend on the order of the list, nor on how often a vector stands in it
+-- it doesn't depend on the order of the list, nor on how often a vector is in it
 abbrev pub ReducedIgnoresOrder : Type 0
 ReducedIgnoresOrder = (xs ys front : List Vector) → SameMembers xs ys → IsReduced xs front → IsReduced ys front
 
@@ -54,6 +54,6 @@ ReducedOfReducedPart = (xs part ys front : List Vector) → IsReduced xs part �
 abbrev pub ReducedOfMeets : Type 0
 ReducedOfMeets = (xs f ys g front : List Vector) → IsReduced xs f → IsReduced ys g → IsReduced (meets f g) front ↔ IsReduced (meets xs ys) front
 
--- a list is its own reduced list where it is the reduced list of something
+-- a list is its own reduced list if it is the reduced list of something
 abbrev pub ReducedIsItsOwn : Type 0
 ReducedIsItsOwn = (all front : List Vector) → IsReduced all front → IsReduced front front

@@ -22,8 +22,8 @@ pub record MeetIsGreatest : Type 0 where
   pub second : (u v : Vector) → length u ≡ length v → Dominates v (meet_of u v)
   pub greatest : (u v w : Vector) → Dominates u w → Dominates v w → Dominates (meet_of u v) w
 
--- to spread and to restrict by one mask: the second undoes the first, and a spread vector dominates
--- where the vector itself dominates what the mask picks
+-- to spread and to restrict by one mask: the second undoes the first, and a spread vector dominates another if the
+-- vector itself dominates what the mask picks of it
 pub record SpreadUndoesRestrict : Type 0 where
   pub restricted : (v mask : Vector) → length v ≡ ones_of mask → restrict_of (spread_of v mask) mask ≡ v
   pub dominates : (u v mask : Vector) → length u ≡ ones_of mask → length v ≡ length mask →

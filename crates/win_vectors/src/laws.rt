@@ -21,8 +21,8 @@ pub fn meet_is_greatest()
     ensures { MeetIsGreatest }
 {}
 
-/// To restrict a vector that was spread by the same mask gives it back, and a spread vector
-/// dominates where the vector itself dominates what the mask picks.
+/// Restricting a vector that was spread by the same mask gives it back, and a spread vector
+/// dominates another if the vector itself dominates what the mask picks of it.
 pub fn spread_undoes_restrict()
     ensures { SpreadUndoesRestrict }
 {}
@@ -49,8 +49,7 @@ pub fn reduced_is_the_cover()
     ensures { ReducedIsTheCover }
 {}
 
-/// The reduced list doesn't depend on the order of the list, nor on how often a vector stands in
-/// it.
+/// The reduced list doesn't depend on the order of the list, nor on how often a vector is in it.
 pub fn reduced_ignores_order()
     ensures { ReducedIgnoresOrder }
 {}

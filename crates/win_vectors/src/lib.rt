@@ -1,7 +1,7 @@
-//! Win vectors: for a list of layouts, one bit each that says whether the layout is made.
-//! It stands on `bit_lists`: a vector is kept in four machine words and is seen as a list of bits.
-//! Each call is its definition on lists of bits, and the reduction to the best vectors has its laws
-//! here, once for all crates.
+//! Win vectors: for a list of layouts, one bit each that says whether the layout is made. It builds
+//! on `bit_lists`: a vector is kept in four machine words and is seen as a list of bits. Each call
+//! is its definition on lists of bits, and the reduction to the best vectors has its laws here,
+//! once for all crates.
 #![tactic(auto)]
 
 pub mod laws;

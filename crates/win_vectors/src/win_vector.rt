@@ -21,7 +21,7 @@ pub const MOST_LAYOUTS: usize = 256;
 
 const _: () = prove!(MOST_LAYOUTS == WORDS * WORD_PLACES as usize);
 
-/// One bit for each layout of a list, 1 where the layout is made: 1 to 256 bits.
+/// One bit for each layout of a list, 1 if the layout is made: 1 to 256 bits.
 ///
 /// The first layout has the lowest bit of the first word.
 #[derive(Clone, Copy, Debug)]
@@ -203,7 +203,7 @@ impl WinVector {
     }
 
     /// The printing order: more ones first, and among equal counts the vector with a 1 at the first
-    /// layout where the two differ. `Less` says that this vector comes first.
+    /// layout at which the two differ. `Less` says that this vector comes first.
     pub fn order(self, other: WinVector) -> Ordering
         requires { length self ≡ length other }
         ensures { result ≡ vector_order self other }

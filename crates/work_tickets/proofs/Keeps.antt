@@ -7,7 +7,7 @@ use prog.Atomic.{either}
 use Rattle.atomic_table.specs.Table.{State, Act, keeps, step, stepped, Allows, Splits, Joins, Valid, carried_after}
 use Rattle.atomic_table.proofs.Lists.{at_set, at_snoc, set_again, exchanged}
 use Rattle.work_tickets.specs.declared.rule.TicketView.{TicketView}
-use Rattle.work_tickets.specs.Drawn.{times, times_in_all, once_below, EachOnce, IsKnown, Drawn, view, newcomer, both, spent, Sat, drew, compared}
+use Rattle.work_tickets.specs.Drawn.{times, times_in_all, once_below, EachOnce, IsKnown, Drawn, view, newcomer, both, spent, Sat, drew, compared, was_read}
 
 pub times-append : (k : ℕ) (xs ys : List ℕ) → times k (xs ++ ys) ≡ times k xs + times k ys
 times-append k [] ys = omega arith
@@ -102,6 +102,19 @@ compares limit slots id m s h homes at fits = (
   kept limit s h (word s) id m.1 m.0 h.within (known_set (word s) (word s) s.views id m.0 (omega arith) h.known (h.known id m.0 at)) (λ k. same_times k s.views id m.0 m.0 at refl ∙ h.once k),
   (refl, λ k. let a = times_part k s.views id m.0 at in let b = h.once k in let c : once_below k (word s) ≤ 1 = grind arith in omega arith),
 )
+
+abbrev after_read : TicketView → ℕ → TicketView
+after_read v n = view v.limit v.numbers n v.tries
+
+pub reads : (limit slots id : ℕ) (m : Sat) → m.0.limit ≡ limit → Allows (Drawn limit) slots id m 0 (λ x. x) (was_read m)
+reads limit slots id m is s h homes at fits =
+    let w = after_read m.0 (word s) in (
+      w,
+      keeps,
+      tt,
+      kept limit s h (word s) id m.1 w h.within (known_set (word s) (word s) s.views id w (omega arith) h.known (omega arith)) (λ k. same_times k s.views id m.0 w at refl ∙ h.once k),
+      (refl, refl, h.known id m.0 at, (let b = h.within in omega arith), λ k. let a = times_part k s.views id m.0 at in let b = h.once k in omega arith),
+    )
 
 pub splits : (limit id : ℕ) (v : TicketView) → Splits (Drawn limit) id v v (newcomer v)
 splits limit id v s h at =

@@ -69,3 +69,9 @@ drew step m found k =
 -- the numbers of a pass are compared
 abbrev pub compared : Step Unit → Sat → ℕ → Sat → Type 0
 compared step m found k = (k ≡ m) × IsOnce m.0.numbers
+
+-- the word is read: of the pass's numbers each is below it, and stands once
+abbrev pub was_read : Sat → ℕ → Sat → Type 0
+was_read m found k =
+    (k.1 ≡ m.1) × (k.0 ≡ view m.0.limit m.0.numbers found m.0.tries) × (m.0.read ≤ found) × (found ≤ m.0.limit)
+    × ((k : ℕ) → times k m.0.numbers ≤ once_below k found)

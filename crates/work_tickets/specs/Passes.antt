@@ -1,11 +1,8 @@
 -- What a clause says of tickets and of a pass.
 use Rattle.std.specs.Prelude.{◌≡◌, ℕ, ◌≤◌, List, []}
-use mathlib.Core.Option.{some}
-use lib.ListN.{get_elem?}
 use Rattle.work_tickets.specs.declared.Tickets.{Tickets}
 use Rattle.work_tickets.specs.declared.TicketPass.{TicketPass}
-use Rattle.work_tickets.specs.declared.rule.TicketView.{TicketView}
-use Rattle.work_tickets.specs.Drawn.{EachOnce}
+use Rattle.work_tickets.specs.Drawn.{times, once_below}
 
 -- how many tickets there are: the numbers below it
 abbrev pub limit_of : Tickets → ℕ
@@ -27,6 +24,6 @@ read_of p = p.seat.me.0.read
 abbrev pub tries_of : TicketPass → ℕ
 tries_of p = p.seat.me.0.tries
 
--- at the end the word is n: all passes together, of which this is one, drew the numbers below n, each once
+-- the numbers that the pass drew are below n, and none stands twice
 abbrev pub DrewBelow : ℕ → TicketPass → Type 0
-DrewBelow n p = (views : List TicketView) × (get_elem? views p.seat.id ≡ some p.seat.me.0) × EachOnce n views
+DrewBelow n p = (k : ℕ) → times k (numbers_of p) ≤ once_below k n

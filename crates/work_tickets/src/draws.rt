@@ -4,7 +4,7 @@ ghost use Rattle.work_tickets.specs.Drawn.{IsOnce};
 ghost use Rattle.work_tickets.specs.Passes.{limit_of, IsTicketPass, numbers_of, read_of, tries_of};
 ghost use Rattle.work_tickets.specs.Passes.{DrewBelow};
 
-use crate::rule::{Compares, Draws, Parts};
+use crate::rule::{Compares, Draws, Parts, Reads};
 use crate::{TicketPass, Tickets};
 use atomic_table::Table;
 use std::alloc::{AllocError, Global};
@@ -74,17 +74,18 @@ impl Tickets {
         self.table.shared.load::<Compares>(&mut pass.seat, 0);
     }
 
-    /// The number that the word holds at the end: how many numbers all passes drew.
-    pub fn close(self, pass: TicketPass) -> u32
-        requires pass { IsTicketPass self pass }
-        ensures within { (read_of pass ≤ result) × (result ≤ limit_of self) }
-        ensures drawn { DrewBelow result pass }
+    /// Ends the draws, and gives the number that the word holds at this call. The pass has then
+    /// read it.
+    pub fn close(self, pass: &mut TicketPass) -> u32
+        requires pass { IsTicketPass self pass.old }
+        ensures pass { IsTicketPass self pass.new }
+        ensures read { read_of pass.new ≡ result }
+        ensures within { (read_of pass.old ≤ result) × (result ≤ limit_of self) }
+        ensures numbers { numbers_of pass.new ≡ numbers_of pass.old }
+        ensures drawn { DrewBelow result pass.old }
+        ensures tries { tries_of pass.new ≡ tries_of pass.old }
     {
-        let Tickets { table, limit: _ } = self;
-        let TicketPass { seat } = pass;
-        let closed = table.close_with(seat);
-        let word = closed.word(0);
-        closed.free();
+        let word = self.table.shared.load::<Reads>(&mut pass.seat, 0);
         word as u32
     }
 }

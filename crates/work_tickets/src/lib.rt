@@ -1,5 +1,5 @@
 //! Numbers that several threads draw, each once.
-//! It stands on `atomic_table` alone.
+//! It builds on `atomic_table` alone.
 //! The numbers that all passes drew are the numbers below one word, each once, and no draw waits.
 #![tactic(auto)]
 

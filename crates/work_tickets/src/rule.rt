@@ -37,6 +37,14 @@ impl Play<(), TicketView> for Compares {
     ghost then = { compared };
 }
 
+pub struct Reads;
+
+impl Play<(), TicketView> for Reads {
+    ghost use Rattle.work_tickets.specs.Drawn.{was_read};
+
+    ghost then = { λ _ seat found after. was_read seat found after };
+}
+
 pub struct Parts;
 
 impl Split<TicketView> for Parts {

@@ -197,7 +197,7 @@ impl Draws {
         (numbers, played.min(MOST_PLAYED))
     }
 
-    // Left's hands in so many layouts, the first of them given.
+    // Left's hands in the layouts of an ending, the first of them given.
     fn lefts(&mut self, unseen: CardSet, first: CardSet) -> [CardSet; LAYOUTS] {
         let mut lefts = [first; LAYOUTS];
         for place in 1..LAYOUTS {
@@ -246,8 +246,8 @@ impl Draws {
     }
 }
 
-/// A number that the answers for so many endings give, each by a solver of its own, after `first`
-/// endings that nothing is asked of. No clause pins it: the script compares it with that of the
+/// A number that depends on the answers of all `endings`, each by a solver of its own, after
+/// `first` endings that are passed over. No clause pins it: the script compares it with that of the
 /// programs in C++.
 pub fn answers_of(alloc: Global, work: Workload, first: u64, endings: u64) -> u64 {
     let mut draws = Draws::new(20_191_118);

@@ -16,9 +16,9 @@ pub struct Outcome {
     pub first: String,
 }
 
-/// In each round: puts vectors of which none dominates another into an empty front, then for each
+/// In each round: puts vectors none of which dominates another into an empty front, then for each
 /// of them one that it dominates, then for each one that dominates it. No clause pins the outcome:
-/// the script compares it with the one of the same work in C++.
+/// the script compares it with that of the same work in C++.
 pub fn inserts(alloc: Global, size: u64, rounds: u64) -> Result<Outcome, AllocError> {
     let base = split_vectors(alloc, size)?;
     let mut below = Vec::new(alloc);
@@ -106,7 +106,7 @@ fn split_vectors(alloc: Global, size: u64) -> Result<Vec<WinVector>, AllocError>
     Ok(vectors)
 }
 
-// The vector that has 1 at the second layout of a pair where the number has a 1, and else at the
+// The vector that has 1 at the second layout of a pair if the number has a 1, and otherwise at the
 // first.
 fn split_vector(number: u64) -> WinVector {
     let mut vector = WinVector::none(LAYOUTS);

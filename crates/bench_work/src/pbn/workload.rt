@@ -63,7 +63,7 @@ pub fn file_of(alloc: Global, kind: &str, size: usize) -> Result<Vec<u8>, AllocE
     }
 }
 
-// What stands in front, and then as many whole pieces as fit into this size.
+// The beginning, and then as many whole pieces as fit into this size.
 fn repeated(alloc: Global, front: &str, piece: &[u8], size: usize) -> Result<Vec<u8>, AllocError> {
     let mut file = front.as_bytes().to_vec(alloc)?;
     if !piece.is_empty() {

@@ -4,16 +4,16 @@ use card_sets::Card;
 use std::alloc::{AllocError, Global};
 use strategy_tree::{Plan, Reply};
 
-// A plan of 13 tricks has at most so many levels, and so has a plan that is read.
+// The most levels of a plan of 13 tricks, and of a plan that is read.
 const MOST_LEVELS: u8 = 64;
 
-/// A plan of so many lines.
+/// A plan of this many lines.
 /// No clause pins the plan: it is a workload to be timed, and the script counts its lines.
 pub fn plan_of_lines(alloc: Global, lines: u64) -> Result<Plan, AllocError> {
     ours(alloc, lines, MOST_LEVELS)
 }
 
-// Declarer's side plays, where a line is left for what follows.
+// Declarer's side plays, if a line is left for what follows.
 #[cycle(plans)]
 fn ours(alloc: Global, lines: u64, levels: u8) -> Result<Plan, AllocError> {
     if lines < 2 || levels == 0 {
@@ -33,7 +33,7 @@ fn theirs(alloc: Global, lines: u64, levels: u8) -> Result<Plan, AllocError> {
     Ok(Plan::Hear(replies(alloc, lines - 1, levels - 1)?))
 }
 
-// The replies in so many lines, at least 2, of about the same length.
+// The replies, of about the same length, in this many lines, at least 2.
 #[cycle(plans)]
 fn replies(alloc: Global, lines: u64, levels: u8) -> Result<Vec<Reply>, AllocError> {
     let count = (lines / 2).min(52) as u8;

@@ -24,8 +24,8 @@ fn times_a_round(text: &Text) -> u64 {
     LINES_A_ROUND / line_count(text.bytes()).max(1)
 }
 
-/// Writes the plan in so many rounds, and counts how often it came to the text.
-/// No clause pins the count: the script stops where it isn't the number of times.
+/// Writes the plan once in each of the rounds, and counts how often it was written whole.
+/// No clause pins the count: the script stops if it isn't the number of rounds.
 pub fn write_often(
     alloc: Global,
     plan: &Plan,
@@ -47,8 +47,8 @@ pub fn write_often(
     Ok(count)
 }
 
-/// Reads the text in so many rounds, and counts how often it was a plan.
-/// No clause pins the count: the script stops where it isn't the number of times.
+/// Reads the text once in each of the rounds, and counts how often it was a plan.
+/// No clause pins the count: the script stops if it isn't the number of rounds.
 pub fn read_often(alloc: Global, text: &Text, rounds: u64) -> Result<u64, AllocError> {
     let mut count: u64 = 0;
     for _ in 0..rounds {
@@ -66,7 +66,7 @@ pub fn read_often(alloc: Global, text: &Text, rounds: u64) -> Result<u64, AllocE
 }
 
 /// Whether the text is read as a plan that is written as the same text. No clause pins the answer:
-/// that it is `true` is a law of `strategy_tree`, and the script stops where it isn't.
+/// that it is `true` is a law of `strategy_tree`, and the script stops if it isn't.
 pub fn is_read_back(alloc: Global, text: &Text) -> Result<bool, AllocError> {
     let Ok((plan, _)) = read_plan(alloc, text.bytes(), 0) else {
         return Ok(false);

@@ -39,8 +39,8 @@ fn counted<S: FrontStore>(
     }
 }
 
-/// The nodes that a search of the position enters, and the length of its front; none where memory
-/// is wanted.
+/// The nodes that a search of the position enters, and the length of its front; none if an
+/// allocation fails.
 pub fn count_nodes(alloc: Global, node: &Node, moves: u8, with_cuts: bool) -> Option<(u64, usize)>
     requires { moves ≤ most_moves }
 {

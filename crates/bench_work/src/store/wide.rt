@@ -67,7 +67,7 @@ impl Moved {
         )
     }
 
-    // Left's hands, again and again until there are so many.
+    // Left's hands, repeated until there are enough.
     fn lefts(&self, alloc: Global, node: &Node, width: u16) -> Result<Vec<CardSet>, AllocError> {
         let mut lefts = Vec::new(alloc);
         for place in 0..width {
@@ -115,8 +115,8 @@ fn put(
     }
 }
 
-/// Puts the fronts of so many copies of an ending at whose root no card is played yet. How many are
-/// kept, and how many vectors they have together.
+/// Puts the fronts of this many copies of an ending at whose root no card is played yet. How many
+/// are kept, and how many vectors they have together.
 pub fn put_copies(alloc: Global, node: &Node, asked: Copies) -> Result<(u64, u64), AllocError>
     requires { asked.moves ≤ most_moves }
 {

@@ -96,7 +96,7 @@ CK CA C3 C4
 [Event \"Chapter 5\"][Board \"5\"][Deal \"#\"][Contract \"#\"]
 ";
 
-// A table's log: values that stand for those of the game before, question marks and empty values,
+// A table's log: values that take over those of the game before, question marks and empty values,
 // alerts, a hand that was claimed.
 const LOG: &str = "[Event \"#Evening\"]
 [Site \"\"]
@@ -132,7 +132,7 @@ const DRILLS: &str =
 
 [Event \"Drill\"]\t[Board \"3\"]\t[Deal \"N:2.A.. - 3.3.. -\"]{none}[Play \"N\"]{none}";
 
-// How many tag pairs and tokens stand in each game of a file.
+// How many tag pairs and tokens each game of a file has.
 fn shape(alloc: Global, file: &str) -> Result<Text, Fail> {
     let file = file.as_bytes();
     if file.len() >= 0xffff_ffff {

@@ -10,12 +10,12 @@ pub returns-then-makes : goal.returns-then-makes
 returns-then-makes c =
     let n : NodeValue = c.args.node.now in
     let there = made_there n.position n.lefts c.args.place c.left.result c.requires.within c.left.ensures in
-    let same : c.makes.result ≡ makes (record { position = n.position; left = c.left.result }) = c.makes.ensures ∙ ap (λ (t : PositionValue). makes (record { position = t; left = c.left.result })) c.position.ensures.value in
+    let same : c.makes.result ≡ makes (record { position = n.position; left = c.left.result }) = c.makes.ensures.answer ∙ ap (λ (t : PositionValue). makes (record { position = t; left = c.left.result })) c.position.ensures.value in
     chosen_first (makes_at n c.args.place) c.args.made (set c.args.made c.args.place false) (there ∙ sym same ∙ c.if-makes.true)
 
 pub returns-else-makes : goal.returns-else-makes
 returns-else-makes c =
     let n : NodeValue = c.args.node.now in
     let there = made_there n.position n.lefts c.args.place c.left.result c.requires.within c.left.ensures in
-    let same : c.makes.result ≡ makes (record { position = n.position; left = c.left.result }) = c.makes.ensures ∙ ap (λ (t : PositionValue). makes (record { position = t; left = c.left.result })) c.position.ensures.value in
+    let same : c.makes.result ≡ makes (record { position = n.position; left = c.left.result }) = c.makes.ensures.answer ∙ ap (λ (t : PositionValue). makes (record { position = t; left = c.left.result })) c.position.ensures.value in
     c.set.ensures ∙ chosen_second (makes_at n c.args.place) c.args.made (set c.args.made c.args.place false) (there ∙ sym same ∙ c.if-makes.false)

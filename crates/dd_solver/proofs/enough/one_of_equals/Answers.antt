@@ -23,11 +23,11 @@ loop-card-preserved-in-Some-next_equal c =
     let card = c.in-Some.card in
     let rest = c.pop_first.new.self in
     let legal = first_legal c.loop-card.rest rest (legal_in s) card c.in-Some.ensures.value c.loop-card.invariant.rest in
-    let next = c.in-Some-next_equal.next in
+    let next = c.in-Some-next_equal._next in
     let eq = next_is_equal s c.legal_in-legal.result c.cards_in_play-playing.result card next c.requires c.legal_in-legal.ensures c.cards_in_play-playing.ensures legal c.in-Some-next_equal.ensures.is in
     record {
       rest = rest_legal c.loop-card.rest rest (legal_in s) card c.in-Some.ensures.value c.loop-card.invariant.rest;
-      legal = λ d h. c.loop-card.invariant.legal d (take_out-low next c.loop-card.kept d (sym (ap (λ x. has_card x d) c.without-kept.ensures.value) ∙ h));
+      legal = λ d h. c.loop-card.invariant.legal d (take_out-low card c.loop-card.kept d (sym (ap (λ x. has_card x d) c.without-kept.ensures.value) ∙ h));
       spoken = spoken-without s c.loop-card.kept c.without-kept.result card next eq c.without-kept.ensures.value c.loop-card.invariant.spoken;
     }
 

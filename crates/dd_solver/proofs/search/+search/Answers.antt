@@ -33,26 +33,26 @@ search-search_key-answer-requires t c =
       (c.of-squeezed.ensures.state, (c.of-squeezed.ensures.shape, numbers.1 ∙ ap (λ (x : State). decided x.position) c.of-key.ensures.state ∙ sym c.decided.ensures ∙ c.in_default.is)),
     )
 
-pub search_cards-returns : goal.search_cards-returns
-search_cards-returns t c =
+pub search_cards-returns-clause-answer : goal.search_cards-returns-clause-answer
+search_cards-returns-clause-answer t c =
     let s : State = record { position = c.args.position.now; left = c.args.left } in
     let ours = c.is_ours-ours.result in
     answer-each s c.one_of_equals-cards.result c.with_lower_equals.result ours c.best_of-answer.result (record { made = not ours; counting = c.with_lower_equals.result })
-    c.requires.state (open-decided s.position c.requires.open) c.best_of-answer.ensures (other_answer c.best_of-answer.result.made ours c.if-answer-ours.false)
+    c.requires.state (open-decided s.position c.requires.open) c.best_of-answer.ensures.given (other_answer c.best_of-answer.result.made ours c.if-answer-ours.false)
     c.one_of_equals-cards.ensures.others refl refl c.with_lower_equals.ensures.closed c.with_lower_equals.ensures.within c.with_lower_equals.ensures.down
 
 pub best_of-play-after-requires : goal.best_of-play-after-requires
 best_of-play-after-requires t c =
     let s : State = record { position = c.args.position.now; left = c.args.left } in
     let card = c.in-Some.card in
-    a_legal_card_can_be_played s card c.requires.state (c.requires.legal card (c.loop-card.invariant.part card c.in-Some.ensures))
+    a_legal_card_can_be_played s card c.requires.state (c.requires.legal card (c.loop-card.invariant.tried.part card c.in-Some.ensures))
 
 pub best_of-search-there-requires : goal.best_of-search-there-requires
 best_of-search-there-requires t c =
     let s : State = record { position = c.args.position.now; left = c.args.left } in
     let card = c.in-Some.card in
     let ok : IsState s = c.requires.state in
-    let legal = c.requires.legal card (c.loop-card.invariant.part card c.in-Some.ensures) in
+    let legal = c.requires.legal card (c.loop-card.invariant.tried.part card c.in-Some.ensures) in
     let fewer = a_card_leaves_one_fewer s.position card ok.sound (a_legal_card_can_be_played s card ok legal) in (
       omega (arith, fewer, ap cards_left c.play-after.ensures.value, c.decreases),
       rw (c.play-after.ensures.value, c.without.ensures.value) (a_legal_card_leads_to_a_state s card ok legal).fits,
@@ -62,10 +62,10 @@ pub best_of-with_winner-part-requires-clause-held : goal.best_of-with_winner-par
 best_of-with_winner-part-requires-clause-held t c =
     let s : State = record { position = c.args.position.now; left = c.args.left } in
     let card = c.in-Some.card in
-    a_legal_card_can_be_played s card c.requires.state (c.requires.legal card (c.loop-card.invariant.part card c.in-Some.ensures))
+    a_legal_card_can_be_played s card c.requires.state (c.requires.legal card (c.loop-card.invariant.tried.part card c.in-Some.ensures))
 
-pub best_of-returns-then-there-ours : goal.best_of-returns-then-there-ours
-best_of-returns-then-there-ours t c =
+pub best_of-returns-then-there-ours-clause-given : goal.best_of-returns-then-there-ours-clause-given
+best_of-returns-then-there-ours-clause-given t c =
     let s : State = record { position = c.args.position.now; left = c.args.left } in
     let card = c.in-Some.card in
     let ours = c.args.ours in
@@ -73,7 +73,7 @@ best_of-returns-then-there-ours t c =
     let part = c.with_winner-part.result in
     let got : HasAnswer there.counting (after s card) there.made = rw (c.play-after.ensures.value, c.without.ensures.value) at c.search-there.ensures.answer.answers in
     let wins : HasAnswer there.counting (after s card) ours = subst (λ b. HasAnswer there.counting (after s card) b) (same_answer there.made ours c.if-there-ours.true) got in
-    let legal = c.requires.legal card (c.loop-card.invariant.part card c.in-Some.ensures) in
+    let legal = c.requires.legal card (c.loop-card.invariant.tried.part card c.in-Some.ensures) in
     given-one s c.args.cards ours card (record { made = ours; counting = part }) c.requires.state legal c.requires.turn refl
     c.with_winner-part.ensures.closed
     (given_by s card ours there.counting part legal c.with_winner-part.ensures.closed c.with_winner-part.ensures.within (c.with_winner-part.ensures.settles c.args.left) wins)
@@ -92,8 +92,11 @@ best_of-loop-card-preserved t c =
     let part = c.with_winner-part.result in
     let got : HasAnswer there.counting (after s card) there.made = rw (c.play-after.ensures.value, c.without.ensures.value) at c.search-there.ensures.answer.answers in
     let fails : HasAnswer there.counting (after s card) (not ours) = subst (λ b. HasAnswer there.counting (after s card) b) (other_answer there.made ours c.if-there-ours.false) got in
-    let legal = c.requires.legal card (c.loop-card.invariant.part card c.in-Some.ensures) in
-    tried-more s c.args.cards c.loop-card.rest c.without-rest.result c.without_like-rest.result c.loop-card.counting c.joined-counting.result part ours card c.loop-card.invariant
-    c.without-rest.ensures.value c.without_like-rest.ensures.within c.without_like-rest.ensures.like
-    c.joined-counting.ensures.closed c.joined-counting.ensures.first_within c.joined-counting.ensures.second_within
-    (given_by s card (not ours) there.counting part legal c.with_winner-part.ensures.closed c.with_winner-part.ensures.within (c.with_winner-part.ensures.settles c.args.left) fails)
+    let legal = c.requires.legal card (c.loop-card.invariant.tried.part card c.in-Some.ensures) in
+    record {
+      tried = tried-more s c.args.cards c.loop-card.rest c.without-rest.result c.without_like-rest.result c.loop-card.counting c.joined-counting.result part ours card c.loop-card.invariant.tried
+          c.without-rest.ensures.value c.without_like-rest.ensures.within c.without_like-rest.ensures.like
+          c.joined-counting.ensures.closed c.joined-counting.ensures.first_within c.joined-counting.ensures.second_within
+          (given_by s card (not ours) there.counting part legal c.with_winner-part.ensures.closed c.with_winner-part.ensures.within (c.with_winner-part.ensures.settles c.args.left) fails);
+      limit = c.search-there.ensures.limit ∙ c.loop-card.invariant.limit;
+    }

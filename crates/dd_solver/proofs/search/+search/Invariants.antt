@@ -1,4 +1,4 @@
-use Rattle.std.proofs.Common.{◌+◌, ◌*◌, length}
+use Rattle.std.proofs.Common.{◌≡◌, ◌+◌, ◌*◌, length}
 use Rattle.trick_rules.specs.Positions.{State}
 use Rattle.trick_rules.specs.Play.{cards_left}
 use Rattle.dd_solver.specs.Keys.{key_state}
@@ -20,7 +20,7 @@ decreases-best_of l = 4 * cards_left l.position.now
 abbrev pub invariant-best_of-loop-card : goal.invariant-best_of-loop-card
 invariant-best_of-loop-card l =
     let s : State = record { position = l.position; left = l.left } in
-    AreTried s l.fn.cards l.rest l.ours l.counting
+    record { tried : AreTried s l.fn.cards l.rest l.ours l.counting; limit : l.memo.most ≡ l.fn.memo.most }
 
 abbrev pub decreases-best_of-loop-card : goal.decreases-best_of-loop-card
 decreases-best_of-loop-card l = length l.rest

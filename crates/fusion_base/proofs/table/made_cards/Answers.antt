@@ -34,7 +34,7 @@ loop-card-preserved-then-not-makes c =
     let n = c.args.node.now in
     let card = c.in-Some.card in
     let same : c.makes.result ≡ makes_after n c.args.left card =
-    c.makes.ensures
+    c.makes.ensures.answer
     ∙ ap (λ table. makes (record { position = table; left = c.without.result })) (c.play-after.ensures.value ∙ ap (λ table. after_card table card) c.position.ensures.value)
     ∙ ap (λ left. makes (record { position = after_card n.position card; left = left })) c.without.ensures.value in
     let failed : c.makes.result ≡ false = search rules in
@@ -48,7 +48,7 @@ loop-card-preserved c =
     let n = c.args.node.now in
     let card = c.in-Some.card in
     let same : c.makes.result ≡ makes_after n c.args.left card =
-    c.makes.ensures
+    c.makes.ensures.answer
     ∙ ap (λ table. makes (record { position = table; left = c.without.result })) (c.play-after.ensures.value ∙ ap (λ table. after_card table card) c.position.ensures.value)
     ∙ ap (λ left. makes (record { position = after_card n.position card; left = left })) c.without.ensures.value in
     let made : c.makes.result ≡ true = search rules in

@@ -3,7 +3,7 @@ use Rattle.trick_rules.specs.Positions.{State}
 use Rattle.alike_states.proofs.Likes.{alike_self}
 use Rattle.dd_solver.proofs.solver.Solver.makes.Goals as goal
 
-pub returns : goal.returns
-returns c =
+pub returns-clause-answer : goal.returns-clause-answer
+returns-clause-answer c =
     let s : State = record { position = c.args.position.now; left = c.args.left } in
     sym (c.search.ensures.answer.answers s c.search.ensures.state (alike_self c.search.result.counting s))

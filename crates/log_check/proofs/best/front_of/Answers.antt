@@ -4,7 +4,7 @@ use Rattle.win_vectors.specs.Fronts.{Vector, IsReduced}
 use Rattle.win_vectors.proofs.Reduction.{reduced-nil, reduced-push}
 use Rattle.log_check.specs.Steps.{CoverAlike}
 use Rattle.log_check.proofs.Joined.{alike-reduced}
-use Rattle.log_check.proofs.joining.front_of.Goals as goal
+use Rattle.log_check.proofs.best.front_of.Goals as goal
 
 pub loop-vector-init : goal.loop-vector-init
 loop-vector-init c = record {

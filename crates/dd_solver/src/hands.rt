@@ -1,0 +1,51 @@
+//! The four hands as one seat sees them.
+ghost use Rattle.std.specs.Prelude.{◌≡◌, ◌≤◌, length};
+ghost use Rattle.trick_rules.specs.Positions.{seat_after};
+ghost use Rattle.trick_rules.specs.Play.{of_suit, hand_of};
+
+use card_sets::{CardSet, Seat, Suit};
+use trick_rules::Position;
+
+/// The hand of a seat, and the three others clockwise.
+#[derive(Clone, Copy)]
+pub(crate) struct Hands {
+    pub(crate) own: CardSet,
+    pub(crate) next: CardSet,
+    pub(crate) partner: CardSet,
+    pub(crate) last: CardSet,
+}
+
+impl Hands {
+    /// The hands as this seat sees them.
+    pub(crate) fn of(position: &Position, left: CardSet, seat: Seat) -> Hands
+        ensures own { result.own ≡ hand_of
+            (record { position = position.now; left = left }) seat }
+        ensures next { result.next ≡ hand_of
+            (record { position = position.now; left = left }) (seat_after 1 seat) }
+        ensures partner { result.partner ≡ hand_of
+            (record { position = position.now; left = left }) (seat_after 2 seat) }
+        ensures last { result.last ≡ hand_of
+            (record { position = position.now; left = left }) (seat_after 3 seat) }
+    {
+        let next = seat.next();
+        let partner = next.next();
+        Hands {
+            own: position.hand(seat, left),
+            next: position.hand(next, left),
+            partner: position.hand(partner, left),
+            last: position.hand(partner.next(), left),
+        }
+    }
+
+    /// The most cards of a suit that another hand has.
+    pub(crate) fn most_of_others(&self, suit: Suit) -> u8
+        ensures next { length (of_suit suit self.now.next) ≤ result }
+        ensures partner { length (of_suit suit self.now.partner) ≤ result }
+        ensures last { length (of_suit suit self.now.last) ≤ result }
+    {
+        let next = self.next.of_suit(suit).count();
+        let partner = self.partner.of_suit(suit).count();
+        let last = self.last.of_suit(suit).count();
+        next.max(partner).max(last)
+    }
+}
