@@ -5,7 +5,7 @@ What moves cost on contested boards, and what they tell. It prints a table with 
 (default 7 to 13), each over BOARDS boards (default 8) with 20 layouts: the processor seconds of the job `card` with 2, 4 and 6 moves and
 with all, as the median and in brackets the slowest board. Beyond ten tricks all moves aren't tried. It also counts on how many boards the
 count that sampling believes in is too high, and on how many sampling names another card than `card` with all moves does. A board that
-takes more than LIMIT seconds is left out of these two.
+takes more than LIMIT seconds of the processor is left out of these two.
 
 The boards are made as those of examples/evening are, from the seeds 1, 2, 3 and so on, and aren't chosen by hand. A board is contested if,
 at some level of the contract, sampling makes it in a quarter to nine tenths of the layouts; of such levels the one nearest to half is asked
@@ -27,16 +27,19 @@ from workers import PROGRAM
 LAYOUTS, MOVES, ALL, MOST_TRICKS_FOR_ALL, LIMIT = 20, (2, 4, 6), 26, 10, 100
 
 
+def limit():
+    resource.setrlimit(resource.RLIMIT_CPU, (LIMIT, LIMIT))
+
+
 def ask(job, deal, layouts, *more):
     """Seconds of the processor and what is printed; nothing is printed if it takes too long."""
     words = [PROGRAM, "--job", job, "--deal", deal, "--layouts", layouts, *map(str, more)]
     before = resource.getrusage(resource.RUSAGE_CHILDREN)
-    try:
-        printed = subprocess.run(words, capture_output=True, text=True, check=True, timeout=LIMIT).stdout
-    except subprocess.TimeoutExpired:
-        printed = None
+    done = subprocess.run(words, capture_output=True, text=True, preexec_fn=limit)
     after = resource.getrusage(resource.RUSAGE_CHILDREN)
-    return after.ru_utime - before.ru_utime + after.ru_stime - before.ru_stime, printed
+    if done.returncode > 0:
+        sys.exit(f"{words}: status {done.returncode}, {done.stderr}")
+    return after.ru_utime - before.ru_utime + after.ru_stime - before.ru_stime, done.stdout if done.returncode == 0 else None
 
 
 def sampled(deal, layouts):

@@ -6,12 +6,14 @@ and `card` with all moves the column "True", in percent of the weight of all lay
 that page. It fails if a value differs, if a row asks for another number of tricks than the ending that examples/suits/make.py writes, or if
 the page has fewer than LEAST rows.
 
-The proved program must be there and current: ./build makes it. About five seconds."""
+The proved program must be there and current: ./build makes it. It takes about fifteen seconds of the processor."""
+import os
 import pathlib
 import re
 import subprocess
 import sys
 import tempfile
+from concurrent.futures import ThreadPoolExecutor
 
 TOP = pathlib.Path(__file__).resolve().parent.parent
 MAKE = TOP / "examples" / "suits" / "make.py"
@@ -52,9 +54,9 @@ def main():
     rows = ROW.findall(PAGE.read_text())
     known = {(dummy, south, tricks, sampled, true) for dummy, south, tricks, _, _, sampled, true in rows}
     wrong = [f"README.md has a row that isn't on the page: {row}" for row in FRONT_ROW.findall(FRONT_PAGE.read_text()) if row not in known]
-    with tempfile.TemporaryDirectory() as room:
-        for row in rows:
-            wrong += faults(row, f"{room}/suit")
+    with tempfile.TemporaryDirectory() as room, ThreadPoolExecutor(os.cpu_count()) as workers:
+        names = [f"{room}/{number}" for number in range(len(rows))]
+        wrong += [line for found in workers.map(faults, rows, names) for line in found]
     if len(rows) < LEAST:
         wrong.append(f"the page has {len(rows)} rows, and {LEAST} are expected")
     print("\n".join([*wrong, f"suits: {len(rows)} combinations, {len(wrong)} faults"]))
