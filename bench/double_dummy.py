@@ -1,13 +1,13 @@
 #!/usr/bin/env python3
-"""Checks double dummy beside plain minimax and Bo Haglund's DDS (Debian's libdds-dev), and times it beside DDS and beside the same
+"""Checks double dummy against plain minimax and Bo Haglund's DDS (Debian's libdds-dev), and times it beside DDS and beside the same
 work in C++. Both sides answer the same question on the same random deals in one run. If an answer differs, the run stops.
 
-Usage: bench/double_dummy.py [MODE ..] [--OPTION VALUE ..]. If no mode is given, it runs all of them except `plain`.
+Usage: bench/double_dummy.py [MODE ..] [--OPTION VALUE ..]. If you give no mode, it runs all of them except `plain`.
     agree    compares answers: each need after 0 to 7 random cards, so inside tricks too. ENDINGS endings of three to eight tricks,
-             beside plain minimax up to five tricks and DDS from six on; DEALS whole deals; a tenth as many of each length between
+             against plain minimax up to five tricks and DDS from six on; DEALS whole deals; a tenth as many of each length between
     rows     DEALS deals a row, without and with trumps: the cards that reach the need, in 20 layouts of 7, 8 and 10 tricks and in one
              layout of 12 and 13, and the tricks of a deal of 12 and 13
-    hard     the cards that reach the need in five hard deals: out of 250 of thirteen tricks at no trump
+    hard     the cards that reach the need in five hard deals, found among 250 of thirteen tricks at no trump
     slowest  the same in DEALS other deals, and the five that took longest
     whole    the same in 20 layouts of DEALS deals of thirteen tricks, without and with trumps
     plain    microseconds an ending, beside minimax in C++, plain and with a memo
@@ -15,18 +15,19 @@ Usage: bench/double_dummy.py [MODE ..] [--OPTION VALUE ..]. If no mode is given,
 What is compared:
     cards    Which of declarer's cards reach the need in each layout? The need is what declarer's side takes in the first layout. alphamu
              answers by its job `fusion`, DDS by SolveBoard with the need as target and solutions 2, called once a layout.
-    tricks   How many tricks does declarer's side take? Both sides are asked whether it takes 1, 2 and so on, until it doesn't. This is
-             no slower for DDS than its own count.
+    tricks   How many tricks does declarer's side take? Both sides are asked whether it takes 1, 2 and so on, until it doesn't. DDS
+             takes no longer for this than for its own count.
 DDS remembers what it was asked, so it is asked about another deal before each question.
 
-What is timed: processor time, the least of up to seven runs, and of fewer if they take long. The cards are timed through the proved
-program itself, less a run on the same files with a need of 0, which double dummy answers at once: reading, threads and the report don't
-count. Either run varies by some tenths of a millisecond, while 20 layouts of 7 tricks take several milliseconds; fewer tricks or layouts
-can't be timed this way, and what is below 0.2 milliseconds counts as that. The tricks of a deal are timed through the proved program of
-workloads, which asks one solver for all needs, less a run on no deal. DDS is one process for the whole run; its calls alone are timed.
+What is timed: processor time, the least of up to seven runs, or of fewer if they take long.
+    cards    The proved program itself, less a run on the same files with a need of 0, which double dummy answers at once: reading,
+             threads and the report don't count. Either run varies by some tenths of a millisecond, and 20 layouts of 7 tricks take
+             several milliseconds. Fewer tricks or layouts can't be timed this way. Less than 0.2 milliseconds counts as 0.2.
+    tricks   The proved program of workloads, which asks one solver for all needs, less a run on no deal.
+    DDS      Its calls alone, in one process for the whole run.
 
-A ratio is alphamu's time divided by DDS's. Deals differ a lot, so each row has the median, the geometric mean, the ratio of the sums and the
-worst.
+A ratio is alphamu's time divided by DDS's. Deals differ a lot, so each row has the median and the geometric mean of the ratios, the
+ratio of the sums, and the worst ratio.
 
 The program must be built: ./build. For `agree`, `plain` and the tricks of a deal the program of workloads is built first."""
 import argparse
@@ -92,9 +93,8 @@ class Bench:
 
     def rows(self):
         print(f"cards: seed {self.given.seed}; tricks: deals of the program of workloads from number {self.given.first} on\n{HEAD}")
-        for (question, tricks, layouts), strain in itertools.product(ROWS, STRAINS):
-            if self.given.question in (None, question) and self.given.tricks in (None, tricks):
-                self.row(question, tricks, layouts, strain, self.count("rows"))
+        for (question, tricks, layouts), strain in itertools.product(chosen_rows(self.given), STRAINS):
+            self.row(question, tricks, layouts, strain, self.count("rows"))
 
     def hard(self):
         print(f"hard deals, seed {HARD_SEED}: seconds\n  deal  need   alphamu      DDS")
@@ -113,6 +113,10 @@ class Bench:
         print(f"seed {self.given.seed}\n{HEAD}")
         for strain in STRAINS:
             self.row("cards", 13, 20, strain, self.count("whole"))
+
+
+def chosen_rows(given):
+    return [row for row in ROWS if given.question in (None, row[0]) and given.tricks in (None, row[1])]
 
 
 def print_row(what, pairs):
@@ -141,13 +145,15 @@ def words():
     if unknown:
         parser.error(f"no such mode: {', '.join(unknown)}; the modes are {', '.join(MODES)}")
     given.modes = given.modes or [mode for mode in MODES if mode != "plain"]
+    if set(given.modes) - WITHOUT_DDS and not given.program.exists():
+        parser.error(f"{given.program} isn't there; ./build makes it")
     return given
 
 
 def workloads(given):
     """The program of workloads, which is built if it is needed and not given."""
-    of_rows = {"rows"} if given.question != "cards" else set()
-    if not given.workloads and (WITHOUT_DDS | of_rows) & set(given.modes):
+    asks_tricks = "rows" in given.modes and any(row[0] == "tricks" for row in chosen_rows(given))
+    if not given.workloads and (asks_tricks or WITHOUT_DDS & set(given.modes)):
         build_workloads()
     return given.workloads or WORKLOADS
 

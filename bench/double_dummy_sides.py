@@ -1,4 +1,5 @@
 """The two sides of bench/double_dummy.py: alphamu, by the processor time of a run less that of an idle one, and DDS, by its own clock."""
+import os
 import pathlib
 import subprocess
 
@@ -28,12 +29,14 @@ def less_idle(words, idle_words):
 
 
 def build_baseline():
-    """Builds the program in C++, and says whether DDS is there."""
+    """Builds the program in C++, and says whether DDS is there. Another run may be using the one that is there."""
     BASELINE.parent.mkdir(exist_ok=True)
-    words = ["g++", "-O2", "-march=x86-64-v2", "-o", BASELINE, HERE / "double_dummy_baseline.cpp"]
+    built = BASELINE.with_suffix(f".{os.getpid()}")
+    words = ["g++", "-O2", "-march=x86-64-v2", "-o", built, HERE / "double_dummy_baseline.cpp"]
     has_dds = subprocess.run(words + ["-DWITH_DDS", "-ldds"], stderr=subprocess.DEVNULL).returncode == 0
     if not has_dds:
         subprocess.run(words, check=True)
+    built.replace(BASELINE)
     return has_dds
 
 
