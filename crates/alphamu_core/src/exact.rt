@@ -15,8 +15,8 @@ use pareto_fronts::Front;
 use std::alloc::Global;
 use trick_rules::Node;
 
-/// The front of a node with so many moves of declarer's side, at most 26: searched to its end,
-/// within so many nodes.
+/// The front of a node with `moves` moves of declarer's side, at most 26: searched to its end,
+/// within `nodes` nodes.
 pub fn exact_front<S: FrontStore>(
     alloc: Global,
     store: &mut S,

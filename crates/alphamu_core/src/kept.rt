@@ -9,7 +9,7 @@ use cut_rules::CutRules;
 use equal_cards::one_of_equals;
 use trick_rules::Node;
 
-/// The choices that are enough to try: of equal cards the lowest, where there are cuts.
+/// The choices that are enough to try: if there are cuts, of equal cards the lowest.
 pub fn cards_to_try(node: &Node, rules: CutRules) -> CardSet
     ensures enough { AreEnough node.now result }
     ensures each { rules ≡ no_cuts → result ≡ choices_of node.now }

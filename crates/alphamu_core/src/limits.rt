@@ -28,8 +28,8 @@ pub enum Limit {
     Upper(Option<Front>),
 }
 
-/// The answer from the store, or by an upper bound; or else the upper bound, where the rules ask
-/// for one.
+/// The answer from the store, or by an upper bound; or else the upper bound, if the rules ask for
+/// one.
 pub fn limit_of<S: FrontStore>(
     alloc: Global,
     store: &mut S,
@@ -78,8 +78,8 @@ fn known<S: FrontStore>(
     }
 }
 
-// By double dummy at the node itself: no strategy wins a layout that can't be made. Where there is
-// one layout, nothing is hidden, and its result is the front.
+// By double dummy at the node itself: no strategy wins a layout that can't be made. If there is one
+// layout, nothing is hidden, and its result is the front.
 fn by_double_dummy(
     alloc: Global,
     solver: &mut Solver,

@@ -16,11 +16,12 @@ use pareto_fronts::Front;
 use std::alloc::Global;
 use trick_rules::Node;
 
-/// Searches a node with so many moves of declarer's side, at most 26.
+/// Searches a node with `moves` moves of declarer's side, at most 26.
 ///
-/// A list of vectors, alpha, may spare work: a node may be left where alpha dominates what every
+/// A list of vectors, alpha, may spare work: a node may be left if alpha dominates what every
 /// strategy wins there. The store may hold fronts already, and may be given some. The budget pays
-/// for each node that is entered: no more nodes are entered than it still allows, by any rules.
+/// for each node that is entered: no more nodes are entered than it still allows, whatever the
+/// rules.
 pub fn search<S: FrontStore>(
     alloc: Global,
     store: &mut S,

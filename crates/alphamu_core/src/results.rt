@@ -10,10 +10,10 @@ use pareto_fronts::Front;
 use trick_rules::Node;
 use win_vectors::WinVector;
 
-/// Double dummy's result in each layout; or none, where a cut is allowed and alpha dominates them.
+/// Double dummy's result in each layout; or none, if a cut is allowed and alpha dominates them.
 ///
-/// The layouts where some vector of alpha has 0 are judged first: only they tell whether alpha
-/// dominates.
+/// The layouts at which some vector of alpha has 0 are judged first, because only they tell whether
+/// alpha dominates.
 pub fn results(solver: &mut Solver, node: &Node, alpha: &Front, may_cut: bool) -> Option<WinVector>
     requires { alpha.now.width ≡ length node.now.lefts }
     ensures a_node { IsNode node.now }
@@ -27,7 +27,7 @@ pub fn results(solver: &mut Solver, node: &Node, alpha: &Front, may_cut: bool) -
     judge(solver, node, sure, true, made, alpha, may_cut)
 }
 
-// A vector with 1 where each vector of the front has 1.
+// The vector with a 1 at each layout at which every vector of the front has 1.
 fn common(front: &Front) -> WinVector
     ensures { length result ≡ front.now.width }
 {
@@ -40,7 +40,7 @@ fn common(front: &Front) -> WinVector
 }
 
 // Judges the layouts at which the mask has this bit, and takes out those that can't be made; or
-// none, where a cut is allowed and alpha dominates what is left.
+// none, if a cut is allowed and alpha dominates what is left.
 fn judge(
     solver: &mut Solver,
     node: &Node,

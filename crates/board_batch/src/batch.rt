@@ -1,4 +1,4 @@
-//! What a batch asks of each worker.
+//! What a batch wants of each worker.
 use root_workers::Options;
 use shared_table::SharedTable;
 use std::alloc::Global;
@@ -12,7 +12,7 @@ pub struct Problem<'a> {
     pub weights: &'a Weights,
 }
 
-/// Problems that are solved by so many moves, and how each worker solves one by itself.
+/// Problems to be solved with `moves` moves, and how a worker solves one of them alone.
 #[derive(Drop)]
 pub struct Batch<'a> {
     pub alloc: Global,

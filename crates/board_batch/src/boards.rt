@@ -23,7 +23,7 @@ use std::alloc::{AllocError, Global};
 use std::thread::Threads;
 use work_tickets::Tickets;
 
-// The numbers of so many workers, but of at least one.
+// The numbers of this many workers, but of at least one.
 fn numbers_of(alloc: Global, workers: u32) -> Result<Vec<u32>, AllocError>
     ensures { IfOk result (λ numbers. 1 ≤ length numbers.items) }
 {
@@ -164,17 +164,17 @@ fn in_order<R: Threads + Sync, G: Gate>(
     Ok(answers)
 }
 
-/// The answer of each of at most 64 problems, in order, by 1 to 26 moves of declarer's side: what
+/// The answer of each of at most 64 problems, in order, with 1 to 26 moves of declarer's side: what
 /// `answer_root` says of it. The workers, the gate, the table and the cuts change none of them.
 ///
 /// As many workers as the options ask for, but no more than there are problems, draw the problems,
-/// and each solves what it drew alone. They look into one table, where the options say so, and the
-/// gate is told the number of the worker that solves a problem. A problem that no worker had memory
+/// and each solves what it drew alone. They look into one table, if the options say so, and the
+/// gate hears the number of the worker that solves a problem. A problem that no worker had memory
 /// for is solved by the caller, as worker 0. The workers are joined, so it may wait.
 ///
 /// `Spent` names a problem and a root card of it whose tree has more nodes than a search may enter;
-/// with neither table nor cuts the first such problem and its first such card, and exactly where
-/// there is one.
+/// with neither table nor cuts the first such problem and its first such card. If there is one, no
+/// answer comes then.
 pub fn run_boards<R: Threads + Sync, G: Gate>(
     rt: &R,
     alloc: Global,

@@ -14,7 +14,7 @@ pub struct Place {
     pub known: Result<SolveAnswer, RootFault>,
 }
 
-// Where the problem at a place stands in the list.
+// The index of the problem of a place in the list.
 fn index_of(places: &Vec<Place>, place: u32) -> Option<usize>
     ensures { IfSome result (λ index. (index < length places.now.items)
         × ((d : Place) → (slice_index_or places.now.items index d).place ≡ place)) }

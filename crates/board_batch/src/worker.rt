@@ -18,7 +18,7 @@ use std::alloc::AllocError;
 use std::thread::Threads;
 use work_tickets::{TicketPass, Tickets};
 
-// A gate that is told the number of the batch's worker.
+// A gate that hears the number of the batch's worker.
 #[derive(Drop)]
 struct At<'a, G: Gate> {
     gate: &'a G,

@@ -12,7 +12,7 @@ use card_sets::{Card, CardSet};
 use double_dummy::cards_in_play;
 use trick_rules::Position;
 
-// The equal card that comes next after a card, where there is one.
+// The equal card that comes next after a card, if there is one.
 fn next_equal(legal: CardSet, playing: CardSet, card: Card) -> Option<Card>
     ensures is { IfSome result (λ next. IsNextEqual legal playing card next) }
     ensures each { IsSubset legal playing → (next : ℕ) → IsNextEqual legal playing card next
@@ -79,7 +79,7 @@ pub(crate) fn with_lower_equals(position: &Position, left: CardSet, counting: Ca
     closed_down(legal, cards_in_play(position), legal, counting)
 }
 
-/// The cards without those that are like a card: of its suit, where neither counts.
+/// The cards without those that are like a card: of its suit, if neither counts.
 pub(crate) fn without_like(cards: CardSet, card: Card, counting: CardSet) -> CardSet
     ensures within { IsSubset result cards }
     ensures fewer { length result ≤ length cards }

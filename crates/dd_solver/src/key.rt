@@ -108,7 +108,7 @@ impl Key {
         }
     }
 
-    /// The same where whoever holds a card holds another one of its suit in its stead.
+    /// The same for a position in which each card may have changed places with another of its suit.
     pub(crate) fn moved(&self, low: Card, high: Card) -> Key
         ensures state { key_state result ≡ with_moved low high (key_state self.now) }
         ensures shape { result.shape ≡ self.now.shape }
@@ -148,7 +148,7 @@ impl Key {
             && are_same(counting, self.left, other.left)
     }
 
-    /// Whether the two are alike by the cards that count, but for the need.
+    /// Whether the two are alike by the cards that count, except the need.
     pub(crate) fn is_like(&self, counting: CardSet, other: &Key) -> bool
         ensures { IsTrue result → AreLikeKeys counting self.now other.now }
     {

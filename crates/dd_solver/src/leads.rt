@@ -49,7 +49,7 @@ fn can_ruff(hand: CardSet, trump: Trump, suit: Suit) -> bool {
     }
 }
 
-/// The highest cards of a suit that are in play, as far as there are so many.
+/// The highest cards of a suit that are in play, at most this many.
 #[derive(Drop)]
 struct Honours {
     best: Option<Card>,
@@ -134,8 +134,8 @@ struct SuitLeads {
     ghost ease_fits: { ease ≤ 5100 },
 }
 
-// What a card that loses weighs: more where the opponents have the best card, and more where the
-// side has the next two, most of it where partner has them.
+// What a card that loses weighs: more if the opponents have the best card, and more if the side has
+// the next two, most of all if partner has them.
 fn losers_weight(hands: &Hands, honours: &Honours, suit: Suit) -> u16
     ensures { result ≤ 47 }
 {

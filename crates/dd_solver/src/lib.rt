@@ -1,8 +1,8 @@
-//! Double dummy by sets of positions: an answer that is remembered holds for every position in
-//! which the cards that count lie alike. Ranks are relative: with four tricks left or more, cards
-//! out of play leave no gap.
-//! It stands on the laws of alike positions, `alike_states` and `alike_choices`. Its solver is
-//! promised to answer `makes` of `trick_rules`, whatever its ways.
+//! Double dummy by partition search (Ginsberg): an answer that is remembered holds for every
+//! position in which the cards that count lie alike. Ranks are relative: with four tricks left or
+//! more, cards out of play leave no gap.
+//! It builds on the laws of equivalent positions, `alike_states` and `alike_choices`.
+//! Its contract promises that the solver answers `makes` of `trick_rules`, whatever its ways.
 #![tactic(auto)]
 
 mod answer;

@@ -31,7 +31,7 @@ struct Entry {
 }
 
 impl Entry {
-    // The answer for another key, where it is alike and its need is settled.
+    // The answer for another key, if it is alike and its need is settled.
     fn answer_for(&self, key: &Key) -> Option<Answer>
         requires state { IsState (key_state key.now) }
         requires shape { HasShape key.now }
@@ -57,8 +57,8 @@ impl Entry {
         key.need <= 13 && self.settles(key.need)
     }
 
-    // Whether the answer settles this need too: one that is no higher where the answer is made, and
-    // no lower where it fails.
+    // Whether the answer settles this need too: one that is no higher if the answer is made, and no
+    // lower if it fails.
     fn settles(&self, need: u8) -> bool
         requires { need ≤ 13 }
         ensures { IsTrue result → IsSettled self.now.answer.made self.now.key.need need }
@@ -71,7 +71,7 @@ impl Entry {
     }
 }
 
-// The first of the slots of a number, among so many.
+// The first of the slots of a number, among `slots` slots.
 #[tactic(auto, using(std::proofs::lemmas::Nat::and_le_r))]
 fn slot_of(number: u64, slots: usize) -> usize
     requires { 32 ≤ slots }
@@ -122,7 +122,7 @@ fn put_all(slots: &mut [Option<Entry>], others: &[Option<Entry>]) {
     }
 }
 
-// How many slots a table has that takes the place of one with so many, where there may be `most`.
+// How many slots the table has that takes the place of a full one, if there may be `most`.
 fn wider_size(slots: usize, most: usize) -> usize
     ensures { result ≤ most }
 {
@@ -178,7 +178,7 @@ impl Memo {
         }
     }
 
-    /// What double dummy answers, where the memo knows it, with the cards that count.
+    /// What double dummy answers, if the memo knows it, with the cards that count.
     pub(crate) fn look(&self, key: &Key) -> Option<Answer>
         requires state { IsState (key_state key.now) }
         requires shape { HasShape key.now }
@@ -198,7 +198,7 @@ impl Memo {
         None
     }
 
-    /// Puts an answer in. Where there is no memory for it, nothing is put in.
+    /// Puts an answer in. If there is no memory for it, nothing is put in.
     pub(crate) fn keep(&mut self, key: &Key, answer: &Answer)
         requires state { IsState (key_state key.now) }
         requires shape { HasShape key.now }
@@ -216,7 +216,7 @@ impl Memo {
         self.stored = self.stored.saturating_add(1);
     }
 
-    // Puts the entries into a wider table. Where there is no memory for it, the old one stays.
+    // Puts the entries into a wider table. If there is no memory for it, the old one stays.
     fn grow(&mut self)
         ensures { self.new.most ≡ self.old.most }
     {

@@ -72,7 +72,7 @@ fn search_key(memo: &mut Memo, key: &Key) -> Answer
     answer
 }
 
-// The same, where the result is open.
+// The same, if the result is open.
 #[cycle(search)]
 fn search_cards(memo: &mut Memo, position: &Position, left: CardSet) -> Answer
     requires state { IsState (record { position = position.now; left = left }) }

@@ -40,8 +40,8 @@ fn place_for(card: Card, end: u8) -> Card
     Card::from_number((end - 1).min(last_of(card.suit())))
 }
 
-// The cards that count before a move, where these count after it: where the new place counts, the
-// card counts too.
+// The cards that count before a move, if these count after it: if the new place counts, the card
+// counts too.
 fn before_move(counting: CardSet, step: Move) -> CardSet
     requires { IsClosedUp counting }
     ensures closed { IsClosedUp result }
@@ -57,7 +57,7 @@ fn before_move(counting: CardSet, step: Move) -> CardSet
 
 impl Squeezed {
     /// The position with its cards moved up as far as they go, one after another, from the highest
-    /// card of each suit down. No clause says that no gap is left: an answer doesn't rest on it.
+    /// card of each suit down. No clause says that no gap is left, since no answer depends on it.
     pub(crate) fn of(first: &Key) -> Squeezed
         requires state { IsState (key_state first.now) }
         requires shape { HasShape first.now }

@@ -17,7 +17,7 @@ use card_sets::{CardSet, Suit};
 use sure_tricks::{Counts, can_lead_over, own_counts, partners_counts};
 use trick_rules::{Position, Trump};
 
-// Whether so many tricks of the side on lead are enough for what it wants.
+// Whether this many tricks of the side on lead are enough for what it wants.
 fn are_enough(position: &Position, sure: u8) -> bool
     ensures ours { IsTrue result → is_declarers (to_play position.now) ≡ true
         → position.now.need ≤ sure }
@@ -31,7 +31,7 @@ fn are_enough(position: &Position, sure: u8) -> bool
     }
 }
 
-/// The highest so many cards that a hand has of a suit, with all higher ones.
+/// The hand's `many` highest cards of the suit, and every card above them.
 pub(crate) fn highest_of(hand: CardSet, suit: Suit, many: u8) -> CardSet
     requires { IsCardSet hand }
     ensures closed { IsClosedUp result }
@@ -75,7 +75,7 @@ fn rank_winners(hands: &Hands, counts: &Counts) -> CardSet
     joined(joined(spades, hearts), joined(diamonds, clubs))
 }
 
-// How many of so many tricks the side on lead can do without.
+// How many of these tricks the side on lead can do without.
 fn spare_of(position: &Position, sure: u8) -> u8
     ensures within { result ≤ sure }
     ensures ours { is_declarers (to_play position.now) ≡ true → position.now.need ≤ sure
@@ -99,7 +99,7 @@ fn spare_of(position: &Position, sure: u8) -> u8
     if needed < sure { sure - needed - 1 } else { 0 }
 }
 
-// Sure cards less so many, those of the spades first.
+// The sure cards without this many of them, those of the spades first.
 fn without(counts: &Counts, spare: u8) -> Counts
     requires { spare ≤ counts.now.spades + counts.now.hearts + counts.now.diamonds
         + counts.now.clubs }
@@ -146,7 +146,7 @@ fn needed_of(position: &Position, own: &Counts) -> Counts
     }
 }
 
-// The answer where the sure cards of both hands of the side on lead settle it at no trump.
+// The answer if the sure cards of both hands of the side on lead settle it at no trump.
 fn joint_answer(position: &Position, left: CardSet, own: &Counts) -> Option<Answer>
     requires fits { FitsLeft position.now left }
     requires between { position.now.trick.cards ≡ [] }
@@ -177,7 +177,7 @@ fn joint_answer(position: &Position, left: CardSet, own: &Counts) -> Option<Answ
     })
 }
 
-/// The answer where the sure cards of the side on lead settle it.
+/// The answer if the sure cards of the side on lead settle it.
 pub(crate) fn sure_answer(position: &Position, left: CardSet) -> Option<Answer>
     requires fits { FitsLeft position.now left }
     requires between { position.now.trick.cards ≡ [] }

@@ -10,8 +10,8 @@ use crate::sure::highest_of;
 use card_sets::{CardSet, Suit};
 use trick_rules::{Position, Trump};
 
-// The highest so many cards that a hand has of a suit, with all higher ones, where the opponents
-// have none of these.
+// The hand's `many` highest cards of the suit, and every card above them, if the opponents have
+// none of these.
 fn top_of(hand: CardSet, opponents: CardSet, suit: Suit, many: u8) -> Option<CardSet>
     requires { IsCardSet hand }
     ensures { IfSome result (λ cards. AreOutOfReach hand opponents suit many cards) }
@@ -28,7 +28,7 @@ fn top_of(hand: CardSet, opponents: CardSet, suit: Suit, many: u8) -> Option<Car
     }
 }
 
-// Those of the one hand of a side or of the other.
+// Those of either hand of a side.
 fn top_of_either(
     hand: CardSet,
     partner: CardSet,
@@ -47,7 +47,7 @@ fn top_of_either(
     }
 }
 
-/// The answer where the top trumps of one hand settle it, whichever hand that is.
+/// The answer if the top trumps of one hand settle it, whichever hand that is.
 pub(crate) fn top_trumps_answer(position: &Position, left: CardSet) -> Option<Answer>
     requires fits { FitsLeft position.now left }
     requires between { position.now.trick.cards ≡ [] }

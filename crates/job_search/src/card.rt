@@ -14,9 +14,9 @@ use root_workers::root_card;
 use std::alloc::Global;
 use std::thread::Threads;
 
-/// The first card that keeps the best weight, with that weight, by so many moves of declarer's
+/// The first card that keeps the best weight, with that weight, for `moves` moves of declarer's
 /// side.
-/// Refused as `solve` is.
+/// Errors: those of `solve`.
 pub fn name_card<R: Threads + Sync, G: Gate>(
     rt: &R,
     alloc: Global,

@@ -1,4 +1,4 @@
-//! What is found at a root where each layout counts alike: the best weight is then a count.
+//! What is found at a root if all layouts count alike: the best weight is then a count.
 ghost use Rattle.std.specs.Prelude.{◌≡◌, ◌≤◌, ℕ, true, false, IfOk, IsErrOf};
 ghost use Rattle.trick_rules.specs.Nodes.{most_moves};
 ghost use Rattle.strategy_games.specs.Choosing.{IsBestCount, IsNamedCard};

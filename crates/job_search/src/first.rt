@@ -51,8 +51,9 @@ fn first_entry(
     Ok(entries.swap_remove(0))
 }
 
-/// The first vector that is printed for a root, by so many moves of declarer's side, with its plan.
-/// Refused as `solve` is.
+/// The first vector that is printed for a root, for `moves` moves of declarer's side, with its
+/// plan.
+/// Errors: those of `solve`.
 pub fn first_strategy<R: Threads + Sync, G: Gate>(
     rt: &R,
     alloc: Global,

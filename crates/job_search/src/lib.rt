@@ -1,7 +1,7 @@
 //! The jobs that search: a root's report, its card alone, the summary of a made problem, and the
-//! first strategy that is printed.
-//! It stands on `root_answers` for what is found at a root, and on `am_report` for its texts.
-//! Its contract promises each text by its definition, or the first root card with too large a tree.
+//! first strategy that is printed. It builds on `root_answers` for what is found at a root, and on
+//! `am_report` for its texts. Its contract promises each text by its definition, or the first root
+//! card with too large a tree.
 #![tactic(auto)]
 
 mod card;

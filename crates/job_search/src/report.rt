@@ -106,8 +106,8 @@ fn report<S: FrontStore>(
     Ok(text)
 }
 
-// The report of what was found, where the plans are found over the table that the search had, if it
-// had one, and beside it the fronts that are too wide for a table.
+// The report of what was found. The plans are found over the table of the search, if it had one,
+// together with the fronts that are too wide for a table.
 fn report_over(
     alloc: Global,
     table: &SharedTable,
@@ -139,9 +139,9 @@ fn report_over(
     }
 }
 
-/// The report of a root, by so many moves of declarer's side. Refused with `Spent` at a root card
-/// whose tree has more nodes than a search may enter, in a plain search the first such card, or with
-/// `Memory`. The workers and the gate change nothing of it.
+/// The report of a root, for `moves` moves of declarer's side. Errors: `Spent` at a root card whose
+/// tree has more nodes than a search may enter, in a plain search the first such card; `Memory`.
+/// The workers and the gate change nothing of it.
 pub fn solve<R: Threads + Sync, G: Gate>(
     rt: &R,
     alloc: Global,

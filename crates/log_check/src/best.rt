@@ -11,8 +11,8 @@ use std::alloc::{AllocError, Global};
 use trick_rules::CardLine;
 use win_vectors::WinVector;
 
-/// The line with the best of its vectors, which follows where it does, and from which follows what
-/// follows from it.
+/// The line with only the best of its vectors: it follows if and only if the line does, and what
+/// follows from the line follows from it.
 pub fn best_line(alloc: Global, line: &LogLine) -> Result<LogLine, AllocError>
     ensures { IfOk result (SayAlike line.now) }
 {

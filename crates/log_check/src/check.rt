@@ -16,14 +16,14 @@ use win_vectors::WinVector;
 pub enum LogVerdict {
     /// It is valid: no strategy wins a vector that the vectors don't dominate.
     Yes,
-    /// It isn't. The number is that of the first line that isn't sound, counted from 1, or the one
-    /// after the last where each line is sound and the last doesn't prove the vectors.
+    /// It doesn't prove it. The number is that of the first line that isn't sound, counted from 1,
+    /// or the one after the last if each line is sound and the last doesn't prove the vectors.
     No(u32),
 }
 
-/// Judges a log for a node with so many moves of declarer's side and a list of vectors: whether each
-/// line follows by the rules of play, double dummy and the lines before it, and whether the last
-/// one says that no strategy wins more than the vectors.
+/// Judges a log for a node with `moves` moves of declarer's side and a list of vectors: whether
+/// each line follows by the rules of play, double dummy and the lines before it, and whether the
+/// last one says that no strategy wins more than the vectors.
 pub fn check_log(
     alloc: Global,
     log: &Log,
@@ -50,7 +50,7 @@ pub fn check_log(
     }
 }
 
-// Whether the last line stands at the node itself, and the vectors dominate its vectors.
+// Whether the last line is of the node itself, and the vectors dominate its vectors.
 fn ends_at_root(vectors: &[WinVector], lines: &[LogLine]) -> bool
     ensures { IsTrue result ↔ EndsAtRoot vectors.now lines.now }
 {

@@ -7,7 +7,7 @@ use crate::lines::LogLine;
 use card_sets::{Card, CardSet};
 use trick_rules::CardLine;
 
-/// Whether each number is that of one of so many lines, which count from 1.
+/// Whether each number is that of one of `count` lines, which count from 1.
 pub fn are_numbers(numbers: &[u32], count: usize) -> bool
     ensures { IsTrue result ↔ AreNumbers count numbers.now }
 {

@@ -16,7 +16,7 @@ pub fn valid_log_covers()
         → IsValidLog n moves vectors lines → IsBelow bridge n moves vectors }
 {}
 
-/// Where each line of a log is sound, no strategy wins a vector at a line's node that the line's
+/// If each line of a log is sound, no strategy wins a vector at a line's node that the line's
 /// vectors don't dominate.
 pub fn sound_line_covers()
     ensures { (n : NodeValue) (moves : ℕ) (lines : List LogLine) (place : ℕ) (line : LogLine)
@@ -24,8 +24,8 @@ pub fn sound_line_covers()
         → IsBelow bridge (node_after n line.path) line.moves line.vectors }
 {}
 
-/// A log has one verdict only for a node, moves and vectors: each comes exactly where it says that it
-/// does.
+/// A log has one verdict only for a node, moves and vectors: each verdict comes exactly when what
+/// it says is true.
 pub fn one_log_verdict()
     ensures { (n : NodeValue) (moves : ℕ) (vectors : List Vector) (lines : List LogLine)
         (one other : LogVerdict) → IsLogVerdict n moves vectors lines one

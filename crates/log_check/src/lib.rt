@@ -1,7 +1,6 @@
-//! Logs that prove a front complete, and a judge of logs that trusts no search.
-//! It stands on the rules of play, on plain double dummy, on fronts and joins, and on the laws of
-//! strategies.
-//! A log is accepted exactly where each of its lines is sound, and then no strategy wins more.
+//! Logs that prove a front complete, and a judge of logs that trusts no search. It builds on the
+//! rules of play, on plain double dummy, on fronts and joins, and on the laws of strategies. A log
+//! is accepted exactly when each of its lines is sound, and then no strategy wins more.
 #![tactic(auto)]
 
 mod best;

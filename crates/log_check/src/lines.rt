@@ -54,7 +54,7 @@ impl LineList {
         })
     }
 
-    /// Puts a number at the end. The list is unchanged where memory is wanted.
+    /// Puts a number at the end. The list is unchanged if an allocation fails.
     pub fn push(&mut self, number: u32) -> Result<(), AllocError>
         ensures ok { OnOk result (self.new ≡ self.old ++ number ∷ []) }
         ensures err { OnErr result (self.new ≡ self.old) }
@@ -105,7 +105,7 @@ impl VectorList {
         })
     }
 
-    /// Puts a vector at the end. The list is unchanged where memory is wanted.
+    /// Puts a vector at the end. The list is unchanged if an allocation fails.
     pub fn push(&mut self, vector: WinVector) -> Result<(), AllocError>
         ensures ok { OnOk result (self.new ≡ self.old ++ vector ∷ []) }
         ensures err { OnErr result (self.new ≡ self.old) }
@@ -165,7 +165,7 @@ impl Log {
         }
     }
 
-    /// Puts a line at the end. The log is unchanged where memory is wanted.
+    /// Puts a line at the end. The log is unchanged if an allocation fails.
     pub fn push(&mut self, line: LogLine) -> Result<(), AllocError>
         requires { length self.old < most_lines }
         ensures ok { OnOk result (self.new ≡ self.old ++ line ∷ []) }

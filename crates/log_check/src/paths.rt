@@ -6,8 +6,8 @@ use card_sets::Card;
 use std::alloc::{AllocError, Global};
 use trick_rules::{CardLine, Node};
 
-/// The node that the cards lead to from a node with so many moves of declarer's side, and the moves
-/// that are left there. `None` where a card is no choice or no move is left for it.
+/// The node that the cards lead to from a node with `moves` moves of declarer's side, and the moves
+/// that are left there. `None` if a card is no choice or no move is left for it.
 pub fn followed(
     alloc: Global,
     root: &Node,

@@ -12,7 +12,7 @@ use plain_results::plain_results;
 use std::alloc::{AllocError, Global};
 use trick_rules::Node;
 
-/// Whether a line is sound behind others that are, in a log for a node with so many moves.
+/// Whether a line is sound after sound lines, in a log for a node with `moves` moves.
 pub fn is_sound(
     alloc: Global,
     root: &Node,

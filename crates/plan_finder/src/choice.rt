@@ -95,7 +95,7 @@ pub fn at_card(fault: SearchFault, card: Card) -> RootFault
     }
 }
 
-/// The fault where no root card is to be named.
+/// The fault without a root card.
 pub fn without_card(fault: RootFault) -> SearchFault
     ensures spent { (card : ℕ) → fault ≡ RootFault.Spent card → result ≡ SearchFault.Spent }
     ensures only { result ≡ SearchFault.Spent → (card : ℕ) × (fault ≡ RootFault.Spent card) }

@@ -1,4 +1,4 @@
-//! Where a plan is kept.
+//! The place at which a plan is kept.
 
 use std::hash::{FoldHasher, Hash, Hasher};
 use trick_rules::Node;

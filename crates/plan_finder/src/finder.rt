@@ -24,13 +24,13 @@ pub struct FoundPlan {
     pub most: Option<Entered>,
 }
 
-/// The plan that is printed for a target: a vector of the front of a node where declarer's side is
-/// to play, with 1 to 26 moves.
+/// The plan that is printed for a target: a vector of the front of a node at which declarer's side
+/// is to play, with 1 to 26 moves.
 ///
 /// At declarer's side it takes the first card after which some vector of the front dominates the
 /// target. At a defender it goes on, after each card, with the first vector of the front there that
-/// dominates the target's part. Each child that it has to judge is searched with a budget of so
-/// many nodes for itself, and with each cut or none.
+/// dominates the target's part. Each child that it has to judge is searched with a budget of its
+/// own, of `nodes` nodes, and with all cuts or none.
 ///
 /// `Spent` names a card of the node after which the tree is larger than the budget. It doesn't come
 /// after the plan's first card.

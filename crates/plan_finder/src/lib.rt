@@ -1,5 +1,5 @@
 //! The plan that is printed for a vector of a front.
-//! It stands on the search, and on the theory's one chosen plan for each vector.
+//! It builds on the search, and on the theory's one chosen plan for each vector.
 //! A plan that is found is the chosen one; `Spent` names a card whose tree is larger than the budget of a search.
 #![tactic(auto)]
 

@@ -6,7 +6,7 @@ use pareto_fronts::Front;
 use std::alloc::{AllocError, Global};
 use win_vectors::WinVector;
 
-// Adds the vector that wins all layouts but this one, where the vector wins it.
+// Adds the vector that wins all layouts but this one, if the vector wins it.
 fn add_miss(front: &mut Front, vector: &WinVector, place: u16) -> Result<(), AllocError>
     requires place { place < length vector.now }
     requires width { front.old.width ≡ length vector.now }
@@ -20,8 +20,8 @@ fn add_miss(front: &mut Front, vector: &WinVector, place: u16) -> Result<(), All
     front.insert(WinVector::all(vector.width()).set(place, false))
 }
 
-/// For each layout that the vector wins the vector that wins all others: what none of them dominates
-/// is above the vector. None at all where there are to be no cuts.
+/// For each layout that the vector wins the vector that wins all others: what none of them
+/// dominates is above the vector. None at all if there are to be no cuts.
 pub fn misses(alloc: Global, vector: &WinVector, cuts: bool) -> Result<Front, AllocError>
     ensures misses { IfOk result (λ front. AreMisses vector.now front.vectors) }
     ensures width { IfOk result (λ front. front.width ≡ length vector.now) }

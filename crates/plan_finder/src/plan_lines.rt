@@ -23,7 +23,7 @@ pub(crate) fn push_play(out: &mut PlanWriter, card: Card) -> Result<(), AllocErr
     out.push(b"\n")
 }
 
-/// The line before so many replies.
+/// The line before `count` replies.
 #[tactic(auto, unfolding(strategy_tree::specs::PlanText::hear_line))]
 pub(crate) fn push_hear(out: &mut PlanWriter, alloc: Global, count: u8) -> Result<(), AllocError>
     ensures { OnOk result (out.new ≡ out.old ++ hear_line count) }

@@ -41,7 +41,7 @@ fn rules_of(cuts: bool) -> CutRules {
     }
 }
 
-/// The first vector of the front that dominates this one, where there is one. A search that finds no
+/// The first vector of the front that dominates this one, if there is one. A search that finds no
 /// more than that the misses cover all has found none.
 pub fn pick_of<S: FrontStore>(
     alloc: Global,

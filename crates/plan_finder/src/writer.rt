@@ -28,8 +28,8 @@ const MOST_SLOTS: usize = 65_536;
 /// How many bytes a short text has at most.
 const SHORT: usize = 65_536;
 
-/// A node, a number of moves, a vector, and where the lines of the plan that is chosen for it begin
-/// and end.
+/// A node, a number of moves, a vector, and the places at which the lines of the plan that is
+/// chosen for it begin and end.
 #[derive(Drop)]
 struct WrittenPlan {
     node: Node,
@@ -109,7 +109,7 @@ impl PlanWriter {
         &self.text
     }
 
-    /// Where the next piece begins.
+    /// The place at which the next piece begins.
     pub(crate) fn len(&self) -> usize
         ensures { result ≡ length self.now }
     {
@@ -120,7 +120,7 @@ impl PlanWriter {
         self.alloc
     }
 
-    // Where the plan for a vector of a node with so many moves stands, if it is remembered.
+    // The place of the plan for a vector of a node with `moves` moves, if it is remembered.
     fn place_of(&self, node: &Node, moves: u8, vector: &WinVector) -> Option<(usize, usize)>
         ensures { IfSome result (λ range.
             StandsWritten node.now moves vector.now self.now range.0 range.1) }
@@ -135,7 +135,7 @@ impl PlanWriter {
         }
     }
 
-    /// Writes the plan for a vector of a node with so many moves once more, if it is remembered.
+    /// Writes the plan for a vector of a node with `moves` moves once more, if it is remembered.
     pub(crate) fn push_again(
         &mut self,
         node: &Node,

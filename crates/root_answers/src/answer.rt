@@ -20,7 +20,7 @@ use std::thread::Threads;
 use trick_rules::Node;
 use win_vectors::Weights;
 
-/// The front of a node where declarer's side is to play, with 1 to 26 moves, in report order and
+/// The front of a node at which declarer's side is to play, with 1 to 26 moves, in report order and
 /// with a plan for each vector; the first card after which the best weight is kept; and that
 /// weight, by a weight for each of the node's layouts. The workers, the gate, the table and the
 /// cuts change none of them.
@@ -29,7 +29,7 @@ use win_vectors::Weights;
 /// workers are joined, so it may wait.
 ///
 /// `Spent` names a root card whose tree has more nodes than a search may enter; with neither table
-/// nor cuts the first such card, and exactly where there is one.
+/// nor cuts the first such card. If there is one, no answer comes then.
 pub fn answer_root<R: Threads + Sync, G: Gate>(
     rt: &R,
     alloc: Global,

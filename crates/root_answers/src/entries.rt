@@ -20,8 +20,8 @@ use trick_rules::Node;
 use wide_store::WideStore;
 use win_vectors::WinVector;
 
-// Each vector with the plan for it, in order. What the plans have in common is found once, as far
-// as the store keeps it.
+// Each vector with the plan for it, in order. What the plans have in common is found once, if the
+// store keeps it.
 fn planned<S: FrontStore>(
     alloc: Global,
     store: &mut S,
@@ -61,7 +61,7 @@ fn planned<S: FrontStore>(
 }
 
 /// Each of these vectors of a node's front with the plan that is chosen for it, in order. The plans
-/// are found over the table, where the options say so, by a pass that ends with them, and beside it
+/// are found over the table, if the options say so, by a pass that ends with them, together with
 /// the fronts that are too wide for a table.
 ///
 /// `Spent` names a root card whose tree has more nodes than a search may enter.

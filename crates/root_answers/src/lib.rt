@@ -1,8 +1,7 @@
 //! What is found at a root, before any text: the front in report order with a plan for each vector,
-//! the named card and the best weight.
-//! It stands on `root_workers` for the front, and on `plan_finder` for the plans.
-//! Its contract promises the definition's answer, whatever the workers, the table and the gate do,
-//! or a root card with too large a tree.
+//! the named card and the best weight. It builds on `root_workers` for the front, and on
+//! `plan_finder` for the plans. Its contract promises the definition's answer, whatever the
+//! workers, the table and the gate do, or a root card with too large a tree.
 #![tactic(auto)]
 
 mod answer;

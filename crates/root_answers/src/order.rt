@@ -29,7 +29,7 @@ pub fn reported(
     by_weight(alloc, weights, front.as_slice())
 }
 
-// Vectors that stand in order, in report order.
+// Vectors that are in order, put in report order.
 fn by_weight(
     alloc: Global,
     weights: &Weights,

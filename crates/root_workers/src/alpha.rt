@@ -17,7 +17,7 @@ use pareto_fronts::Front;
 use shared_table::Pass;
 use std::alloc::AllocError;
 
-/// What a worker's own cards win: none of them stands at the place `next` or after it.
+/// What a worker's own cards win. All of them come before the place `next`.
 #[derive(Drop)]
 pub struct Own {
     pub front: Front,
@@ -108,8 +108,8 @@ fn own_before(round: &Round, place: u32, own: &Own) -> Result<Front, AllocError>
     own.front.copy()
 }
 
-/// What a worker knows that the cards before a place win: by its own searches, and by the table
-/// where the round looks into it. Nothing, where the round makes no cuts.
+/// What a worker knows that the cards before a place win: by its own searches, and by the table if
+/// the round looks into it. Nothing, if the round makes no cuts.
 pub fn known_before(
     round: &Round,
     pass: &mut Pass,

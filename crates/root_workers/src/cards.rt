@@ -1,4 +1,4 @@
-//! A search after a root card, over the table where the round looks into it.
+//! A search after a root card, over the table if the round uses it.
 ghost use Rattle.std.specs.Prelude.{◌≡◌, ◌<◌, ◌≤◌, ◌-◌, ℕ, true, false, length, Contains};
 ghost use Rattle.std.specs.Prelude.{IfOk, IsErrOf};
 ghost use Rattle.trick_rules.specs.Nodes.{choices, child, most_moves};

@@ -30,7 +30,7 @@ use trick_rules::Node;
 use win_vectors::Weights;
 
 // How many workers may share a round. With cuts two at most: what is won after one root card spares
-// most of the search after another, which workers beside each other do again.
+// most of the search after another, which workers side by side do again.
 fn most_workers(options: &Options) -> u32
     ensures { result ≤ options.now.workers }
 {

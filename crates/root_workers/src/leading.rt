@@ -1,4 +1,4 @@
-//! Which root card leads, and where the cards so far are enough.
+//! Which root card leads, and whether the cards so far are enough.
 ghost use Rattle.std.specs.Prelude.{◌≡◌, ◌≤◌, ◌++◌, ℕ, IfOk, IsTrue, false, length};
 ghost use Rattle.win_vectors.specs.Fronts.{CoversAll, IsReduced};
 ghost use Rattle.cut_rules.specs.Stops.{IsGreatestWeight};

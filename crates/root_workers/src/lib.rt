@@ -1,5 +1,5 @@
 //! What a job does at the root: the front over all root cards, the card to name, and the best weight.
-//! It stands on the search, which it gives each root card with a budget of its own, and on the laws of cuts.
+//! It builds on the search, which it gives each root card with a budget of its own, and on the laws of cuts.
 //! Its contract promises the definition's front, named card and best weight for any number of workers, every table and with cuts or none, or a root card whose tree is too large.
 #![tactic(auto)]
 

@@ -84,7 +84,7 @@ fn after_place<G: Gate>(
 /// nothing is known is searched now, and what the cards before it win is its alpha. The loop stops
 /// by the front with a move less, as the rules say.
 ///
-/// Where it stops by the weight, the front is that of the cards until then.
+/// If it stops by the weight, the front is that of the cards until then.
 pub fn best_over<G: Gate>(
     round: &Round,
     gate: &G,
@@ -145,7 +145,7 @@ pub fn best_over<G: Gate>(
     }
 }
 
-/// A round: the workers search the root cards beside each other, and what they know is put together.
+/// A round: the workers search the root cards side by side, and what they know is put together.
 pub fn run_round<R: Threads + Sync, G: Gate>(
     rt: &R,
     round: &Round,
@@ -181,8 +181,8 @@ pub fn run_round<R: Threads + Sync, G: Gate>(
     best_over(round, gate, &mut solvers[0], pass, places)
 }
 
-// What the workers know when all tickets are drawn: nothing, where there is no work for two. No
-// more workers begin than there are cards for them.
+// What the workers know when all tickets are drawn: nothing, if there is no work for two. No more
+// workers begin than there are cards for them.
 fn searched_by_all<R: Threads + Sync, G: Gate>(
     rt: &R,
     round: &Round,

@@ -39,7 +39,7 @@ pub struct Place {
     pub known: Known,
 }
 
-// Where the card at a place stands in the list.
+// The index of the card of a place in the list.
 fn index_of(places: &Vec<Place>, place: u32) -> Option<usize>
     ensures { IfSome result (λ index. (index < length places.now.items)
         × ((d : Place) → (slice_index_or places.now.items index d).place ≡ place)) }

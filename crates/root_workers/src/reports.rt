@@ -17,7 +17,7 @@ use shared_table::{Pass, SharedTable};
 use std::alloc::{AllocError, Global};
 use trick_rules::Node;
 
-/// Where the front after a root card stands, once it was found whole.
+/// What became of the front after a root card, once it was found whole.
 #[derive(Clone, Copy, Debug, PartialEq, Eq)]
 pub enum Stored {
     /// In the table.
@@ -52,7 +52,7 @@ pub struct CardReport {
     pub outcome: Outcome,
 }
 
-/// A root whose cards are reported, with so many moves.
+/// A root whose cards are reported, with `moves` moves.
 #[derive(Drop)]
 pub struct Reported<'a> {
     pub alloc: Global,
@@ -75,7 +75,7 @@ fn entry_of(root: &Reported, card: Card, front: &Front) -> Result<ProvenFront, A
     Ok(ProvenFront::new(child, root.moves - 1, front.copy()?))
 }
 
-// Where a front stands after a put.
+// What became of a front that was put.
 fn stand_of(put: &Put) -> Stored
     ensures { result ≡ stored_of put.now }
 {
@@ -88,7 +88,7 @@ fn stand_of(put: &Put) -> Stored
     }
 }
 
-// Puts the front after a root card into the table, if there is one, and says where it stands.
+// Puts the front after a root card into the table, if there is one, and says what became of it.
 fn put_front(root: &Reported, pass: &mut Pass, card: Card, front: &Front) -> Stored
     requires pass { IsPassOf root.now.table.now pass.old }
     requires some_moves { 1 ≤ root.now.moves }

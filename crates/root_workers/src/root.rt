@@ -58,18 +58,18 @@ pub struct RootCard {
     pub most: Entered,
 }
 
-/// The front of a node where declarer's side is to play, with 1 to 26 moves; the first card after
-/// which the best weight is kept; and that weight, by a weight for each of the node's layouts. The
-/// workers, the gate, the table and the cuts change none of them.
+/// The front of a node at which declarer's side is to play, with 1 to 26 moves; the first card
+/// after which the best weight is kept; and that weight, by a weight for each of the node's
+/// layouts. The workers, the gate, the table and the cuts change none of them.
 ///
-/// Each search of a root card has a budget of so many nodes for itself, and stands between the
-/// gate's `enter` and `leave`. With cuts the cards are gone over in rounds with 1, 2, .. moves, a
-/// card that the cards before it cover is left, and two workers share those after which the round
-/// before found fronts. Without them each card is searched to its end. The workers are joined, so
+/// Each search of a root card has a budget of its own, of `options.nodes` nodes, and comes between
+/// the gate's `enter` and `leave`. With cuts the cards are searched in rounds with 1, 2, .. moves,
+/// a card that the cards before it cover is left, and two workers share those after which the round
+/// before found fronts. Without cuts each card is searched to its end. The workers are joined, so
 /// it may wait.
 ///
 /// `Spent` names a root card whose tree has more nodes; with neither table nor cuts the first such
-/// card, and exactly where there is one.
+/// card. If there is one, no answer comes then.
 pub fn root_front<R: Threads + Sync, G: Gate>(
     rt: &R,
     alloc: Global,

@@ -1,4 +1,4 @@
-//! What a round asks of each worker, and what it finds.
+//! What a round wants of each worker, and what it finds.
 use alphamu_core::{Entered, Found};
 use card_sets::{Card, CardSet};
 use cut_rules::CutRules;
@@ -8,7 +8,7 @@ use std::alloc::Global;
 use trick_rules::Node;
 use win_vectors::Weights;
 
-/// A round over the root cards: with so many moves, each search within so many nodes, by these
+/// A round over the root cards: with `moves` moves, each search within `nodes` nodes, by these
 /// rules, the weights of the layouts, and the front with a move less.
 #[derive(Drop)]
 pub struct Round<'a> {
@@ -22,13 +22,14 @@ pub struct Round<'a> {
     pub table: &'a SharedTable,
     /// Whether the searches look into the table.
     pub looks: bool,
-    /// The root cards that workers search beside each other, if there are two or more. The others the
+    /// The root cards that workers search side by side, if there are two or more. The others the
     /// calling thread searches, in card order.
     pub ahead: CardSet,
 }
 
-/// What a round finds: the front, the card that leads with its weight, what was found after each root
-/// card, in card order, as far as the round went, and the most nodes that one of its searches entered.
+/// What a round finds: the front, the card that leads with its weight, what was found after each
+/// root card, in card order, up to where the round stopped, and the most nodes that one of its
+/// searches entered.
 #[derive(Drop)]
 pub struct RoundFront {
     pub front: Front,

@@ -25,7 +25,7 @@ pub struct Finding {
     pub entered: Entered,
 }
 
-/// Searches a node within so many nodes.
+/// Searches a node within `nodes` nodes.
 pub fn searched<S: FrontStore>(
     alloc: Global,
     store: &mut S,
@@ -55,7 +55,7 @@ pub fn searched<S: FrontStore>(
     })
 }
 
-/// What a search finds after a root card, with so many moves left, within so many nodes.
+/// What a search finds after a root card, with `moves` moves left, within `nodes` nodes.
 pub fn after_card<S: FrontStore>(
     alloc: Global,
     store: &mut S,

@@ -1,4 +1,4 @@
-//! Workers beside each other.
+//! Workers side by side.
 ghost use Rattle.std.specs.Prelude.{◌≡◌, ◌+◌, ◌≤◌, ◌<◌, ◌^◌, All, length};
 ghost use Rattle.std.specs.Thread.{IsSync};
 ghost use Rattle.shared_table.specs.Passes.{IsPassOf};

@@ -29,8 +29,8 @@ fn card_at(node: &Node, place: u32) -> Option<Card>
     cards.pop_first()
 }
 
-// What a search between the gate's two calls tells of a card. Nothing, where the cards before it are
-// enough, or where more that they win might make its search shorter.
+// What a search between the gate's two calls tells of a card. Nothing, if the cards before it are
+// enough, or if more that they win might make its search shorter.
 fn known_of<G: Gate>(
     round: &Round,
     gate: &G,

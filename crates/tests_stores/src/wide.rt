@@ -81,7 +81,7 @@ fn a_search_finds_a_wide_front_at_once(rt: HostRuntime) -> Result<(), Fail> {
     Ok(())
 }
 
-/// Puts and looks again where memory was wanted the first time.
+/// Puts and looks again if an allocation failed the first time.
 fn found_when_asked_again(rt: &impl Abort, alloc: Global) -> Result<(), SearchFault> {
     let node = many_layouts(rt, alloc)?;
     let entry = entry_of(alloc, &node)?;
@@ -102,7 +102,8 @@ fn found_when_asked_again(rt: &impl Abort, alloc: Global) -> Result<(), SearchFa
     Ok(())
 }
 
-// Where the slots or the room for a hit want memory, the store says so and loses nothing.
+// If an allocation for the slots or for the room of a hit fails, the store says so and loses
+// nothing.
 #[test]
 fn nothing_is_lost_where_memory_is_wanted(rt: HostRuntime) {
     let _ = found_when_asked_again(&rt, rt.alloc());
