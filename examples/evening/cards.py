@@ -1,7 +1,8 @@
 #!/usr/bin/env python3
 """Asks about each board of an evening: which card a simulation names, and which card is best if every card is planned.
 
-Usage: examples/evening/cards.py FOLDER, with evening.pbn and evening.lay.1, evening.lay.2 and so on in it, as make.py writes them.
+Usage: examples/evening/cards.py FOLDER [BOARD ..], with evening.pbn and evening.lay.1, evening.lay.2 and so on in FOLDER, as make.py writes
+them. Without numbers it takes all boards.
 
 It asks the jobs `fusion` and `card --moves 26` about one game after another, several at a time, and prints a line for each board: the card
 and the count of each job. A star marks the boards on which they name different cards."""
@@ -48,14 +49,14 @@ def row(game, layouts):
 
 
 def main():
-    if len(sys.argv) != 2:
+    if len(sys.argv) < 2:
         sys.exit(__doc__)
     folder = pathlib.Path(sys.argv[1])
     games = (folder / "evening.pbn").read_text().split("\n\n")
+    numbers = [int(word) for word in sys.argv[2:]] or range(1, len(games) + 1)
     print((ROW % ("Board", "Contract", "A simulation", "True", "")).rstrip())
     with ThreadPoolExecutor(os.cpu_count()) as workers:
-        files = [folder / f"evening.lay.{number}" for number in range(1, len(games) + 1)]
-        for line in workers.map(row, games, files):
+        for line in workers.map(row, (games[it - 1] for it in numbers), (folder / f"evening.lay.{it}" for it in numbers)):
             print(line, flush=True)
 
 
