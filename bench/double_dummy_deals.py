@@ -1,4 +1,4 @@
-"""Deals by lot for bench/double_dummy.py. Declarer leads, and sits South; Left sits West."""
+"""Random deals for bench/double_dummy.py. Declarer leads and sits South; Left sits West."""
 import itertools
 from dataclasses import dataclass
 
@@ -28,7 +28,7 @@ class Deal:
 
 
 def drawn_from(draws, cards, size):
-    """So many of the cards, which are taken out."""
+    """A random hand of `size` of these cards, which are taken out of the set."""
     hand = []
     while len(hand) < size:
         card = draws.below(52)
@@ -55,7 +55,7 @@ def different_lefts(draws, left, unseen, layouts):
 
 
 def deals(seed, tricks, strain, layouts=1):
-    """Deals without end. Four hands of five cards are dealt first and thrown away: the hard deals have their numbers in deals that
+    """Deals without end. Four hands of five cards are dealt first and thrown away: the numbers of the hard deals count deals that
     were drawn this way."""
     draws = Draws(seed)
     four_hands(draws, 5)
@@ -67,7 +67,7 @@ def deals(seed, tricks, strain, layouts=1):
 
 
 def workload_deals(first, tricks, strain):
-    """The deals of the program of workloads without end, from the one with this number on."""
+    """The deals of the program of workloads without end, from number `first` on."""
     draws = Draws(WORKLOADS_SEED)
     for number in itertools.count():
         declarer, left, dummy, right = four_hands(draws, tricks)

@@ -1,5 +1,5 @@
-"""Random endings for bench/double_dummy.py, which the program of workloads and the one in C++ deal alike: many of them in one run, with
-one number for all their answers."""
+"""Random endings for bench/double_dummy.py. The program of workloads and the one in C++ deal the same ones, many in a run, and print one
+number that depends on all the answers."""
 import itertools
 import math
 import sys
@@ -18,7 +18,7 @@ def same(one, other, what):
 
 
 class Endings:
-    """Each program takes the number of the first ending, and how many there are."""
+    """What to run: words that depend on the number of the first ending and on how many there are."""
 
     def __init__(self, workloads, has_dds):
         self.workloads, self.has_dds = workloads, has_dds
@@ -30,7 +30,7 @@ class Endings:
         return lambda first, endings: [BASELINE, question, tricks, first, endings, strain]
 
     def agree(self, tricks, count):
-        """Compares the solver with plain minimax on short endings, with DDS on longer ones. Says nothing of those if DDS isn't there."""
+        """Compares the solver with plain minimax on short endings, and with DDS, if it is there, on longer ones."""
         by_plain = tricks <= PLAIN_NEEDS_TRICKS
         if not (by_plain or self.has_dds):
             return
@@ -44,7 +44,7 @@ class Endings:
               f"{'plain minimax' if by_plain else 'DDS'} agree", flush=True)
 
     def agree_on_all(self, short, whole):
-        """On this many endings of three to eight tricks, on this many whole deals, and on a tenth of that of each length between."""
+        """Compares `short` endings of three to eight tricks, `whole` deals, and a tenth as many of each length between."""
         for tricks in range(3, 14):
             self.agree(tricks, short / 6 if tricks <= 8 else whole if tricks == 13 else whole / 10)
 
@@ -65,7 +65,7 @@ class Endings:
 
 
 def microseconds(program, what, enough, answers):
-    """Microseconds an ending. The answers of so many endings must be those that `answers` has."""
+    """Microseconds an ending. `answers` holds what the first program answered, and the others must answer the same."""
     endings = 50
     while True:
         taken, answer = processor_seconds(program(0, endings))

@@ -13,7 +13,7 @@ NOISE = 2e-4
 
 
 def least(timed):
-    """The least seconds of some runs and the last answer: as many as take ENOUGH seconds together, RUNS at most."""
+    """The least seconds of some runs, and the last answer. It stops after RUNS runs, or when they have taken ENOUGH seconds together."""
     times = []
     while len(times) < RUNS and sum(times) < ENOUGH:
         seconds, answer = timed()
@@ -45,7 +45,7 @@ def as_number(cards):
 
 
 class Dds:
-    """A process that asks DDS one question after another. It clears DDS's memory before each, and times DDS's calls alone."""
+    """A process that asks DDS one question after another. It clears DDS's memory before each, and times nothing but DDS's calls."""
 
     def __init__(self):
         self.process = subprocess.Popen([BASELINE, "lines"], stdin=subprocess.PIPE, stdout=subprocess.PIPE, text=True)
@@ -72,13 +72,13 @@ class Dds:
 
 
 class Alphamu:
-    """The program and the program of workloads. The first is idle if no trick is needed, the second if it is asked of no deal."""
+    """The program alphamu and the program of workloads."""
 
     def __init__(self, program, workloads, folder):
         self.program, self.workloads, self.folder = program, workloads, folder
 
     def fusion(self, ending, name):
-        """The words of a run on these files, which it writes."""
+        """Writes an ending to files, and returns the words of a run on them."""
         files = []
         for kind, text in (("pbn", ending.deal), ("lay", ending.layouts)):
             files.append(self.folder / f"{name}.{kind}")
