@@ -6,10 +6,9 @@ A log is repeated whole, each time with the numbers of its lines raised, so that
 log itself and its lines, the time of `audit` to that of `prove`, the bytes a second of the longest log, the time a byte of the
 longest log to that of the one a quarter as long, and the least stack that serves for the log itself and for the longest one.
 
-Then it times two logs that someone wrote to keep `audit` at work. In the first a leaf and the line that cites it have as many
-vectors as the log has room for, of which each dominates or is dominated: of 3 layouts, and of 20 as many as half of the bytes
-have room for, of which none dominates another. In the second a join cites two leaves of as many vectors each, and no meet of
-two of them dominates another.
+Then it times logs made to keep `audit` busy. In the first, a leaf and the union that cites it share the bytes: with 3 layouts
+all vectors of the leaf are the same and all but one of the union's are zeros; with 20 layouts none of the vectors dominates
+another. In the second, a join cites two leaves with the same number of vectors, and no meet of two of them dominates another.
 
 Usage: bench/audit.py [RUNS], how often each is timed (default 3); the least counts. The program is built first where needed."""
 import itertools
@@ -81,7 +80,7 @@ def row(ending, folder, runs):
 
 
 def judged(problem, report, name, lines, told):
-    """Seconds of the processor that `audit` takes for the log of these lines, of which it must say this, and the log's bytes."""
+    """Seconds of the processor that `audit` takes for the log of these lines, and the log's bytes. It must answer as told."""
     path = problem.folder / name
     path.write_text("\n".join(("alphamu log 1", *lines, "end", "")))
     before = resource.getrusage(resource.RUSAGE_CHILDREN)
@@ -109,8 +108,8 @@ def with_half_made(layouts):
 
 
 def long_lines(folder, ending, lengths, are_apart):
-    """A leaf and the union that cites it, with as many vectors in each as a half of the log has room for. None of them dominates
-    another if they are apart; else all of the leaf are one, and all of the union but one are nothing made."""
+    """A leaf and the union that cites it, each with as many vectors as half of the log has room for. If they are apart, none of
+    them dominates another; else those of the leaf are the same, and all but one of the union's are zeros."""
     problem, report = solved(folder, ending)
     *lines, leaf, union = processor_seconds(problem.words("prove", "--moves", 1, "--nodes", 2 ** 28))[1].splitlines()[1:-1]
     told = unproved(len(lines) + 3) if are_apart else (0, f"alphamu audit 1\nlines {len(lines) + 2}\ncomplete\n", "")
