@@ -7,9 +7,9 @@ the bytes and lines of the log itself, the time of `audit` as a multiple of that
 its time per byte as a multiple of that of the 4 MiB log, and the smallest stack that is enough for the log itself and for the
 longest one.
 
-Then it times two logs that were written to keep `audit` at work. In the first a leaf, and the line that cites it, have as many
-vectors as the log has room for: of 3 layouts, so that many dominate others, and of 20 layouts, half the bytes, so that none
-does. In the second a join cites two leaves of equally many vectors, and no meet of two of them dominates another.
+Then it times logs made to keep `audit` busy. In the first, a leaf and the union that cites it share the bytes: with 3 layouts
+all vectors of the leaf are the same and all but one of the union's are zeros; with 20 layouts none of the vectors dominates
+another. In the second, a join cites two leaves with the same number of vectors, and no meet of two of them dominates another.
 
 Usage: bench/audit.py [RUNS], the number of times that each is timed (default 3); the fastest counts. It builds the program first if
 that is needed."""
@@ -82,7 +82,7 @@ def row(ending, folder, runs):
 
 
 def judged(problem, report, name, lines, told):
-    """Seconds of the processor that `audit` takes for the log of these lines, of which it must say this, and the log's bytes."""
+    """Seconds of the processor that `audit` takes for the log of these lines, and the log's bytes. It must answer as told."""
     path = problem.folder / name
     path.write_text("\n".join(("alphamu log 1", *lines, "end", "")))
     before = resource.getrusage(resource.RUSAGE_CHILDREN)
@@ -110,8 +110,8 @@ def with_half_made(layouts):
 
 
 def long_lines(folder, ending, lengths, are_apart):
-    """A leaf and the union that cites it, with as many vectors in each as a half of the log has room for. None of them dominates
-    another if they are apart; else all of the leaf are one, and all of the union but one are nothing made."""
+    """A leaf and the union that cites it, each with as many vectors as half of the log has room for. If they are apart, none of
+    them dominates another; else those of the leaf are the same, and all but one of the union's are zeros."""
     problem, report = solved(folder, ending)
     *lines, leaf, union = processor_seconds(problem.words("prove", "--moves", 1, "--nodes", 2 ** 28))[1].splitlines()[1:-1]
     told = unproved(len(lines) + 3) if are_apart else (0, f"alphamu audit 1\nlines {len(lines) + 2}\ncomplete\n", "")

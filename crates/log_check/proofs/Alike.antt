@@ -1,4 +1,4 @@
--- Lines alike follow from lines alike: what a line's own vectors dominate changes nothing.
+-- A line like a sound line is sound, so vectors that others of their line dominate change nothing.
 use Rattle.std.proofs.Common.{◌≡◌, ◌↔◌, ◌+◌, ◌-◌, ◌≤◌, ◌∙◌, ℕ, zero, suc, true, false, Some, List, [], ◌∷◌, ◌++◌, length, map, take, replicate, All, refl, sym, ap, ap₂, subst}
 use Rattle.std.specs.Prelude.{slice_get}
 use Rattle.std.specs.List.{cons_option}

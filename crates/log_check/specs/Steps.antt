@@ -44,6 +44,6 @@ pub record SayAlike (one other : LogLine) : Type 0 where
   pub from : one.from ≡ other.from
   pub vectors : CoverAlike one.vectors other.vectors
 
--- so many lines, each like the one at its place
+-- two lists of one length, alike line by line
 abbrev pub SayAllAlike : List LogLine → List LogLine → Type 0
 SayAllAlike ones others = AllZip SayAlike ones others

@@ -1,4 +1,4 @@
-//! Lines that keep the best of their vectors alone.
+//! Lines reduced to the best of their vectors.
 ghost use Rattle.std.specs.Prelude.{◌≡◌, ◌≤◌, IfOk};
 ghost use Rattle.win_vectors.specs.Vectors.{most_layouts};
 ghost use Rattle.win_vectors.specs.Fronts.{HaveWidth};
@@ -11,8 +11,8 @@ use std::alloc::{AllocError, Global};
 use trick_rules::CardLine;
 use win_vectors::WinVector;
 
-/// The line with only the best of its vectors: it follows if and only if the line does, and what
-/// follows from the line follows from it.
+/// The line with only the best of its vectors. If one of the two is sound, so is the other, and
+/// the same lines follow from both.
 pub fn best_line(alloc: Global, line: &LogLine) -> Result<LogLine, AllocError>
     ensures { IfOk result (SayAlike line.now) }
 {
@@ -27,7 +27,7 @@ pub fn best_line(alloc: Global, line: &LogLine) -> Result<LogLine, AllocError>
     })
 }
 
-/// The best of these vectors, in printing order, if they have one width. Vectors of several widths
+/// The best of these vectors, in printing order, if all have one width. Vectors of several widths
 /// are left as they are.
 pub fn best_vectors(alloc: Global, vectors: &[WinVector]) -> Result<VectorList, AllocError>
     ensures { IfOk result (CoverAlike vectors.now) }

@@ -24,6 +24,8 @@ pub enum LogVerdict {
 /// Judges a log for a node with `moves` moves of declarer's side and a list of vectors: whether
 /// each line follows by the rules of play, double dummy and the lines before it, and whether the
 /// last one says that no strategy wins more than the vectors.
+///
+/// Only the best vectors of a line are compared, which gives the same verdict.
 pub fn check_log(
     alloc: Global,
     log: &Log,

@@ -32,8 +32,9 @@ pub fn one_log_verdict()
         → IsLogVerdict n moves vectors lines other → one ≡ other }
 {}
 
-/// What a line's own vectors dominate changes nothing: a line is sound behind others exactly where
-/// one alike is behind others alike, and a log is valid exactly where one alike is.
+/// Vectors that others of their line dominate change nothing: a line is sound after some lines
+/// exactly if a line like it is sound after lines like them, and a log is valid exactly if one like
+/// it is.
 pub fn dominated_vectors_change_nothing()
     ensures line { (n : NodeValue) (moves : ℕ) (earlier others : List LogLine)
         (one other : LogLine) → SayAllAlike earlier others → SayAlike one other
