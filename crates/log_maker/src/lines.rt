@@ -64,7 +64,7 @@ pub fn line_with(
     })
 }
 
-/// Writes a line at the end of a log of at most so many lines.
+/// Writes a line at the end of a log that may have at most `limit` lines.
 pub fn push_within(
     alloc: Global,
     log: &mut LogWriter,

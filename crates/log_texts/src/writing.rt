@@ -15,8 +15,8 @@ use win_vectors::WinVector;
 /// A log that is written line by line: the bytes so far. It keeps none of the lines themselves.
 ///
 /// A line has its rule, the cards of its path with full stops between them, its moves, the numbers
-/// of the lines that it cites and its vectors, both with commas between them. A minus stands where
-/// there are none.
+/// of the lines that it cites and its vectors, both with commas between them. A minus sign
+/// stands for none.
 #[derive(Debug, Drop)]
 pub struct LogWriter {
     text: Text,
@@ -41,7 +41,7 @@ impl LogWriter {
         Ok(LogWriter { text, count: 0 })
     }
 
-    /// Writes a line of the log. Where memory is wanted, a part of it may have been written.
+    /// Writes a line of the log. If an allocation fails, part of the line may have been written.
     pub fn push(&mut self, alloc: Global, line: &LogLine) -> Result<(), AllocError>
         requires { self.old.count < most_lines }
         ensures { OnOk result (IsLongerBy (line.now ∷ []) self.old self.new) }
@@ -51,14 +51,14 @@ impl LogWriter {
         Ok(())
     }
 
-    /// How many lines of the log were written.
+    /// How many lines of the log have been written.
     pub fn len(&self) -> u32
         ensures { result ≡ self.now.count }
     {
         self.count
     }
 
-    /// The text, with the line `end` behind the others.
+    /// The whole text: what has been written, and the line `end`.
     pub fn finish(self) -> Result<Text, AllocError>
         ensures { IfOk result (λ text. text ≡ finished self) }
     {
