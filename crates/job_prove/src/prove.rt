@@ -8,7 +8,6 @@ use am_answer::{Root, Status, root_status};
 use byte_text::Text;
 use dd_solver::Solver;
 use log_maker::log_of;
-use log_texts::log_text;
 use std::alloc::Global;
 
 /// The log of a root's front, by so many moves of declarer's side, where the tree after each root
@@ -23,7 +22,7 @@ pub fn prove_front(alloc: Global, root: &Root, moves: u8, nodes: u64) -> Result<
 {
     let mut solver = Solver::new(alloc);
     match log_of(alloc, &mut solver, &root.kept.node, moves, nodes) {
-        Ok(log) => Ok(log_text(alloc, &log)?),
+        Ok(text) => Ok(text),
         Err(fault) => Err(root_status(fault)),
     }
 }

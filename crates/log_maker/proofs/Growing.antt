@@ -1,5 +1,5 @@
 -- A log that grows by the lines of one child after another.
-use Rattle.std.proofs.Common.{◌≡◌, ◌+◌, ◌-◌, ◌<◌, ◌∙◌, ℕ, true, false, List, [], ◌∷◌, ◌++◌, length, sum_by, Contains, sym, ap, ap₂, subst, append_assoc, append-nil, arith}
+use Rattle.std.proofs.Common.{◌≡◌, ◌+◌, ◌-◌, ◌<◌, ◌∙◌, ℕ, true, false, List, [], ◌∷◌, ◌++◌, length, sum_by, Contains, sym, ap, subst, append_assoc, append-nil, arith}
 use Rattle.std.proofs.lemmas.List.{length-append}
 use Rattle.std.proofs.lemmas.List.Sums.{sum_by-append, sum_by-cons}
 use Rattle.win_vectors.specs.Fronts.{Vector}
@@ -14,6 +14,8 @@ use Rattle.alphamu_core.proofs.Paid.{size_after}
 use Rattle.alphamu_core.proofs.OpenNodes.{size_ours, size_theirs}
 use Rattle.log_check.specs.declared.lines.Rule.TheVariants.{Leaf, Union, Join}
 use Rattle.log_check.specs.declared.lines.LogLine.{LogLine}
+use Rattle.log_texts.specs.Written.{WrittenLog, IsLongerBy}
+use Rattle.log_texts.proofs.Longer.{longer-none, longer-more}
 use Rattle.log_maker.specs.LogsFor.{line_of, IsLogFrom, AreLogsFrom}
 use Rattle.log_maker.specs.LogsFor.IsLogFrom.{at_stop, at_declarer, at_defender}
 use Rattle.log_maker.specs.LogsFor.AreLogsFrom.{no_child, child_first}
@@ -50,41 +52,41 @@ add_child _ _ _ _ _ _ _ card more (child_first n moves path earlier c cards numb
 -- ---- the lines so far
 
 -- the log has grown by the lines of the children by these cards
-pub record AreWritten (n : NodeValue) (moves : ℕ) (path : List ℕ) (before : List LogLine) (cards numbers : List ℕ) (after : List LogLine) : Type 0 where
+pub record AreWritten (n : NodeValue) (moves : ℕ) (path : List ℕ) (before : WrittenLog) (cards numbers : List ℕ) (after : WrittenLog) : Type 0 where
   pub lines : List LogLine
-  pub longer : after ≡ before ++ lines
-  pub are : AreLogsFrom n moves path (length before) cards numbers lines
+  pub longer : IsLongerBy lines before after
+  pub are : AreLogsFrom n moves path (before.count) cards numbers lines
 
-pub written_none : (n : NodeValue) (moves : ℕ) (path : List ℕ) (log : List LogLine) → AreWritten n moves path log [] [] log
-written_none n moves path log = record { lines = []; longer = sym (append-nil log); are = no_child n moves path (length log) }
+pub written_none : (n : NodeValue) (moves : ℕ) (path : List ℕ) (log : WrittenLog) → AreWritten n moves path log [] [] log
+written_none n moves path log = record { lines = []; longer = longer-none log; are = no_child n moves path log.count }
 
-pub written_more : (n kept : NodeValue) (moves : ℕ) (path behind : List ℕ) (before mid after : List LogLine) (cards numbers : List ℕ) (card number : ℕ)
+pub written_more : (n kept : NodeValue) (moves : ℕ) (path behind : List ℕ) (before mid after : WrittenLog) (cards numbers : List ℕ) (card number : ℕ)
     → AreWritten n moves path before cards numbers mid → HasGrown kept moves behind mid after
-    → kept ≡ child n card → behind ≡ path ++ card ∷ [] → number ≡ length after
+    → kept ≡ child n card → behind ≡ path ++ card ∷ [] → number ≡ after.count
     → AreWritten n moves path before (cards ++ card ∷ []) (numbers ++ number ∷ []) after
 written_more n kept moves path behind before mid after cards numbers card number so grown kept_is behind_is number_is =
-    let long : length mid ≡ length before + length so.lines = ap (λ (ls : List LogLine). length ls) so.longer ∙ length-append before so.lines in
-    let at : IsLogFrom (child n card) moves (path ++ card ∷ []) (length before + length so.lines) grown.lines
+    let long : mid.count ≡ before.count + length so.lines = so.longer.count_is in
+    let at : IsLogFrom (child n card) moves (path ++ card ∷ []) (before.count + length so.lines) grown.lines
     = subst (λ k. IsLogFrom (child n card) moves (path ++ card ∷ []) k grown.lines) long
-    (subst (λ p. IsLogFrom (child n card) moves p (length mid) grown.lines) behind_is
-    (subst (λ (k : NodeValue). IsLogFrom k moves behind (length mid) grown.lines) kept_is grown.are)) in
-    let last : length after ≡ length mid + length grown.lines = ap (λ (ls : List LogLine). length ls) grown.longer ∙ length-append mid grown.lines in
-    let number_at : length before + length so.lines + length grown.lines ≡ number = omega arith in
+    (subst (λ p. IsLogFrom (child n card) moves p (mid.count) grown.lines) behind_is
+    (subst (λ (k : NodeValue). IsLogFrom k moves behind (mid.count) grown.lines) kept_is grown.are)) in
+    let last : after.count ≡ mid.count + length grown.lines = grown.longer.count_is in
+    let number_at : before.count + length so.lines + length grown.lines ≡ number = omega arith in
     record {
       lines = so.lines ++ grown.lines;
-      longer = grown.longer ∙ ap (λ (ls : List LogLine). ls ++ grown.lines) so.longer ∙ append_assoc before so.lines grown.lines;
-      are = subst (λ k. LogsTo n moves path (length before) (cards ++ card ∷ []) numbers k (so.lines ++ grown.lines)) number_at
-          (add_child n moves path (length before) cards numbers so.lines card grown.lines so.are at);
+      longer = longer-more so.lines grown.lines before mid after so.longer grown.longer;
+      are = subst (λ k. LogsTo n moves path (before.count) (cards ++ card ∷ []) numbers k (so.lines ++ grown.lines)) number_at
+          (add_child n moves path (before.count) cards numbers so.lines card grown.lines so.are at);
     }
 
 -- ---- how long it is
 
-pub written_size : (n : NodeValue) (moves : ℕ) (path : List ℕ) (before after : List LogLine) (cards numbers rest : List ℕ) → IsNode n
+pub written_size : (n : NodeValue) (moves : ℕ) (path : List ℕ) (before after : WrittenLog) (cards numbers rest : List ℕ) → IsNode n
     → choices n ≡ cards ++ rest → AreWritten n moves path before cards numbers after
-    → length after ≡ length before + sum_by (size_after n moves) cards
+    → after.count ≡ before.count + sum_by (size_after n moves) cards
 written_size n moves path before after cards numbers rest sound are so =
-    let long : length after ≡ length before + length so.lines = ap (λ (ls : List LogLine). length ls) so.longer ∙ length-append before so.lines in
-    let count = children-counted n moves path (length before) cards numbers so.lines so.are sound
+    let long : after.count ≡ before.count + length so.lines = so.longer.count_is in
+    let count = children-counted n moves path (before.count) cards numbers so.lines so.are sound
     (λ c mem. subst (λ cs. Contains cs c) (sym are) (Contains-append_first cards rest c mem)) in
     omega arith
 
@@ -94,10 +96,10 @@ sum_so_far size all cards rest card are =
     omega (arith, sum_by-cons size card rest)
 
 -- where a child's tree is too large for the limit, the node's is
-pub spent_ours : (n kept : NodeValue) (moves limit : ℕ) (path : List ℕ) (before mid : List LogLine) (cards numbers rest : List ℕ) (card : ℕ) → IsNode n
+pub spent_ours : (n kept : NodeValue) (moves limit : ℕ) (path : List ℕ) (before mid : WrittenLog) (cards numbers rest : List ℕ) (card : ℕ) → IsNode n
     → stops n moves ≡ false → is_declarers (to_play n.position) ≡ true → choices n ≡ cards ++ card ∷ rest
     → AreWritten n (moves - 1) path before cards numbers mid → kept ≡ child n card
-    → limit < length mid + tree_size bridge kept (moves - 1) → limit < length before + tree_size bridge n moves
+    → limit < mid.count + tree_size bridge kept (moves - 1) → limit < before.count + tree_size bridge n moves
 spent_ours n kept moves limit path before mid cards numbers rest card sound on ours are so kept_is over =
     let long = written_size n (moves - 1) path before mid cards numbers (card ∷ rest) sound are so in
     let sums = sum_so_far (size_after n (moves - 1)) (choices n) cards rest card are in
@@ -105,10 +107,10 @@ spent_ours n kept moves limit path before mid cards numbers rest card sound on o
     let same : tree_size bridge kept (moves - 1) ≡ size_after n (moves - 1) card = ap (λ (k : NodeValue). tree_size bridge k (moves - 1)) kept_is in
     omega arith
 
-pub spent_theirs : (n kept : NodeValue) (moves limit : ℕ) (path : List ℕ) (before mid : List LogLine) (cards numbers rest : List ℕ) (card : ℕ) → IsNode n
+pub spent_theirs : (n kept : NodeValue) (moves limit : ℕ) (path : List ℕ) (before mid : WrittenLog) (cards numbers rest : List ℕ) (card : ℕ) → IsNode n
     → stops n moves ≡ false → is_declarers (to_play n.position) ≡ false → choices n ≡ cards ++ card ∷ rest
     → AreWritten n moves path before cards numbers mid → kept ≡ child n card
-    → limit < length mid + tree_size bridge kept moves → limit < length before + tree_size bridge n moves
+    → limit < mid.count + tree_size bridge kept moves → limit < before.count + tree_size bridge n moves
 spent_theirs n kept moves limit path before mid cards numbers rest card sound on theirs are so kept_is over =
     let long = written_size n moves path before mid cards numbers (card ∷ rest) sound are so in
     let sums = sum_so_far (size_after n moves) (choices n) cards rest card are in
@@ -117,10 +119,10 @@ spent_theirs n kept moves limit path before mid cards numbers rest card sound on
     omega arith
 
 -- where no line more fits, either
-pub full_ours : (n : NodeValue) (moves limit : ℕ) (path : List ℕ) (before mid : List LogLine) (cards numbers rest : List ℕ) → IsNode n
+pub full_ours : (n : NodeValue) (moves limit : ℕ) (path : List ℕ) (before mid : WrittenLog) (cards numbers rest : List ℕ) → IsNode n
     → stops n moves ≡ false → is_declarers (to_play n.position) ≡ true → choices n ≡ cards ++ rest → rest ≡ []
     → AreWritten n (moves - 1) path before cards numbers mid
-    → limit < length mid + 1 → limit < length before + tree_size bridge n moves
+    → limit < mid.count + 1 → limit < before.count + tree_size bridge n moves
 full_ours n moves limit path before mid cards numbers rest sound on ours are none so over =
     let long = written_size n (moves - 1) path before mid cards numbers rest sound are so in
     let all : choices n ≡ cards = are ∙ ap (λ cs. cards ++ cs) none ∙ append-nil cards in
@@ -128,10 +130,10 @@ full_ours n moves limit path before mid cards numbers rest sound on ours are non
     let whole = size_ours n moves sound (stops-bridge n moves ∙ on) ours in
     omega arith
 
-pub full_theirs : (n : NodeValue) (moves limit : ℕ) (path : List ℕ) (before mid : List LogLine) (cards numbers rest : List ℕ) → IsNode n
+pub full_theirs : (n : NodeValue) (moves limit : ℕ) (path : List ℕ) (before mid : WrittenLog) (cards numbers rest : List ℕ) → IsNode n
     → stops n moves ≡ false → is_declarers (to_play n.position) ≡ false → choices n ≡ cards ++ rest → rest ≡ []
     → AreWritten n moves path before cards numbers mid
-    → limit < length mid + 1 → limit < length before + tree_size bridge n moves
+    → limit < mid.count + 1 → limit < before.count + tree_size bridge n moves
 full_theirs n moves limit path before mid cards numbers rest sound on theirs are none so over =
     let long = written_size n moves path before mid cards numbers rest sound are so in
     let all : choices n ≡ cards = are ∙ ap (λ cs. cards ++ cs) none ∙ append-nil cards in
@@ -141,41 +143,41 @@ full_theirs n moves limit path before mid cards numbers rest sound on theirs are
 
 -- ---- the node's own line
 
-pub grown_leaf : (n : NodeValue) (moves : ℕ) (path : List ℕ) (before after : List LogLine) (front : List Vector) (line : LogLine)
-    → stops n moves ≡ true → IsFront bridge n moves front → line ≡ line_of Leaf path moves [] front → after ≡ before ++ line ∷ []
+pub grown_leaf : (n : NodeValue) (moves : ℕ) (path : List ℕ) (before after : WrittenLog) (front : List Vector) (line : LogLine)
+    → stops n moves ≡ true → IsFront bridge n moves front → line ≡ line_of Leaf path moves [] front → IsLongerBy (line ∷ []) before after
     → HasGrown n moves path before after
 grown_leaf n moves path before after front line stop is line_is longer = record {
   lines = line_of Leaf path moves [] front ∷ [];
-  longer = longer ∙ ap (λ (l : LogLine). before ++ l ∷ []) line_is;
-  are = at_stop n moves path (length before) front stop is;
+  longer = subst (λ (l : LogLine). IsLongerBy (l ∷ []) before after) line_is longer;
+  are = at_stop n moves path (before.count) front stop is;
 }
 
-pub grown_union : (n : NodeValue) (moves : ℕ) (path : List ℕ) (before mid after : List LogLine) (cards numbers rest : List ℕ) (front : List Vector) (line : LogLine)
+pub grown_union : (n : NodeValue) (moves : ℕ) (path : List ℕ) (before mid after : WrittenLog) (cards numbers rest : List ℕ) (front : List Vector) (line : LogLine)
     → stops n moves ≡ false → is_declarers (to_play n.position) ≡ true → choices n ≡ cards ++ rest → rest ≡ []
     → AreWritten n (moves - 1) path before cards numbers mid
-    → IsFront bridge n moves front → line ≡ line_of Union path moves numbers front → after ≡ mid ++ line ∷ []
+    → IsFront bridge n moves front → line ≡ line_of Union path moves numbers front → IsLongerBy (line ∷ []) mid after
     → HasGrown n moves path before after
 grown_union n moves path before mid after cards numbers rest front line on ours are none so is line_is longer =
     let all : cards ≡ choices n = sym (are ∙ ap (λ cs. cards ++ cs) none ∙ append-nil cards) in
     let own = line_of Union path moves numbers front in
     record {
       lines = so.lines ++ own ∷ [];
-      longer = longer ∙ ap₂ (λ (ls : List LogLine) (l : LogLine). ls ++ l ∷ []) so.longer line_is ∙ append_assoc before so.lines (own ∷ []);
-      are = at_declarer n moves path (length before) numbers so.lines front on ours is
-          (subst (λ cs. AreLogsFrom n (moves - 1) path (length before) cs numbers so.lines) all so.are);
+      longer = longer-more so.lines (own ∷ []) before mid after so.longer (subst (λ (l : LogLine). IsLongerBy (l ∷ []) mid after) line_is longer);
+      are = at_declarer n moves path (before.count) numbers so.lines front on ours is
+          (subst (λ cs. AreLogsFrom n (moves - 1) path (before.count) cs numbers so.lines) all so.are);
     }
 
-pub grown_join : (n : NodeValue) (moves : ℕ) (path : List ℕ) (before mid after : List LogLine) (cards numbers rest : List ℕ) (front : List Vector) (line : LogLine)
+pub grown_join : (n : NodeValue) (moves : ℕ) (path : List ℕ) (before mid after : WrittenLog) (cards numbers rest : List ℕ) (front : List Vector) (line : LogLine)
     → stops n moves ≡ false → is_declarers (to_play n.position) ≡ false → choices n ≡ cards ++ rest → rest ≡ []
     → AreWritten n moves path before cards numbers mid
-    → IsFront bridge n moves front → line ≡ line_of Join path moves numbers front → after ≡ mid ++ line ∷ []
+    → IsFront bridge n moves front → line ≡ line_of Join path moves numbers front → IsLongerBy (line ∷ []) mid after
     → HasGrown n moves path before after
 grown_join n moves path before mid after cards numbers rest front line on theirs are none so is line_is longer =
     let all : cards ≡ choices n = sym (are ∙ ap (λ cs. cards ++ cs) none ∙ append-nil cards) in
     let own = line_of Join path moves numbers front in
     record {
       lines = so.lines ++ own ∷ [];
-      longer = longer ∙ ap₂ (λ (ls : List LogLine) (l : LogLine). ls ++ l ∷ []) so.longer line_is ∙ append_assoc before so.lines (own ∷ []);
-      are = at_defender n moves path (length before) numbers so.lines front on theirs is
-          (subst (λ cs. AreLogsFrom n moves path (length before) cs numbers so.lines) all so.are);
+      longer = longer-more so.lines (own ∷ []) before mid after so.longer (subst (λ (l : LogLine). IsLongerBy (l ∷ []) mid after) line_is longer);
+      are = at_defender n moves path (before.count) numbers so.lines front on theirs is
+          (subst (λ cs. AreLogsFrom n moves path (before.count) cs numbers so.lines) all so.are);
     }

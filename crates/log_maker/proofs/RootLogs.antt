@@ -12,23 +12,30 @@ use Rattle.strategy_tree.specs.Bridge.{bridge}
 use Rattle.strategy_tree.proofs.Rules.{lawful}
 use Rattle.log_check.specs.declared.lines.Rule.TheVariants.{Leaf}
 use Rattle.log_check.specs.declared.lines.LogLine.{LogLine}
-use Rattle.log_maker.specs.LogsFor.{line_of, IsLogFor}
+use Rattle.log_texts.specs.Written.{WrittenLog, begun, finished, IsLongerBy}
+use Rattle.log_texts.proofs.Longer.{whole_text}
+use Rattle.log_maker.specs.LogsFor.{line_of, IsLogFrom, IsLogTextFor}
 use Rattle.log_maker.specs.Steps.{HasGrown}
 use Rattle.log_maker.proofs.LogSizes.{lines-counted}
 use Rattle.log_maker.proofs.Growing.{AreWritten, written_none, grown_leaf}
 use Rattle.log_maker.proofs.FrontsSoFar.{member}
 use Rattle.log_maker.proofs.RootCards.{few_choices}
 
-pub log_from_grown : (n : NodeValue) (moves : ℕ) (after : List LogLine) → HasGrown n moves [] [] after → IsLogFor n moves after
-log_from_grown n moves after grown = subst (λ (ls : List LogLine). IsLogFor n moves ls) (sym grown.longer) grown.are
+pub text_from_grown : (n : NodeValue) (moves : ℕ) (before after : WrittenLog) (text : List ℕ) → HasGrown n moves [] before after → before ≡ begun
+    → text ≡ finished after → IsLogTextFor n moves text
+text_from_grown n moves before after text grown start end = (
+  grown.lines,
+  subst (λ (w : WrittenLog). IsLogFrom n moves [] w.count grown.lines) start grown.are,
+  whole_text grown.lines after text (subst (λ (w : WrittenLog). IsLongerBy grown.lines w after) start grown.longer) end,
+)
 
 -- ---- where the result is decided
 
-pub log_leaf : (n : NodeValue) (moves : ℕ) (before after : List LogLine) (front : List Vector) (line : LogLine)
-    → stops n moves ≡ true → IsFront bridge n moves front → line ≡ line_of Leaf [] moves [] front → before ≡ [] → after ≡ before ++ line ∷ []
-    → IsLogFor n moves after
-log_leaf n moves before after front line stop is line_is none longer =
-    log_from_grown n moves after (grown_leaf n moves [] [] after front line stop is line_is (longer ∙ ap (λ (ls : List LogLine). ls ++ line ∷ []) none))
+pub leaf_text : (n : NodeValue) (moves : ℕ) (before after : WrittenLog) (front : List Vector) (line : LogLine) (text : List ℕ)
+    → stops n moves ≡ true → IsFront bridge n moves front → line ≡ line_of Leaf [] moves [] front → before ≡ begun → IsLongerBy (line ∷ []) before after
+    → text ≡ finished after → IsLogTextFor n moves text
+leaf_text n moves before after front line text stop is line_is start longer end =
+    text_from_grown n moves before after text (grown_leaf n moves [] before after front line stop is line_is longer) start end
 
 pub some_nodes : (nodes : ℕ) → (nodes ≡ 0 → ⊥) → 1 ≤ nodes
 some_nodes zero off = absurd (off refl)
@@ -36,31 +43,31 @@ some_nodes (suc nodes) off = omega arith
 
 -- ---- by cards
 
-pub written_at_start : (n : NodeValue) (moves : ℕ) (from : List ℕ) (log : List LogLine) → from ≡ [] → log ≡ [] → AreWritten n moves [] [] [] from log
-written_at_start n moves from log no_number no_line =
-    subst (λ ns. AreWritten n moves [] [] [] ns log) (sym no_number)
-    (subst (λ (ls : List LogLine). AreWritten n moves [] [] [] [] ls) (sym no_line) (written_none n moves [] []))
+pub written_at_start : (n : NodeValue) (moves : ℕ) (from : List ℕ) (log : WrittenLog) → from ≡ [] → log ≡ begun → AreWritten n moves [] begun [] from log
+written_at_start n moves from log no_number start =
+    subst (λ ns. AreWritten n moves [] begun [] ns log) (sym no_number)
+    (subst (λ (w : WrittenLog). AreWritten n moves [] begun [] [] w) (sym start) (written_none n moves [] begun))
 
-pub root_room : (n : NodeValue) (earlier rest : List ℕ) (card nodes : ℕ) (log : List LogLine) → IsNode n → is_declarers (to_play n.position) ≡ true
-    → choices n ≡ earlier ++ card ∷ rest → length log ≤ 268435456 * length earlier → nodes ≤ 268435456 → length log + nodes ≤ 4294967294
+pub root_room : (n : NodeValue) (earlier rest : List ℕ) (card nodes : ℕ) (log : WrittenLog) → IsNode n → is_declarers (to_play n.position) ≡ true
+    → choices n ≡ earlier ++ card ∷ rest → log.count ≤ 268435456 * length earlier → nodes ≤ 268435456 → log.count + nodes ≤ 4294967294
 root_room n earlier rest card nodes log sound ours are short few =
     let most = few_choices n sound ours in
     let whole = ap (λ (cs : List ℕ). length cs) are ∙ length-append earlier (card ∷ rest) in
     omega arith
 
-pub root_end : (n : NodeValue) (earlier rest : List ℕ) (log : List LogLine) → IsNode n → is_declarers (to_play n.position) ≡ true
-    → choices n ≡ earlier ++ rest → length log ≤ 268435456 * length earlier → length log < 4294967294
+pub root_end : (n : NodeValue) (earlier rest : List ℕ) (log : WrittenLog) → IsNode n → is_declarers (to_play n.position) ≡ true
+    → choices n ≡ earlier ++ rest → log.count ≤ 268435456 * length earlier → log.count < 4294967294
 root_end n earlier rest log sound ours are short =
     let most = few_choices n sound ours in
     let whole = ap (λ (cs : List ℕ). length cs) are ∙ length-append earlier rest in
     omega arith
 
-pub root_length : (earlier : List ℕ) (card nodes : ℕ) (mid after : List LogLine) → length mid ≤ 268435456 * length earlier → nodes ≤ 268435456
-    → length after ≤ length mid + nodes → length after ≤ 268435456 * length (earlier ++ card ∷ [])
+pub root_length : (earlier : List ℕ) (card nodes : ℕ) (mid after : WrittenLog) → mid.count ≤ 268435456 * length earlier → nodes ≤ 268435456
+    → after.count ≤ mid.count + nodes → after.count ≤ 268435456 * length (earlier ++ card ∷ [])
 root_length earlier card nodes mid after short few grown = omega (arith, length_push earlier card)
 
-pub root_fits : (n : NodeValue) (moves nodes : ℕ) (earlier rest : List ℕ) (card : ℕ) (mid after : List LogLine) → IsNode n → choices n ≡ earlier ++ card ∷ rest
-    → HasGrown (child n card) moves (card ∷ []) mid after → length after ≤ length mid + nodes
+pub root_fits : (n : NodeValue) (moves nodes : ℕ) (earlier rest : List ℕ) (card : ℕ) (mid after : WrittenLog) → IsNode n → choices n ≡ earlier ++ card ∷ rest
+    → HasGrown (child n card) moves (card ∷ []) mid after → after.count ≤ mid.count + nodes
     → ((c : ℕ) → Contains earlier c → tree_size bridge (child n c) moves ≤ nodes)
     → (c : ℕ) → Contains (earlier ++ card ∷ []) c → tree_size bridge (child n c) moves ≤ nodes
 root_fits n moves nodes earlier rest card mid after sound are grown few fit c mem = ⊎_elim
@@ -71,8 +78,8 @@ root_fits n moves nodes earlier rest card mid after sound are grown few fit c me
   where
     here : tree_size bridge (child n card) moves ≤ nodes
     here =
-        let size = lines-counted (child n card) moves (card ∷ []) (length mid) grown.lines grown.are (lawful.holds n card sound (member (choices n) earlier rest card are)) in
-        let long = ap (λ (ls : List LogLine). length ls) grown.longer ∙ length-append mid grown.lines in
+        let size = lines-counted (child n card) moves (card ∷ []) (mid.count) grown.lines grown.are (lawful.holds n card sound (member (choices n) earlier rest card are)) in
+        let long = grown.longer.count_is in
         omega arith
 
 pub root_spent : (n : NodeValue) (moves nodes : ℕ) (earlier rest : List ℕ) (card other : ℕ) → choices n ≡ earlier ++ card ∷ rest

@@ -9,6 +9,7 @@ use Rattle.strategy_tree.specs.Bridge.{bridge}
 use Rattle.log_check.specs.declared.lines.Rule.{Rule}
 use Rattle.log_check.specs.declared.lines.Rule.TheVariants.{Leaf, Union, Join}
 use Rattle.log_check.specs.declared.lines.LogLine.{LogLine}
+use Rattle.log_texts.specs.LogText.{log_text}
 
 -- a line by this rule behind this path, with these moves, these numbers and these vectors
 abbrev pub line_of : Rule → List ℕ → ℕ → List ℕ → List Vector → LogLine
@@ -57,3 +58,7 @@ mutual
 -- the log of a node with so many moves
 abbrev pub IsLogFor : NodeValue → ℕ → List LogLine → Type 0
 IsLogFor n moves lines = IsLogFrom n moves [] 0 lines
+
+-- the text of this log
+abbrev pub IsLogTextFor : NodeValue → ℕ → List ℕ → Type 0
+IsLogTextFor n moves text = (lines : List LogLine) × IsLogFor n moves lines × (text ≡ log_text lines)

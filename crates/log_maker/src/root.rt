@@ -9,15 +9,17 @@ ghost use Rattle.strategy_games.specs.Choosing.{IsFirstOf};
 ghost use Rattle.strategy_tree.specs.Bridge.{bridge};
 ghost use Rattle.front_table.specs.Proven.{IsFrontAt};
 ghost use Rattle.log_check.specs.Limits.{most_lines};
-ghost use Rattle.log_maker.specs.LogsFor.{IsLogFor};
+ghost use Rattle.log_maker.specs.LogsFor.{IsLogTextFor};
 ghost use Rattle.log_maker.specs.Steps.{HasGrown};
 
 use crate::lines::{line_with, path_after};
 use crate::tree::{leaf, write_node};
 use alphamu_core::{RootFault, SearchFault};
+use byte_text::Text;
 use card_sets::Card;
 use dd_solver::Solver;
-use log_check::{LineList, Log, Rule};
+use log_check::{LineList, Rule};
+use log_texts::LogWriter;
 use pareto_fronts::Front;
 use std::alloc::Global;
 use trick_rules::{CardLine, Node};
@@ -25,9 +27,9 @@ use trick_rules::{CardLine, Node};
 /// The most nodes that a root card may be given. So the lines of thirteen cards can be numbered.
 pub const MOST_NODES: u64 = 268_435_456;
 
-/// The log of a node where declarer's side is to play and a card is left, with 1 to 26 moves of
-/// declarer's side. It proves that no strategy wins a vector that the node's front doesn't
-/// dominate.
+/// The text of the log of a node where declarer's side is to play and a card is left, with 1 to 26
+/// moves of declarer's side. It proves that no strategy wins a vector that the node's front doesn't
+/// dominate. No line is kept once it is written, so it takes little more memory than the text.
 ///
 /// The tree after each root card, with a move less, may have so many nodes, at most
 /// [`MOST_NODES`]. `Spent` comes exactly where one has more, and names the first such card, unless
@@ -38,13 +40,13 @@ pub fn log_of(
     node: &Node,
     moves: u8,
     nodes: u64,
-) -> Result<Log, RootFault>
+) -> Result<Text, RootFault>
     requires ours { bridge.is_ours node.now ≡ true }
     requires goes_on { bridge.is_over node.now ≡ false }
     requires some_moves { 1 ≤ moves }
     requires few_moves { moves ≤ most_moves }
     requires few_nodes { nodes ≤ MOST_NODES }
-    ensures log { IfOk result (IsLogFor node.now moves) }
+    ensures text { IfOk result (IsLogTextFor node.now moves) }
     ensures fits { IfOk result (λ _. (card : ℕ) → Contains (choices node.now) card
         → tree_size bridge (child node.now card) (moves - 1) ≤ nodes) }
     ensures spent { (card : ℕ) → IsErrOf result (RootFault.Spent card)
@@ -65,10 +67,10 @@ fn log_where_decided(
     node: &Node,
     moves: u8,
     nodes: u64,
-) -> Result<Log, RootFault>
+) -> Result<Text, RootFault>
     requires some_moves { 1 ≤ moves }
     requires stops { stops node.now moves ≡ true }
-    ensures log { IfOk result (IsLogFor node.now moves) }
+    ensures text { IfOk result (IsLogTextFor node.now moves) }
     ensures fits { IfOk result (λ _. (card : ℕ) → Contains (choices node.now) card
         → tree_size bridge (child node.now card) (moves - 1) ≤ nodes) }
     ensures spent { (card : ℕ) → IsErrOf result (RootFault.Spent card)
@@ -82,9 +84,10 @@ fn log_where_decided(
         }
     }
     let (line, _) = leaf(alloc, solver, node, moves, CardLine::new())?;
-    let mut log = Log::new(alloc);
-    log.push(line)?;
-    Ok(log)
+    let mut log = LogWriter::new(alloc)?;
+    log.push(alloc, &line)?;
+    let text = log.finish()?;
+    Ok(text)
 }
 
 // Where it is open: the lines after each card, and a union of them.
@@ -94,18 +97,18 @@ fn log_by_cards(
     node: &Node,
     moves: u8,
     nodes: u32,
-) -> Result<Log, RootFault>
+) -> Result<Text, RootFault>
     requires ours { is_declarers (to_play node.now.position) ≡ true }
     requires goes_on { stops node.now moves ≡ false }
     requires few_nodes { nodes ≤ MOST_NODES }
-    ensures log { IfOk result (IsLogFor node.now moves) }
+    ensures text { IfOk result (IsLogTextFor node.now moves) }
     ensures fits { IfOk result (λ _. (card : ℕ) → Contains (choices node.now) card
         → tree_size bridge (child node.now card) (moves - 1) ≤ nodes) }
     ensures spent { (card : ℕ) → IsErrOf result (RootFault.Spent card)
         → IsFirstOf (λ c. nodes < tree_size bridge (child node.now c) (moves - 1))
         (choices node.now) card }
 {
-    let mut log = Log::new(alloc);
+    let mut log = LogWriter::new(alloc)?;
     let mut front = Front::new(alloc, node.width());
     let mut from = LineList::new(alloc);
     let mut cards = node.choices();
@@ -115,8 +118,9 @@ fn log_by_cards(
         from.push(log.len())?;
     }
     let line = line_with(alloc, Rule::Union, CardLine::new(), moves, from, &front)?;
-    log.push(line)?;
-    Ok(log)
+    log.push(alloc, &line)?;
+    let text = log.finish()?;
+    Ok(text)
 }
 
 // The lines after a root card, with so many moves left.
@@ -127,15 +131,15 @@ fn write_after(
     card: Card,
     moves: u8,
     nodes: u32,
-    log: &mut Log,
+    log: &mut LogWriter,
 ) -> Result<Front, RootFault>
     requires a_node { IsNode node.now }
     requires card { Contains (choices node.now) card }
-    requires room { length log.old + nodes ≤ most_lines }
+    requires room { log.old.count + nodes ≤ most_lines }
     ensures front { IfOk result (IsFrontAt (child node.now card) moves) }
     ensures grown { IfOk result (λ _.
         HasGrown (child node.now card) moves (card ∷ []) log.old log.new) }
-    ensures fits { IfOk result (λ _. length log.new ≤ length log.old + nodes) }
+    ensures fits { IfOk result (λ _. log.new.count ≤ log.old.count + nodes) }
     ensures spent { (other : ℕ) → IsErrOf result (RootFault.Spent other)
         → (other ≡ card) × (nodes < tree_size bridge (child node.now card) moves) }
 {

@@ -14,7 +14,8 @@ use crate::lines::{line_with, path_after, push_within, results};
 use alphamu_core::SearchFault;
 use dd_solver::Solver;
 use front_join::joined_front;
-use log_check::{LineList, Log, LogLine, Rule};
+use log_check::{LineList, LogLine, Rule};
+use log_texts::LogWriter;
 use pareto_fronts::Front;
 use std::alloc::{AllocError, Global};
 use trick_rules::{CardLine, Node};
@@ -33,15 +34,15 @@ pub fn write_node(
     moves: u8,
     path: CardLine,
     limit: u32,
-    log: &mut Log,
+    log: &mut LogWriter,
 ) -> Result<Front, SearchFault>
     requires path { length path + cards_left node.now.position ≤ 52 }
     requires limit { limit ≤ most_lines }
     ensures front { IfOk result (IsFrontAt node.now moves) }
     ensures grown { IfOk result (λ _. HasGrown node.now moves path log.old log.new) }
-    ensures fits { IfOk result (λ _. length log.new ≤ limit) }
+    ensures fits { IfOk result (λ _. log.new.count ≤ limit) }
     ensures spent { IsErrOf result SearchFault.Spent
-        → limit < length log.old + tree_size bridge node.now moves }
+        → limit < log.old.count + tree_size bridge node.now moves }
 {
     if node.stops(moves) {
         write_leaf(alloc, solver, node, moves, path, limit, log)
@@ -80,18 +81,18 @@ fn write_leaf(
     moves: u8,
     path: CardLine,
     limit: u32,
-    log: &mut Log,
+    log: &mut LogWriter,
 ) -> Result<Front, SearchFault>
     requires stops { stops node.now moves ≡ true }
     requires limit { limit ≤ most_lines }
     ensures front { IfOk result (IsFrontAt node.now moves) }
     ensures grown { IfOk result (λ _. HasGrown node.now moves path log.old log.new) }
-    ensures fits { IfOk result (λ _. length log.new ≤ limit) }
+    ensures fits { IfOk result (λ _. log.new.count ≤ limit) }
     ensures spent { IsErrOf result SearchFault.Spent
-        → limit < length log.old + tree_size bridge node.now moves }
+        → limit < log.old.count + tree_size bridge node.now moves }
 {
     let (line, front) = leaf(alloc, solver, node, moves, path)?;
-    push_within(log, limit, line)?;
+    push_within(alloc, log, limit, &line)?;
     Ok(front)
 }
 
@@ -104,7 +105,7 @@ fn write_union(
     moves: u8,
     path: CardLine,
     limit: u32,
-    log: &mut Log,
+    log: &mut LogWriter,
 ) -> Result<Front, SearchFault>
     requires goes_on { stops node.now moves ≡ false }
     requires ours { is_declarers (to_play node.now.position) ≡ true }
@@ -112,9 +113,9 @@ fn write_union(
     requires limit { limit ≤ most_lines }
     ensures front { IfOk result (IsFrontAt node.now moves) }
     ensures grown { IfOk result (λ _. HasGrown node.now moves path log.old log.new) }
-    ensures fits { IfOk result (λ _. length log.new ≤ limit) }
+    ensures fits { IfOk result (λ _. log.new.count ≤ limit) }
     ensures spent { IsErrOf result SearchFault.Spent
-        → limit < length log.old + tree_size bridge node.now moves }
+        → limit < log.old.count + tree_size bridge node.now moves }
 {
     let mut front = Front::new(alloc, node.width());
     let mut from = LineList::new(alloc);
@@ -127,7 +128,7 @@ fn write_union(
         from.push(log.len())?;
     }
     let line = line_with(alloc, Rule::Union, path, moves, from, &front)?;
-    push_within(log, limit, line)?;
+    push_within(alloc, log, limit, &line)?;
     Ok(front)
 }
 
@@ -140,7 +141,7 @@ fn write_join(
     moves: u8,
     path: CardLine,
     limit: u32,
-    log: &mut Log,
+    log: &mut LogWriter,
 ) -> Result<Front, SearchFault>
     requires goes_on { stops node.now moves ≡ false }
     requires theirs { is_declarers (to_play node.now.position) ≡ false }
@@ -148,9 +149,9 @@ fn write_join(
     requires limit { limit ≤ most_lines }
     ensures front { IfOk result (IsFrontAt node.now moves) }
     ensures grown { IfOk result (λ _. HasGrown node.now moves path log.old log.new) }
-    ensures fits { IfOk result (λ _. length log.new ≤ limit) }
+    ensures fits { IfOk result (λ _. log.new.count ≤ limit) }
     ensures spent { IsErrOf result SearchFault.Spent
-        → limit < length log.old + tree_size bridge node.now moves }
+        → limit < log.old.count + tree_size bridge node.now moves }
 {
     let mut front = Front::new(alloc, node.width());
     front.insert(WinVector::all(node.width()))?;
@@ -164,6 +165,6 @@ fn write_join(
         from.push(log.len())?;
     }
     let line = line_with(alloc, Rule::Join, path, moves, from, &front)?;
-    push_within(log, limit, line)?;
+    push_within(alloc, log, limit, &line)?;
     Ok(front)
 }

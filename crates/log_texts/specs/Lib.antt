@@ -1,3 +1,4 @@
 pub mod LogText
 pub mod Reading
 pub mod ReadBack
+pub mod Written

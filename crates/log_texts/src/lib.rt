@@ -13,4 +13,4 @@ mod writing;
 
 pub use fault::LogFault;
 pub use reading::read_log;
-pub use writing::log_text;
+pub use writing::{LogWriter, log_text};

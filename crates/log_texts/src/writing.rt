@@ -1,19 +1,74 @@
 //! The text of a log.
-ghost use Rattle.std.specs.Prelude.{◌≡◌, ◌++◌, IfOk, OnOk, map, flat_map};
+ghost use Rattle.std.specs.Prelude.{◌≡◌, ◌<◌, ◌++◌, ◌∷◌, [], IfOk, OnOk, map, flat_map};
+ghost use Rattle.log_check.specs.Limits.{most_lines};
 ghost use Rattle.log_texts.specs.LogText.{rule_word, bit_letter, mark_before, path_text, numbers_text, vectors_text, log_line, log_text};
+ghost use Rattle.log_texts.specs.Written.{begun, finished, IsLongerBy};
 
 use byte_text::Text;
 use card_letters::letters_of;
 use log_check::{Log, LogLine, Rule};
 use std::alloc::{AllocError, Global};
+use std::marker::Model;
 use trick_rules::CardLine;
 use win_vectors::WinVector;
 
-/// The text of a log: its first line, a line for each line of the log, and `end`.
+/// A log that is written line by line: the bytes so far. It keeps none of the lines themselves.
 ///
 /// A line has its rule, the cards of its path with full stops between them, its moves, the numbers
-/// of the lines that it cites and its vectors, both with commas between them. A minus stands where
-/// there are none.
+/// of the lines that it cites and its vectors, both with commas between them. A minus sign
+/// stands for none.
+#[derive(Debug, Drop)]
+pub struct LogWriter {
+    text: Text,
+    count: u32,
+}
+
+impl Model for LogWriter {
+    ghost use Rattle.log_texts.specs.Written.{WrittenLog};
+
+    ghost Value = { WrittenLog };
+
+    ghost view = { λ writer. record { text = writer.text; count = writer.count } };
+}
+
+impl LogWriter {
+    /// A log's first line.
+    pub fn new(alloc: Global) -> Result<LogWriter, AllocError>
+        ensures { IfOk result (λ writer. writer ≡ begun) }
+    {
+        let mut text = Text::new(alloc);
+        text.push(b"alphamu log 1\n")?;
+        Ok(LogWriter { text, count: 0 })
+    }
+
+    /// Writes a line of the log. If an allocation fails, part of the line may have been written.
+    pub fn push(&mut self, alloc: Global, line: &LogLine) -> Result<(), AllocError>
+        requires { self.old.count < most_lines }
+        ensures { OnOk result (IsLongerBy (line.now ∷ []) self.old self.new) }
+    {
+        push_log_line(&mut self.text, alloc, line)?;
+        self.count += 1;
+        Ok(())
+    }
+
+    /// How many lines of the log have been written.
+    pub fn len(&self) -> u32
+        ensures { result ≡ self.now.count }
+    {
+        self.count
+    }
+
+    /// The whole text: what has been written, and the line `end`.
+    pub fn finish(self) -> Result<Text, AllocError>
+        ensures { IfOk result (λ text. text ≡ finished self) }
+    {
+        let LogWriter { mut text, count: _ } = self;
+        text.push(b"end\n")?;
+        Ok(text)
+    }
+}
+
+/// The text of a log: its first line, a line for each line of the log, and `end`.
 #[tactic(auto, unfolding(crate::specs::LogText::log_text))]
 pub fn log_text(alloc: Global, log: &Log) -> Result<Text, AllocError>
     ensures { IfOk result (λ text. text ≡ log_text log.now) }

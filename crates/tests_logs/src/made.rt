@@ -1,12 +1,13 @@
 //! Logs of nodes, against their texts.
 use crate::endings::ending;
 use alphamu_core::RootFault;
+use byte_text::Text;
 use card_letters::read_card;
 use dd_solver::Solver;
-use log_check::{Log, LogVerdict, check_log};
+use log_check::{LogVerdict, check_log};
 use log_maker::{MOST_NODES, log_of};
-use log_texts::log_text;
-use std::alloc::{AllocError, Global};
+use log_texts::read_log;
+use std::alloc::Global;
 use std::process::Abort;
 use std::test::Fail;
 use win_vectors::WinVector;
@@ -38,8 +39,14 @@ union - 2 10,20 10,01
 end
 ";
 
-/// The log of the ending with so many moves, 1 to 26, within so many nodes a card.
-fn made(rt: &impl Abort, alloc: Global, need: u8, moves: u8, nodes: u64) -> Result<Log, RootFault> {
+/// The text of the log of the ending with so many moves, 1 to 26, within so many nodes a card.
+fn made(
+    rt: &impl Abort,
+    alloc: Global,
+    need: u8,
+    moves: u8,
+    nodes: u64,
+) -> Result<Text, RootFault> {
     let node = ending(rt, alloc, need)?;
     assert!(rt; node.is_ours() && !node.position().over());
     assert!(rt; 1 <= moves && moves <= 26 && nodes <= MOST_NODES);
@@ -47,13 +54,11 @@ fn made(rt: &impl Abort, alloc: Global, need: u8, moves: u8, nodes: u64) -> Resu
     log_of(alloc, &mut solver, &node, moves, nodes)
 }
 
-fn assert_text(rt: &impl Abort, alloc: Global, log: &Log, text: &str) -> Result<(), AllocError> {
-    let written = log_text(alloc, log)?;
-    assert_eq!(rt; written.bytes(), text.as_bytes());
-    Ok(())
+fn assert_text(rt: &impl Abort, made: &Text, text: &str) {
+    assert_eq!(rt; made.bytes(), text.as_bytes());
 }
 
-fn assert_spent(rt: &impl Abort, made: Result<Log, RootFault>) {
+fn assert_spent(rt: &impl Abort, made: Result<Text, RootFault>) {
     let two = read_card(b'S', b'2').expect(rt, "the letters of a card");
     assert_eq!(rt; made.err(), Some(RootFault::Spent(two)));
 }
@@ -61,10 +66,10 @@ fn assert_spent(rt: &impl Abort, made: Result<Log, RootFault>) {
 #[test]
 fn logs_of_an_ending(rt: HostRuntime) -> Result<(), Fail> {
     let alloc = rt.alloc();
-    assert_text(&rt, alloc, &made(&rt, alloc, 1, 1, MOST_NODES)?, ONE_MOVE)?;
-    let log = made(&rt, alloc, 1, 2, 10)?;
-    assert_eq!(rt; log.len(), 21);
-    assert_text(&rt, alloc, &log, TWO_MOVES)?;
+    assert_text(&rt, &made(&rt, alloc, 1, 1, MOST_NODES)?, ONE_MOVE);
+    let text = made(&rt, alloc, 1, 2, 10)?;
+    assert_text(&rt, &text, TWO_MOVES);
+    let log = read_log(alloc, text.bytes()).expect(&rt, "a log");
     let first = WinVector::none(2).set(0, true);
     let second = WinVector::none(2).set(1, true);
     let node = ending(&rt, alloc, 1)?;
@@ -77,7 +82,7 @@ fn logs_of_an_ending(rt: HostRuntime) -> Result<(), Fail> {
 fn a_log_where_the_result_is_decided(rt: HostRuntime) -> Result<(), Fail> {
     let alloc = rt.alloc();
     let text = "alphamu log 1\nleaf - 2 - 11\nend\n";
-    assert_text(&rt, alloc, &made(&rt, alloc, 0, 2, 1)?, text)?;
+    assert_text(&rt, &made(&rt, alloc, 0, 2, 1)?, text);
     assert_spent(&rt, made(&rt, alloc, 0, 2, 0));
     Ok(())
 }
@@ -94,7 +99,7 @@ fn the_nodes_of_a_card_are_spent(rt: HostRuntime) {
 fn no_log_where_memory_is_wanted(rt: HostRuntime) {
     let alloc = rt.alloc();
     match made(&rt, alloc, 1, 2, 10) {
-        Ok(log) => assert_eq!(rt; log.len(), 21),
+        Ok(text) => assert_text(&rt, &text, TWO_MOVES),
         Err(fault) => assert_eq!(rt; fault, RootFault::Memory),
     }
 }

@@ -4,7 +4,7 @@ use Rattle.job_prove.proofs.prove.prove_front.Goals as goal
 
 pub returns-in-Ok-clause-text : goal.returns-in-Ok-clause-text
 returns-in-Ok-clause-text c =
-    proof_text _ c.args.root.now c.root.view_is c.args.moves c.args.nodes c.in-Ok.log c.in_ok-log_text-in-Ok.field-0 c.in-Ok.ensures.log c.in-Ok.ensures.fits c.in_ok-log_text-in-Ok.ensures
+    proof_text _ c.args.root.now c.root.view_is c.args.moves c.args.nodes c.in-Ok.text c.in-Ok.ensures.text c.in-Ok.ensures.fits
 
 pub returns-clause-refused : goal.returns-clause-refused
 returns-clause-refused c =

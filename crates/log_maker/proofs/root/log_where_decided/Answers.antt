@@ -8,7 +8,7 @@ use Rattle.strategy_tree.proofs.BridgeNodes.{tree_size-positive}
 use Rattle.log_check.specs.declared.lines.Rule.TheVariants.{Leaf}
 use Rattle.log_maker.specs.LogsFor.{line_of}
 use Rattle.log_maker.proofs.Depths.{decided_child}
-use Rattle.log_maker.proofs.RootLogs.{log_leaf, some_nodes}
+use Rattle.log_maker.proofs.RootLogs.{leaf_text, some_nodes}
 use Rattle.log_maker.proofs.root.log_where_decided.Goals as goal
 use Rattle.log_maker.proofs.root.log_where_decided.Goals.{in-Some+else-nodes-eq0, in_default}
 
@@ -20,10 +20,11 @@ returns-then-nodes-eq0-clause-spent c = λ card e.
     subst (λ d. IsFirstOf (λ k. c.args.nodes < tree_size bridge (child c.args.node.now k) (c.args.moves - 1)) (choices c.args.node.now) d) same
     ([], c.pop_first.new.self, sym c.choices-cards.ensures ∙ c.in-Some.ensures.value, λ k mem over. absurd (Contains-nil k mem), omega arith)
 
-pub returns-clause-log : goal.returns-clause-log
-returns-clause-log c =
-    log_leaf c.args.node.now c.args.moves c.new-log.result c.push.new.self c.in_ok-line.field-0-1.vectors c.in_ok-line.line
-    c.requires.stops c.in_ok-line.ensures.front.front (c.in_ok-line.ensures.line ∙ ap (λ p. line_of Leaf p c.args.moves [] c.in_ok-line.field-0-1.vectors) c.new.ensures) c.new-log.ensures c.in_ok-push.ensures.ok
+pub returns-clause-text : goal.returns-clause-text
+returns-clause-text c =
+    leaf_text c.args.node.now c.args.moves c.in_ok-log.log c.push.new.self c.in_ok-line.field-0-1.vectors c.in_ok-line.line c.in_ok-text.text
+    c.requires.stops c.in_ok-line.ensures.front.front (c.in_ok-line.ensures.line ∙ ap (λ p. line_of Leaf p c.args.moves [] c.in_ok-line.field-0-1.vectors) c.new.ensures)
+    c.in_ok-log.ensures c.in_ok-push.ensures c.in_ok-text.ensures
 
 pub returns-clause-fits : goal.returns-clause-fits
 returns-clause-fits c = λ card mem.

@@ -64,7 +64,7 @@ write_union-cards-preserved t c =
     let front = more_ours c.args.node.now c.in_ok-child.child (c.args.moves - 1) so_far.0 c.in-Some.card c.cards.front.vectors c.in_ok-won.won.vectors c.union.new.self.vectors
     so_far.2 c.in_ok-child.ensures.node c.in_ok-won.ensures.front.front c.in_ok-union.ensures.ok in
     let written = written_more c.args.node.now c.in_ok-child.child (c.args.moves - 1) c.args.path c.path_after-behind.result c.args.log.now c.cards.log c.write_node.new.log so_far.0 c.cards.from c.in-Some.card c.len.result
-    so_far.3 c.in_ok-won.ensures.grown c.in_ok-child.ensures.node c.path_after-behind.ensures c.len.ensures.value in
+    so_far.3 c.in_ok-won.ensures.grown c.in_ok-child.ensures.node c.path_after-behind.ensures c.len.ensures in
     record {
       width = c.in_ok-union.ensures.width ∙ c.cards.invariant.width;
       so_far = (
@@ -149,7 +149,7 @@ write_join-cards-preserved t c =
     let front = more_theirs c.args.node.now c.in_ok-child.child c.args.moves so_far.0 c.pop_first.new.self c.in-Some.card c.in_ok-child.mask c.cards.front.vectors c.in_ok-won.won.vectors c.in_ok-front.front.vectors
     c.width.ensures.a_node are so_far.2 c.in_ok-child.ensures.node c.in_ok-child.ensures.mask c.in_ok-won.ensures.front.front c.in_ok-front.ensures.reduced in
     let written = written_more c.args.node.now c.in_ok-child.child c.args.moves c.args.path c.path_after-behind.result c.args.log.now c.cards.log c.write_node.new.log so_far.0 c.cards.from c.in-Some.card c.len.result
-    so_far.3 c.in_ok-won.ensures.grown c.in_ok-child.ensures.node c.path_after-behind.ensures c.len.ensures.value in
+    so_far.3 c.in_ok-won.ensures.grown c.in_ok-child.ensures.node c.path_after-behind.ensures c.len.ensures in
     record {
       width = c.in_ok-front.ensures.width ∙ c.cards.invariant.width;
       so_far = (
