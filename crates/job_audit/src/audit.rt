@@ -67,9 +67,9 @@ fn audited_vectors(
 /// What `audit` says of a report and a log at a root: that the log proves that no strategy wins a
 /// vector that one of the report's doesn't dominate. It searches nothing.
 ///
-/// The first fault is its status: of the report's grammar or the log's, with its line; `Refuted`
-/// where the head isn't that of the files or a vector is of another width; or else `Unproved`
-/// exactly where the log isn't valid, with its first line that doesn't follow.
+/// The first fault is its status: of the report's grammar or the log's, with its line; `Refuted` if
+/// the head isn't that of the files or a vector is of another width; or else `Unproved` exactly
+/// when the log isn't valid, with its first line that doesn't follow.
 #[tactic(auto, unfolding(am_answer::specs::Answers::task_at))]
 pub fn audit_report(alloc: Global, root: &Root, report: &Text, log: &Text) -> Result<Text, Status>
     requires short { length report.now < 2 ^ 32 - 1 }

@@ -1,5 +1,5 @@
 //! The job that writes the log of a root's front.
-//! It stands on `log_maker`, which writes the log line by line.
+//! It builds on `log_maker`, which writes the log line by line.
 //! Its contract promises the text of the log by its definition, or the first root card with too
 //! large a tree.
 #![tactic(auto)]

@@ -10,9 +10,9 @@ use dd_solver::Solver;
 use log_maker::log_of;
 use std::alloc::Global;
 
-/// The log of a root's front, by so many moves of declarer's side, where the tree after each root
-/// card has at most so many nodes. Refused with `Spent` exactly where one has more, at the first
-/// such card, or with `Memory`.
+/// The log of a root's front, with `moves` moves of declarer's side, if the tree after each root
+/// card has at most `nodes` nodes. Errors: `Spent` exactly when one has more, at the first such
+/// card; `Memory`.
 pub fn prove_front(alloc: Global, root: &Root, moves: u8, nodes: u64) -> Result<Text, Status>
     requires turn { has_choice root.now.kept.node ≡ true }
     requires moves { IsMoves moves }

@@ -20,7 +20,7 @@ pub fn log_of_a_node_is_valid()
         → IsLogVerdict n moves front lines verdict → verdict ≡ LogVerdict.Yes }
 {}
 
-/// A node has one log with so many moves.
+/// A node has one log with a number of moves.
 pub fn one_log()
     ensures { (n : NodeValue) (moves : ℕ) (lines others : List LogLine) → IsLogFor n moves lines
         → IsLogFor n moves others → lines ≡ others }

@@ -1,5 +1,5 @@
 //! The log that proves the front of a node complete, written in one pass.
-//! It stands on logs, on fronts and joins, and on double dummy.
+//! It builds on logs, on fronts and joins, and on double dummy.
 //! What a call gives is the log of the definition, or the first root card whose tree is too large.
 #![tactic(auto)]
 

@@ -1,4 +1,4 @@
-//! The log of a root, in which each card has so many nodes for itself.
+//! The log of a root, in which each card has its own number of nodes.
 ghost use Rattle.std.specs.Prelude.{◌≡◌, ◌≤◌, ◌<◌, ◌+◌, ◌-◌, ◌∷◌, [], ℕ, true, false, length};
 ghost use Rattle.std.specs.Prelude.{Contains, IfOk, IsErrOf};
 ghost use Rattle.trick_rules.specs.Positions.{to_play};
@@ -27,13 +27,14 @@ use trick_rules::{CardLine, Node};
 /// The most nodes that a root card may be given. So the lines of thirteen cards can be numbered.
 pub const MOST_NODES: u64 = 268_435_456;
 
-/// The text of the log of a node where declarer's side is to play and a card is left, with 1 to 26
-/// moves of declarer's side. It proves that no strategy wins a vector that the node's front doesn't
-/// dominate. No line is kept once it is written, so it takes little more memory than the text.
+/// The text of the log of a node at which declarer's side is to play and a card is left, with 1 to
+/// 26 moves of declarer's side. It proves that no strategy wins a vector that the node's front
+/// doesn't dominate. No line is kept once it is written, so it takes little more memory than the
+/// text.
 ///
-/// The tree after each root card, with a move less, may have so many nodes, at most
-/// [`MOST_NODES`]. `Spent` comes exactly where one has more, and names the first such card, unless
-/// memory is wanted before.
+/// The tree after each root card, with a move less, may have `nodes` nodes, at most [`MOST_NODES`].
+/// `Spent` comes exactly when one has more, and names the first such card, unless an allocation
+/// fails.
 pub fn log_of(
     alloc: Global,
     solver: &mut Solver,
@@ -60,7 +61,7 @@ pub fn log_of(
     }
 }
 
-// Where the result is decided: a leaf. The tree after each card has one node.
+// If the result is decided: a leaf. The tree after each card has one node.
 fn log_where_decided(
     alloc: Global,
     solver: &mut Solver,
@@ -90,7 +91,7 @@ fn log_where_decided(
     Ok(text)
 }
 
-// Where it is open: the lines after each card, and a union of them.
+// If it is open: the lines after each card, and a union of them.
 fn log_by_cards(
     alloc: Global,
     solver: &mut Solver,
@@ -123,7 +124,7 @@ fn log_by_cards(
     Ok(text)
 }
 
-// The lines after a root card, with so many moves left.
+// The lines after a root card, with `moves` moves left.
 fn write_after(
     alloc: Global,
     solver: &mut Solver,

@@ -21,11 +21,11 @@ use std::alloc::{AllocError, Global};
 use trick_rules::{CardLine, Node};
 use win_vectors::WinVector;
 
-/// Writes the lines of a node with so many moves, which the path leads to, at the end of a log of
-/// at most so many lines, and gives the node's front.
+/// Writes the lines of a node with `moves` moves, which the path leads to, at the end of a log of
+/// at most `limit` lines, and gives the node's front.
 ///
-/// Each front comes from the lines just written. Where an error comes, some of the lines may have
-/// been written.
+/// Each front comes from the lines just written. If an error comes, some of the lines may have been
+/// written.
 #[cycle(tree)]
 pub fn write_node(
     alloc: Global,

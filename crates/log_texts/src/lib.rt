@@ -1,7 +1,7 @@
 //! Logs in text: a line for each line of a log, and a text read back as a log.
-//! It stands on logs and on bytes as text.
-//! What is written is the text of the definition, byte for byte; what a text says or its first
-//! line at fault is the answer, unless memory is refused; and what is written is read back.
+//! It builds on logs and on bytes as text.
+//! What is written is the text of the definition, byte for byte; what a text says or its first line
+//! at fault is the answer, unless an allocation fails; and what is written is read back.
 #![tactic(auto)]
 
 mod fault;

@@ -9,13 +9,13 @@ use byte_text::{split_line, text_after};
 use log_check::{Log, LogLine};
 use std::alloc::{AllocError, Global};
 
-/// The log that a text of fewer than 2^32 - 1 bytes writes, or its first line that doesn't stand.
+/// The log that a text of fewer than 2^32 - 1 bytes writes, or its first line that can't be there.
 ///
-/// Line 1 is `alphamu log 1`. Then come one or more lines with five words, which single spaces
-/// part, and the line `end`, behind which nothing stands. The words are `leaf`, `union` or `join`;
+/// Line 1 is `alphamu log 1`. Then come one or more lines of five words with single spaces between
+/// them, and the line `end`, after which nothing follows. The words are `leaf`, `union` or `join`;
 /// 1 to 52 cards with full stops between them; 0 to 26 moves; the numbers of the lines that it
 /// cites, from 1 to 4,294,967,295; and one or more vectors of 1 to 256 bits, both with commas
-/// between them. A minus stands for no card or no number, a number has no leading zeros, and the
+/// between them. A minus sign means no card or no number, a number has no leading zeros, and the
 /// letters of a card are read in either case.
 ///
 /// A line that isn't there or is cut off before its end is named by the number that it would have.

@@ -15,8 +15,8 @@ use win_vectors::WinVector;
 /// A log that is written line by line: the bytes so far. It keeps none of the lines themselves.
 ///
 /// A line has its rule, the cards of its path with full stops between them, its moves, the numbers
-/// of the lines that it cites and its vectors, both with commas between them. A minus sign
-/// stands for none.
+/// of the lines that it cites and its vectors, both with commas between them. A minus sign means
+/// none.
 #[derive(Debug, Drop)]
 pub struct LogWriter {
     text: Text,

@@ -1,5 +1,5 @@
 //! Tests of logs, by public calls alone.
-//! It stands on the crates that it tests, and nothing stands on it.
+//! It builds on the crates that it tests, and no crate builds on it.
 //! It promises nothing: the log and its text were worked out by the laws of bridge, by hand.
 #![tactic(auto)]
 

@@ -39,7 +39,7 @@ union - 2 10,20 10,01
 end
 ";
 
-/// The text of the log of the ending with so many moves, 1 to 26, within so many nodes a card.
+/// The text of the log of the ending with `moves` moves, 1 to 26, within `nodes` nodes a card.
 fn made(
     rt: &impl Abort,
     alloc: Global,
@@ -94,7 +94,7 @@ fn the_nodes_of_a_card_are_spent(rt: HostRuntime) {
     assert_spent(&rt, made(&rt, alloc, 1, 2, 9));
 }
 
-// Wherever memory is wanted there is no log, and the fault says so.
+// Whichever allocation fails, there is no log, and the fault says so.
 #[test]
 fn no_log_where_memory_is_wanted(rt: HostRuntime) {
     let alloc = rt.alloc();

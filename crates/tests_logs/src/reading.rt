@@ -16,7 +16,7 @@ fn log_in(alloc: Global, text: &[u8]) -> Result<Log, LogFault> {
     read_log(alloc, text)
 }
 
-/// The first line at fault of a text; None where it is a log, or memory ran out.
+/// The first line at fault of a text; None if it is a log, or memory ran out.
 fn fault_line(alloc: Global, text: &[u8]) -> Option<u32> {
     match log_in(alloc, text) {
         Ok(_) | Err(LogFault::Memory) => None,
