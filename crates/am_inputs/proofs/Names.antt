@@ -1,5 +1,5 @@
 -- The names that the words give files, and the counts of faults at them.
-use Rattle.std.proofs.Common.{◌≡◌, ◌+◌, ◌<◌, ◌≤◌, ℕ, Bool, true, false, List, [], ◌∷◌, length, Option, Some, None, Result, Ok, Err, IsErrAnd, IsErrOf, inl, inr, refl, sym, ap, subst, ◌∙◌, arith}
+use Rattle.std.proofs.Common.{◌≡◌, ◌≤◌, ℕ, Bool, true, false, List, [], ◌∷◌, length, Option, Some, None, Result, Ok, Err, IsErrAnd, IsErrOf, inl, inr, refl, sym, subst, ◌∙◌, arith}
 use Rattle.std.specs.Prelude.{IsSomeAnd, IsOkAnd, IfSome, nat_le, if◌then◌else◌}
 use Rattle.std.proofs.lemmas.Bool.Decides.{nat_tests}
 use Rattle.am_outside.specs.Faults.{Rose}
@@ -11,7 +11,7 @@ use Rattle.job_words.specs.declared.asks.Search.{Search}
 use Rattle.job_words.specs.Asks.{AskValue, LayoutsJobValue, OnLayouts, Boards, Solve, Card, Match, Fusion, Check, Prove, Audit}
 use Rattle.am_answer.specs.declared.status.FileWord.{FileWord}
 use Rattle.am_answer.specs.declared.status.FileWord.TheVariants.{Deal, Layouts, Report, Log}
-use Rattle.am_answer.specs.declared.status.Status.{Status}
+use Rattle.am_answer.specs.declared.status.Status.TheVariants.{TooManyGames}
 use Rattle.am_answer.specs.Games.{games_of, games_or, layouts_name, most_games}
 use Rattle.am_answer.specs.Files.{file_named, file_read, IsGameNumber, IsGameIn, IsNameOf}
 
@@ -41,10 +41,10 @@ rose_since before between now earlier (inr last) = inr last
 few-games : (read : Result (List GameValue) (ℕ × TextSyntax)) (number : ℕ) → IsOkAnd (games_or read) (λ games. number ≤ length games) → number ≤ most_games
 few-games (Err fault) number is = absurd is
 few-games (Ok []) number is = absurd is
-few-games (Ok (game ∷ later)) number is = by_count (nat_le (length (game ∷ later)) most_games) refl where
-  by_count : (b : Bool) → nat_le (length (game ∷ later)) most_games ≡ b → number ≤ most_games
-  by_count true few = let most : length (game ∷ later) ≤ most_games = grind (arith, nat_tests) in let below : number ≤ length (game ∷ later) = rw few is in omega arith
-  by_count false many = absurd (rw many is)
+few-games (Ok (game ∷ later)) number is = by_count (nat_le (length (game ∷ later)) most_games) refl is where
+  by_count : (few : Bool) → nat_le (length (game ∷ later)) most_games ≡ few → IsOkAnd (if few then Ok (game ∷ later) else Err (TooManyGames (length (game ∷ later)))) (λ games. number ≤ length games) → number ≤ most_games
+  by_count true few below = let most : length (game ∷ later) ≤ most_games = grind (arith, nat_tests) in omega arith
+  by_count false many below = absurd below
 
 few-number : (deal : List ℕ) (number : ℕ) → IsGameNumber deal number → number ≤ most_games
 unfolding games_of

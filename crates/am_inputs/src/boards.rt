@@ -55,7 +55,7 @@ fn layouts_name(alloc: Global, name: &str, number: usize) -> Result<String, Allo
     Ok(file)
 }
 
-// The layout files of so many games, in order.
+// The layout files of games 1 to `count`, in order.
 fn read_in_order<S: Shelf>(
     alloc: Global,
     shelf: &mut S,
@@ -85,8 +85,8 @@ fn read_in_order<S: Shelf>(
     Ok(texts)
 }
 
-/// The layout file of each game of a deal file, in order. Where the deal file is refused, no
-/// other is read.
+/// The layout file of each game of a deal file, in order. If the deal file is refused, no other
+/// file is read.
 #[tactic(auto, unfolding(am_answer::specs::Files::layouts_by_game))]
 pub(crate) fn read_by_game<S: Shelf>(
     alloc: Global,

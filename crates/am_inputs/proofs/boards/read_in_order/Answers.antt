@@ -1,13 +1,10 @@
-use Rattle.std.proofs.Common.{◌≡◌, ◌∙◌, ◌+◌, ◌≤◌, ℕ, List, Ok, Err, length, sym, ap, subst, arith}
+use Rattle.std.proofs.Common.{◌≡◌, ◌∙◌, ◌+◌, ◌≤◌, ℕ, List, Ok, length, sym, subst, arith}
 use Rattle.std.specs.Prelude.{IfSome}
 use Rattle.std.proofs.lemmas.List.Elements.{All-push}
-use Rattle.am_outside.specs.Faults.{Rose}
 use Rattle.am_answer.specs.declared.status.FileWord.TheVariants.{Layouts}
-use Rattle.am_answer.specs.declared.status.Status.TheVariants.{Unread}
 use Rattle.am_answer.specs.Files.{file_read, layouts_from, limit_of, AreWithinLimit}
 use Rattle.am_answer.specs.Games.{layouts_name}
 use Rattle.am_answer.specs.Stages.{IsReadRefusal}
-use Rattle.am_inputs.proofs.Names.{passed_on, rose_since}
 use Rattle.am_inputs.proofs.InOrder.{HasRead, one-more-read, one-refused, passed-refusal}
 use Rattle.am_inputs.proofs.boards.read_in_order.Goals as goal
 
@@ -34,17 +31,3 @@ loop-place-preserved g c =
       within = subst AreWithinLimit (sym c.in_ok-push.ensures.items) (All-push (λ (text : List ℕ). length text ≤ limit_of Layouts) c.loop-place.texts.items c.in_ok-text.text c.loop-place.invariant.within c.in_ok-text.ensures.within);
       never_falls = λ other. omega (arith, c.loop-place.invariant.never_falls other, c.read_file.ensures.never_falls other);
     }
-
-pub returns-in_err-text-clause-unread : goal.returns-in_err-text-clause-unread
-returns-in_err-text-clause-unread g c = λ file e.
-    let name = layouts_name c.args.name.now (c.loop-place.place + 1) in
-    let named : c.as_str.result.now ≡ name = c.as_str.ensures.value ∙ c.in_ok-file.ensures in
-    let same = passed_on c.from_residual-in_err-text.result c.in_err-text.field-0.0 (Unread file) c.from_residual-in_err-text.ensures.1 e in
-    let unread = c.in_err-text.ensures.unread file (ap Err same) in
-    let rose = subst (λ n. Rose (g.S.Shelf.faults c.loop-place.shelf n) (g.S.Shelf.faults c.read_file.new.shelf n)) named unread.1 in (
-      unread.0,
-      c.loop-place.place + 1,
-      omega arith,
-      omega (arith, c.loop-place-test.true),
-      rose_since (g.S.Shelf.faults c.args.shelf.now name) (g.S.Shelf.faults c.loop-place.shelf name) (g.S.Shelf.faults c.read_file.new.shelf name) (c.loop-place.invariant.never_falls name) rose,
-    )
