@@ -50,12 +50,12 @@ few-number : (deal : List ℕ) (number : ℕ) → IsGameNumber deal number → n
 unfolding games_of
 few-number deal number is = few-games (games_read deal) number is.1
 
--- a game that the deal file has, as it was read
+-- a game of the deal file that was read
 game-in : (told : Option Files) (name deal : List ℕ) (number : ℕ) → IfSome told (λ files. file_read files Deal name ≡ Ok deal) → IsGameNumber deal number → IsGameIn told name number
 game-in None name deal number read is = (is.0, few-number deal number is)
 game-in (Some files) name deal number read is = subst (λ found. IsOkAnd found (λ bytes. IsGameNumber bytes number)) (sym read) is
 
--- a file that the words name so, where its count rose
+-- a file that the words name like this, and whose count rose
 pub is_named : (told : Option Files) (ask : AskValue) (file named : FileWord) (name : List ℕ) (before now : List ℕ → ℕ) → file ≡ named → IsNameOf told ask named name → Rose (before name) (now name)
     → (other : List ℕ) × IsNameOf told ask file other × Rose (before other) (now other)
 is_named told ask file named name before now same is rose = (name, subst (λ f. IsNameOf told ask f name) (sym same) is, rose)
@@ -73,7 +73,7 @@ module _ (before between now : List ℕ → ℕ) (earlier : (name : List ℕ) �
   job_names told deal layouts job Report rose = named_since (file_named job Report) rose
   job_names told deal layouts job Log rose = named_since (file_named job Log) rose
 
-  -- the layout file of a game, where all games are solved
+  -- the layout file of a game, if all games are solved
   pub game_named : (told : Option Files) (name layouts deal : List ℕ) (moves : ℕ) (search' : Search) (file : FileWord) → IfSome told (λ files. file_read files Deal name ≡ Ok deal)
       → (file ≡ Layouts) × (number : ℕ) × IsGameNumber deal number × Rose (between (layouts_name layouts number)) (now (layouts_name layouts number))
       → (other : List ℕ) × IsNameOf told (Boards name layouts moves search') file other × Rose (before other) (now other)
