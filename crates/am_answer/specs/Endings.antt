@@ -2,6 +2,7 @@
 use Rattle.std.specs.Prelude.{◌≡◌, ◌⊎◌, ◌++◌, ◌+◌, ⊤, ℕ, false, List, take, slice_get, All, Option, Some, IfSome, IsSomeAnd, Result, Ok, Err, IfOk}
 use Rattle.std.specs.Io.KnownBytes.{append_known}
 use Rattle.am_outside.specs.Faults.{Rose}
+use Rattle.am_outside.specs.Shelf.{Files}
 use Rattle.am_outside.specs.Sink.{AppendsPart}
 use Rattle.trick_rules.specs.Nodes.{NodeValue}
 use Rattle.job_words.specs.declared.asks.Search.{Search}
@@ -127,6 +128,6 @@ IsKeptInFront before now = IfSome before (λ bytes. IsSomeAnd now (λ all. (more
 abbrev pub IsDoneOrMemory : Status → Type 0
 IsDoneOrMemory status = (status ≡ Done) ⊎ (status ≡ Memory)
 
--- no fault was counted at any name of a file
-abbrev pub HasNoFault : AskValue → (List ℕ → ℕ) → (List ℕ → ℕ) → Type 0
-HasNoFault ask before now = (file : FileWord) (name : List ℕ) → IsNameOf ask file name → ¬ (Rose (before name) (now name))
+-- no fault was counted at any name of a file that the words name
+abbrev pub HasNoFault : Option Files → AskValue → (List ℕ → ℕ) → (List ℕ → ℕ) → Type 0
+HasNoFault told ask before now = (file : FileWord) (name : List ℕ) → IsNameOf told ask file name → ¬ (Rose (before name) (now name))

@@ -1,5 +1,5 @@
 -- The files that the words name, read one after another.
-use Rattle.std.specs.Prelude.{◌≡◌, ℕ, zero, suc, ◌+◌, Bool, true, false, ◌<◌, ◌≤◌, ◌^◌, nat_lt, List, [], ◌∷◌, length, All, Option, Some, None, IfSome, Result, Ok, Err, ok_or, ⊤, if◌then◌else◌}
+use Rattle.std.specs.Prelude.{◌≡◌, ℕ, zero, suc, ◌+◌, Bool, true, false, ◌<◌, ◌≤◌, ◌^◌, nat_lt, List, [], ◌∷◌, length, All, Option, Some, None, IfSome, IsOkAnd, Result, Ok, Err, ok_or, ⊤, if◌then◌else◌}
 use Rattle.std.specs.FinMap.{get}
 use Rattle.am_outside.specs.Shelf.{Files}
 use Rattle.job_words.specs.Asks as asks
@@ -100,14 +100,23 @@ name_of (asks.ListOf deal) Deal = Some deal
 name_of (asks.Boards deal layouts moves search) Deal = Some deal
 name_of _ _ = None
 
--- the name of a game's layout file, where each game has its own
-abbrev pub IsLayoutsName : List ℕ → List ℕ → Type 0
-IsLayoutsName layouts name = (number : ℕ) × (1 ≤ number) × (number ≤ most_games) × (name ≡ layouts_name layouts number)
+-- a deal file of these bytes has a game of this number, counted from 1
+abbrev pub IsGameNumber : List ℕ → ℕ → Type 0
+IsGameNumber deal number = (1 ≤ number) × IsOkAnd (games_of deal) (λ games. number ≤ length games)
 
--- the words name a file so; where each game has its own layout file, it is the name of one of these
-abbrev pub IsNameOf : asks.AskValue → FileWord → List ℕ → Type 0
-IsNameOf (asks.Boards deal layouts moves search) Layouts name = IsLayoutsName layouts name
-IsNameOf ask file name = name_of ask file ≡ Some name
+-- the number may be that of a game in the deal file of that name. If the shelf tells its files, the file has such a game
+abbrev pub IsGameIn : Option Files → List ℕ → ℕ → Type 0
+IsGameIn None deal number = (1 ≤ number) × (number ≤ most_games)
+IsGameIn (Some files) deal number = IsOkAnd (file_read files Deal deal) (λ bytes. IsGameNumber bytes number)
+
+-- the name of a game's layout file, if each game has its own
+abbrev pub IsLayoutsName : Option Files → List ℕ → List ℕ → List ℕ → Type 0
+IsLayoutsName told deal layouts name = (number : ℕ) × IsGameIn told deal number × (name ≡ layouts_name layouts number)
+
+-- the words name a file so. If each game has its own layout file, it is the name of one of these
+abbrev pub IsNameOf : Option Files → asks.AskValue → FileWord → List ℕ → Type 0
+IsNameOf told (asks.Boards deal layouts moves search) Layouts name = IsLayoutsName told deal layouts name
+IsNameOf told ask file name = name_of ask file ≡ Some name
 
 -- ---- which job is played at a table
 

@@ -1,6 +1,7 @@
 -- Why words and files are refused.
-use Rattle.std.specs.Prelude.{◌≡◌, ℕ, List, Some}
+use Rattle.std.specs.Prelude.{◌≡◌, ℕ, List, Option, Some}
 use Rattle.am_outside.specs.Faults.{Rose}
+use Rattle.am_outside.specs.Shelf.{Files}
 use Rattle.job_words.specs.Asks.{AskValue}
 use Rattle.job_words.specs.Words.{words_read}
 use Rattle.pbn_text.specs.declared.fault.TextFault as text
@@ -51,7 +52,8 @@ make_status make.TheVariants.NoneFit = BadMake make.TheVariants.NoneFit
 make_status make.TheVariants.NotShown = BadMake make.TheVariants.NotShown
 make_status make.TheVariants.Memory = Memory
 
--- the words name the file, and the count of faults at a name of it rose
-abbrev pub IsUnread : List (List ℕ) → (List ℕ → ℕ) → (List ℕ → ℕ) → FileWord → Type 0
-IsUnread words before now file = (ask : AskValue) × (name : List ℕ)
-    × (words_read words ≡ Some ask) × IsNameOf ask file name × Rose (before name) (now name)
+-- the words name the file, and the count of faults at a name of it rose. If the shelf tells its files, the layout files of
+-- all games are those of the games that there are
+abbrev pub IsUnread : Option Files → List (List ℕ) → (List ℕ → ℕ) → (List ℕ → ℕ) → FileWord → Type 0
+IsUnread told words before now file = (ask : AskValue) × (name : List ℕ)
+    × (words_read words ≡ Some ask) × IsNameOf told ask file name × Rose (before name) (now name)

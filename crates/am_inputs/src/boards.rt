@@ -3,7 +3,7 @@ ghost use Rattle.std.specs.Prelude.{◌≡◌, ◌≤◌, ◌<◌, ◌-◌, ◌^
 ghost use Rattle.std.specs.Prelude.{IfOk, IfErr, IfSome, IsErrOf, IsOkAnd};
 ghost use Rattle.am_outside.specs.Faults.{Rose};
 ghost use Rattle.am_answer.specs.Answers.{IsRoot, game_root, game_roots};
-ghost use Rattle.am_answer.specs.Files.{layouts_by_game, layouts_from, AreWithinLimit, IsLayoutsName};
+ghost use Rattle.am_answer.specs.Files.{layouts_by_game, layouts_from, AreWithinLimit, IsGameNumber};
 ghost use Rattle.am_answer.specs.Games.{games_of, layouts_name, most_games};
 ghost use Rattle.am_answer.specs.Stages.{IsFileRefusal, IsOfFiles, IsReadRefusal};
 
@@ -55,7 +55,7 @@ fn layouts_name(alloc: Global, name: &str, number: usize) -> Result<String, Allo
     Ok(file)
 }
 
-// The layout files of so many games, in order.
+// The layout files of games 1 to `count`, in order.
 fn read_in_order<S: Shelf>(
     alloc: Global,
     shelf: &mut S,
@@ -70,8 +70,9 @@ fn read_in_order<S: Shelf>(
         IfErr result (IsReadRefusal (layouts_from files name.now 1 count))) }
     ensures only { IfErr result IsOfFiles }
     ensures unread { (file : FileWord) → IsErrOf result (Status.Unread file)
-        → (file ≡ FileWord.Layouts) × (other : List ℕ) × IsLayoutsName name.now other
-        × Rose (S.faults shelf.old other) (S.faults shelf.new other) }
+        → (file ≡ FileWord.Layouts) × (number : ℕ) × (1 ≤ number) × (number ≤ count)
+        × Rose (S.faults shelf.old (layouts_name name.now number))
+        (S.faults shelf.new (layouts_name name.now number)) }
     ensures never_falls { (other : List ℕ) → S.faults shelf.old other ≤ S.faults shelf.new other }
     ensures same_files { S.told shelf.new ≡ S.told shelf.old }
 {
@@ -84,8 +85,8 @@ fn read_in_order<S: Shelf>(
     Ok(texts)
 }
 
-/// The layout file of each game of a deal file, in order. Where the deal file is refused, no
-/// other is read.
+/// The layout file of each game of a deal file, in order. If the deal file is refused, no other
+/// file is read.
 #[tactic(auto, unfolding(am_answer::specs::Files::layouts_by_game))]
 pub(crate) fn read_by_game<S: Shelf>(
     alloc: Global,
@@ -101,8 +102,9 @@ pub(crate) fn read_by_game<S: Shelf>(
         IfErr result (IsReadRefusal (layouts_by_game files name.now deal.now))) }
     ensures only { IfErr result IsOfFiles }
     ensures unread { (file : FileWord) → IsErrOf result (Status.Unread file)
-        → (file ≡ FileWord.Layouts) × (other : List ℕ) × IsLayoutsName name.now other
-        × Rose (S.faults shelf.old other) (S.faults shelf.new other) }
+        → (file ≡ FileWord.Layouts) × (number : ℕ) × IsGameNumber deal.now number
+        × Rose (S.faults shelf.old (layouts_name name.now number))
+        (S.faults shelf.new (layouts_name name.now number)) }
     ensures never_falls { (other : List ℕ) → S.faults shelf.old other ≤ S.faults shelf.new other }
     ensures same_files { S.told shelf.new ≡ S.told shelf.old }
 {

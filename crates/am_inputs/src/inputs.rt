@@ -116,7 +116,7 @@ fn read_named<S: Shelf>(alloc: Global, shelf: &mut S, ask: Ask<'_>) -> Result<In
         is_match inputs ≡ asks_match (Some (ask_of ask.entry))) }
     ensures only { IfErr result IsOfFiles }
     ensures unread { (file : FileWord) → IsErrOf result (Status.Unread file)
-        → (name : List ℕ) × IsNameOf (ask_of ask.entry) file name
+        → (name : List ℕ) × IsNameOf (S.told shelf.old) (ask_of ask.entry) file name
         × Rose (S.faults shelf.old name) (S.faults shelf.new name) }
     ensures made { (number : ℕ) (search : Search) → ask_of ask.entry ≡ Made number search
         → result ≡ Ok (Inputs.Made number search) }
@@ -192,7 +192,8 @@ pub fn read_inputs<S: Shelf>(
         → IfErr result (λ status. (status ≡ Status.BadWords) ⊎ (status ≡ Status.Memory)) }
     ensures only { IfErr result IsOfReading }
     ensures unread { (file : FileWord) → IsErrOf result (Status.Unread file)
-        → IsUnread (texts_of words.now) (S.faults shelf.old) (S.faults shelf.new) file }
+        → IsUnread (S.told shelf.old) (texts_of words.now) (S.faults shelf.old)
+        (S.faults shelf.new) file }
     ensures made { (number : ℕ) (search : Search)
         → words_read (texts_of words.now) ≡ Some (Made number search)
         → (result ≡ Ok (Inputs.Made number search)) ⊎ (result ≡ Err Status.Memory) }

@@ -29,17 +29,17 @@ some-same found value other is also = search (rules, sym is ∙ also)
 
 -- ---- a run that wrote nothing
 
-not_unread : (words : List (List ℕ)) (ask : AskValue) (before now : List ℕ → ℕ) (file : FileWord) → words_read words ≡ Some ask → HasNoFault ask before now → IsUnread words before now file → ⊥
-not_unread words ask before now file asked none (other, name, is, named, rose) =
-    none file name (subst (λ a. IsNameOf a file name) (some-same (words_read words) other ask is asked) named) rose
+not_unread : (told : Option Files) (words : List (List ℕ)) (ask : AskValue) (before now : List ℕ → ℕ) (file : FileWord) → words_read words ≡ Some ask → HasNoFault told ask before now → IsUnread told words before now file → ⊥
+not_unread told words ask before now file asked none (other, name, is, named, rose) =
+    none file name (subst (λ a. IsNameOf told a file name) (some-same (words_read words) other ask is asked) named) rose
 
 module _ (words : List (List ℕ)) (files : Files) (before now : List ℕ → ℕ) (ask : AskValue) (task : TaskValue) (asked : words_read words ≡ Some ask) (accepted : answer words files ≡ Ok task) (fits : HasText task)
-    (none : HasNoFault ask before now) where
-  complete : (status : Status) → IsRefusal (answer words files) status → ((file : FileWord) → status ≡ Unread file → IsUnread words before now file) → IsDoneOrMemory status
+    (none : HasNoFault (Some files) ask before now) where
+  complete : (status : Status) → IsRefusal (answer words files) status → ((file : FileWord) → status ≡ Unread file → IsUnread (Some files) words before now file) → IsDoneOrMemory status
   complete Done is unread = absurd is
   complete (Refuted plan place) is unread = absurd (ok-err (answer words files) task (Refuted plan place) accepted is)
   complete BadWords is unread = absurd (ok-err (answer words files) task BadWords accepted is)
-  complete (Unread file) is unread = absurd (not_unread words ask before now file asked none (unread file refl))
+  complete (Unread file) is unread = absurd (not_unread (Some files) words ask before now file asked none (unread file refl))
   complete (BadPbn line kind) is unread = absurd (ok-err (answer words files) task (BadPbn line kind) accepted is)
   complete (BadLayouts fault) is unread = absurd (ok-err (answer words files) task (BadLayouts fault) accepted is)
   complete NoTurn is unread = absurd (ok-err (answer words files) task NoTurn accepted is)
@@ -58,8 +58,8 @@ module _ (words : List (List ℕ)) (files : Files) (before now : List ℕ → �
       absurd (not_game_spent task game card fits (subst (λ t. IsGameSpentOn t game card) (ok-same (answer words files) other task also accepted) spent))
   complete (TooManyGames games) is unread = absurd (ok-err (answer words files) task (TooManyGames games) accepted is)
 
-pub told_complete : (told : Option Files) (words : List (List ℕ)) (status : Status) (before now : List ℕ → ℕ) (written : Type 0) → IfSome told (λ files. IsRefusal (answer words files) status) → ((file : FileWord) → status ≡ Unread file → IsUnread words before now file)
-    → IfSome told (λ files. (ask : AskValue) (task : TaskValue) → words_read words ≡ Some ask → answer words files ≡ Ok task → HasText task → HasNoFault ask before now → (written → ⊥) → IsDoneOrMemory status)
+pub told_complete : (told : Option Files) (words : List (List ℕ)) (status : Status) (before now : List ℕ → ℕ) (written : Type 0) → IfSome told (λ files. IsRefusal (answer words files) status) → ((file : FileWord) → status ≡ Unread file → IsUnread told words before now file)
+    → IfSome told (λ files. (ask : AskValue) (task : TaskValue) → words_read words ≡ Some ask → answer words files ≡ Ok task → HasText task → HasNoFault (Some files) ask before now → (written → ⊥) → IsDoneOrMemory status)
 told_complete None words status before now written is unread = tt
 told_complete (Some files) words status before now written is unread = λ ask task asked accepted fits none _. complete words files before now ask task asked accepted fits none status is unread
 

@@ -48,7 +48,8 @@ fn text_for<R: Threads + Sync, S: Shelf, G: Gate>(
         → IfErr result (λ status. (status ≡ Status.BadWords) ⊎ (status ≡ Status.Memory)) }
     ensures asked { IfOk result (λ _. words_read (texts_of words.now) ≢ None) }
     ensures unread { (file : FileWord) → IsErrOf result (Status.Unread file)
-        → IsUnread (texts_of words.now) (S.faults shelf.old) (S.faults shelf.new) file }
+        → IsUnread (S.told shelf.old) (texts_of words.now) (S.faults shelf.old)
+        (S.faults shelf.new) file }
     ensures nothing_written { IfErr result (λ status.
         (status ≢ Status.Done) × (status ≢ Status.Unwritten)) }
     ensures made_text { (number : ℕ) (search : Search)
@@ -131,7 +132,7 @@ pub fn run<R: Threads + Sync, S: Shelf, O: Sink, E: Sink, G: Gate>(
         IsStatusFor (answer (texts_of words.now) files) result) }
     ensures complete { IfSome (S.told shelf.old) (λ files. (ask : AskValue) (task : TaskValue)
         → words_read (texts_of words.now) ≡ Some ask → answer (texts_of words.now) files ≡ Ok task
-        → HasText task → HasNoFault ask (S.faults shelf.old) (S.faults shelf.new)
+        → HasText task → HasNoFault (Some files) ask (S.faults shelf.old) (S.faults shelf.new)
         → ¬ (Rose (O.faults out.old) (O.faults out.new)) → IsDoneOrMemory result) }
 
     // The problem of a number needs no file: what is said of it holds over every shelf.
@@ -154,7 +155,8 @@ pub fn run<R: Threads + Sync, S: Shelf, O: Sink, E: Sink, G: Gate>(
     ensures only_bad_words { words_read (texts_of words.now) ≡ None
         → (result ≡ Status.BadWords) ⊎ (result ≡ Status.Memory) }
     ensures unread { (file : FileWord) → result ≡ Status.Unread file
-        → IsUnread (texts_of words.now) (S.faults shelf.old) (S.faults shelf.new) file }
+        → IsUnread (S.told shelf.old) (texts_of words.now) (S.faults shelf.old)
+        (S.faults shelf.new) file }
     ensures unwritten { result ≡ Status.Unwritten → Rose (O.faults out.old) (O.faults out.new) }
 
     // What was written before stays in front of what is written.
