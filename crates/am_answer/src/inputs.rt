@@ -8,18 +8,18 @@ use std::marker::Model;
 /// A job on layouts, with the report that it judges and the log that it judges it by.
 #[derive(Drop)]
 pub enum Work {
-    /// The report of the root, by so many moves of declarer's side.
+    /// The report of the root, for `moves` moves of declarer's side.
     Solve {
         moves: u8,
         search: Search,
     },
-    /// The card to play, by so many moves of declarer's side.
+    /// The card to play, for `moves` moves of declarer's side.
     Card {
         moves: u8,
         search: Search,
     },
-    /// The first strategy that is printed, by so many moves of declarer's side, played out in the
-    /// layout of a number. Another defender comes to Left's seat before the card of the switch's
+    /// The first strategy that is printed, for `moves` moves of declarer's side, played out in the
+    /// layout of a number. Another defender takes over Left's seat before the card of the switch's
     /// number.
     Match {
         moves: u8,
@@ -33,8 +33,8 @@ pub enum Work {
     Check {
         report: Text,
     },
-    /// The log that proves the front complete, by so many moves of declarer's side, where the tree
-    /// of each root card has so many nodes at most.
+    /// The log that proves the front complete, for `moves` moves of declarer's side, if the tree of
+    /// each root card has at most `nodes` nodes.
     Prove {
         moves: u8,
         nodes: u64,
@@ -94,7 +94,7 @@ pub enum Inputs {
         number: u64,
         search: Search,
     },
-    /// Every game of a deal, each on a file of layouts of its own, by so many moves of declarer's
+    /// Every game of a deal, each on a file of layouts of its own, for `moves` moves of declarer's
     /// side.
     Boards {
         deal: Text,

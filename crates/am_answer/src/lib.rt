@@ -1,5 +1,5 @@
 //! What words and files lead to: a job and its text, or a refusal; and the statuses of a run.
-//! It stands on the readers, the search, plain sampling, logs and the texts, for what they mean.
+//! It builds on the readers, the search, plain sampling, logs and the texts, for what they mean.
 //! Its contract promises the number of each status, and the status of each fault.
 #![tactic(auto)]
 

@@ -31,7 +31,7 @@ pub enum PbnKind {
     Board(BoardFault),
 }
 
-/// Where a report that is judged is at fault.
+/// The part of a judged report that is at fault.
 #[derive(Clone, Copy, Debug, PartialEq, Eq)]
 pub enum Place {
     /// The head isn't the head of the files.
@@ -61,7 +61,7 @@ pub enum Status {
     Unread(FileWord),
     /// The deal file is refused at this line.
     BadPbn(u32, PbnKind),
-    /// The layout file is refused; never for want of memory.
+    /// The layout file is refused; never because an allocation failed.
     BadLayouts(LayoutFault),
     /// The play is over, or a defender is to play.
     NoTurn,
@@ -76,7 +76,7 @@ pub enum Status {
     TooLong(FileWord),
     /// The report is refused at this line.
     BadReport(u32, ReportKind),
-    /// The layouts of the board aren't listed; never for want of memory.
+    /// The layouts of the board aren't listed; never because an allocation failed.
     BadMake(MakeFault),
     /// The layout of this number isn't among the kept ones.
     NoLayout(u16),
@@ -89,7 +89,7 @@ pub enum Status {
     /// The tree after this card has more nodes than a search may enter, in the game of this number,
     /// counted from 1 in its deal file.
     GameSpent(u16, Card),
-    /// The deal file has so many games, which are more than 64.
+    /// The deal file has this many games, more than 64.
     TooManyGames(u32),
 }
 

@@ -128,7 +128,7 @@ fn read_game(alloc: Global, game: &Game, layouts: &Text) -> Result<Root, Status>
     }
 }
 
-// The same, where a refusal for want of memory is set apart.
+// The same, with a refusal for a failed allocation set apart.
 fn root_or_refusal(
     alloc: Global,
     game: &Game,

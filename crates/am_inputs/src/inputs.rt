@@ -102,7 +102,7 @@ fn read_work<S: Shelf>(alloc: Global, shelf: &mut S, job: LayoutsJob<'_>) -> Res
     }
 }
 
-// The files that an ask names: the deal, then the layouts, then the report, then the log; for all
+// The files that the words name: the deal, then the layouts, then the report, then the log; for all
 // games of a deal, after it the layout file of each.
 #[tactic(auto, unfolding(am_answer::specs::Files::named_read))]
 fn read_named<S: Shelf>(alloc: Global, shelf: &mut S, ask: Ask<'_>) -> Result<Inputs, Status>

@@ -1,7 +1,8 @@
 //! Reads what a run is about: words, files, the board, the kept layouts and whose turn it is, for
 //! one game or for all games of a deal file.
-//! It stands on the readers of words, deal files and layout files, and on a shelf for the files.
-//! Its contract promises what `am_answer` says that the files lead to, or the first refusal.
+//! It builds on the readers of words, deal files and layout files, and on a shelf for the files.
+//! Its contract promises what `am_answer` says that the files lead to, or a refusal that the files
+//! or a fault explain.
 #![tactic(auto)]
 
 mod boards;

@@ -95,7 +95,7 @@ fn solve_made<R: Threads + Sync, G: Gate>(
 }
 
 /// The text of the job that the files lead to, or why there is none. A match is played at the
-/// table; no other job touches it, and neither does a refusal but for want of memory.
+/// table; no other job touches it, and neither does a refusal unless an allocation fails.
 #[tactic(auto, unfolding(am_answer::specs::Answers::task_in))]
 pub fn text_in<R: Threads + Sync, G: Gate>(
     rt: &R,

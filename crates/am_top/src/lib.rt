@@ -1,5 +1,5 @@
 //! The whole program as one call: words and files in, a report or a refusal out.
-//! It stands on the reading of inputs, a crate for the work of each job, and the line of a refusal.
+//! It builds on the reading of inputs, a crate for the work of each job, and the line of a refusal.
 //! Its contract promises the bytes that the definitions give, and the cause of every refusal.
 #![tactic(auto)]
 

@@ -98,17 +98,17 @@ fn deliver<O: Sink, E: Sink>(text: &Text, out: &mut O, err: &mut E) -> Status
 /// turn it is, the report's grammar, the log's grammar, the work of the job, the output. A step
 /// that the job doesn't need is left out.
 ///
-/// Where all games of a deal file are solved, its games come before the layout files, which are read
+/// If all games of a deal file are solved, its games come before the layout files, which are read
 /// in the order of the games. A game's board, layouts and turn then refuse that game alone, on a
 /// line of the text.
 ///
 /// A match is played at the table of three defenders: the first sits at Left, the second at Right,
-/// and with `--switch` the third is taken from the table and comes to Left's seat before the card
-/// of that number. Each who sits is told the cards. No other job touches the table, and neither
-/// does a match that is refused, but for want of memory.
+/// and with `--switch` the third takes over Left's seat before the card of that number. Each
+/// defender who sits hears the cards. No other job touches the table, and neither does a match that
+/// is refused, unless an allocation fails.
 ///
-/// Each search of a root card stands between the gate's `enter` and `leave`. Neither the gate nor the
-/// number of workers changes a byte. The workers are joined, so it may wait.
+/// Each search of a root card comes between the gate's `enter` and `leave`. Neither the gate nor
+/// the number of workers changes a byte. The workers are joined, so it may wait.
 pub fn run<R: Threads + Sync, S: Shelf, O: Sink, E: Sink, G: Gate>(
     rt: &R,
     alloc: Global,

@@ -50,14 +50,14 @@ fn answers_of<R: Threads + Sync, G: Gate>(
     }
 }
 
-/// The reports of all games of a deal file, in order, each on its own layout file, by so many moves
-/// of declarer's side. A game whose board, layouts or turn are refused has a line that says so in
-/// its place.
+/// The reports of all games of a deal file, in order, each on its own layout file, for `moves`
+/// moves of declarer's side. A game whose board, layouts or turn are refused has a line that says
+/// so in its place.
 ///
-/// Refused where the deal file has no games or too many, with `GameSpent` at a game's root card
-/// whose tree has more nodes than a search may enter, in a plain search the first such card of the
-/// first such game, or with `Memory`. The workers, who share out the games, and the gate change
-/// nothing of the text.
+/// Refused if the deal file has no games or too many; with `GameSpent` at a game's root card whose
+/// tree has more nodes than a search may enter, in a plain search the first such card of the first
+/// such game; or with `Memory`. The workers, who share the games, and the gate change nothing of
+/// the text.
 #[tactic(auto, unfolding(am_answer::specs::Answers::boards_in))]
 pub fn solve_boards<R: Threads + Sync, G: Gate>(
     rt: &R,

@@ -10,7 +10,7 @@ use am_line::said;
 use am_report::{GameText, SolveAnswer, solve_text};
 use std::alloc::{AllocError, Global};
 
-// What came of a game, whose answer stands at this place where the game has a root.
+// What came of a game. If it has a root, its answer is at this place.
 fn outcome(
     alloc: Global,
     game: &Result<Root, Status>,
@@ -32,7 +32,7 @@ fn outcome(
     }
 }
 
-/// What came of each game, in order: the report of its root by so many moves, or why it has none.
+/// What came of each game, in order: the report of its root for `moves` moves, or why it has none.
 /// The answers are those of the games that have a root, in order.
 pub(crate) fn outcomes(
     alloc: Global,
