@@ -4,8 +4,8 @@
 Usage: examples/evening/cards.py FOLDER [BOARD ..], with evening.pbn and evening.lay.1, evening.lay.2 and so on in FOLDER, as make.py writes
 them. Without numbers it takes all boards.
 
-It asks the jobs `fusion` and `card --moves 26` (with nodes enough) about one game after another, several at a time, and prints a line for each board: the card
-and the count of each job. A star marks the boards on which they name different cards."""
+It asks the jobs `fusion` and `card --moves 26`, with nodes enough, about one game after another, several at a time. It prints a line for
+each board: the card and the count of each job. A star marks the boards on which they name different cards."""
 import os
 import pathlib
 import re
