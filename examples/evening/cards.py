@@ -4,8 +4,8 @@
 Usage: examples/evening/cards.py FOLDER [BOARD ..], with evening.pbn and evening.lay.1, evening.lay.2 and so on in FOLDER, as make.py writes
 them. Without numbers it takes all boards.
 
-It asks the jobs `fusion` and `card --moves 26` about one game after another, several at a time, and prints a line for each board: the card
-and the count of each job. A star marks the boards on which they name different cards."""
+It asks the jobs `fusion` and `card --moves 26`, with nodes enough, about one game after another, several at a time. It prints a line for
+each board: the card and the count of each job. A star marks the boards on which they name different cards."""
 import os
 import pathlib
 import re
@@ -28,7 +28,7 @@ def ask(job, deal, layouts, *more):
 
 def answers(deal, layouts):
     """What each job says of a board, as a card and its count, or one line that says why not."""
-    printed, why = ask("card", deal, layouts, "--moves", "26")
+    printed, why = ask("card", deal, layouts, "--moves", "26", "--nodes", str(2 ** 40))
     if not printed:
         return ["refused", why]
     best, count, of = re.search(r"card (\S+) (?:count|weight) (\d+) of (\d+)", printed).groups()
