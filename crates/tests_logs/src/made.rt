@@ -69,7 +69,9 @@ fn logs_of_an_ending(rt: HostRuntime) -> Result<(), Fail> {
     assert_text(&rt, &made(&rt, alloc, 1, 1, MOST_NODES)?, ONE_MOVE);
     let text = made(&rt, alloc, 1, 2, 10)?;
     assert_text(&rt, &text, TWO_MOVES);
-    let log = read_log(alloc, text.bytes()).expect(&rt, "a log");
+    let bytes = text.bytes();
+    assert!(rt; bytes.len() < 10_000);
+    let log = read_log(alloc, bytes).expect(&rt, "a log");
     let first = WinVector::none(2).set(0, true);
     let second = WinVector::none(2).set(1, true);
     let node = ending(&rt, alloc, 1)?;
