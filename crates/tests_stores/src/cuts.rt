@@ -4,7 +4,7 @@
 //! The numbers are counted by hand. Declarer holds SK SJ, and dummy leads S2 from S3 S2. Left has
 //! SQ S5 or SA S5, so Right may play S7 in both layouts, SQ in one and SA in the other. After each
 //! of the three declarer has two cards, and then no move is left: 1 + 3 * (1 + 2) = 10 nodes.
-use crate::endings::set_of;
+use crate::endings::{all_fit, set_of};
 use alphamu_core::{Budget, Found, search};
 use card_sets::{Card, Seat};
 use cut_rules::{CutRules, Stop};
@@ -46,11 +46,10 @@ fn root(
     .expect(rt, "the ending is sound");
     let mut lefts = Vec::new(alloc);
     for hand in hands {
-        let left = set_of(hand);
-        assert!(rt; position.fits(left) && lefts.len() < 64);
-        lefts.push(left)?;
+        lefts.push(set_of(hand))?;
     }
-    assert!(rt; !lefts.is_empty());
+    assert!(rt; !lefts.is_empty() && lefts.len() <= 64);
+    assert!(rt; all_fit(&position, lefts.as_slice()));
     Node::new(alloc, position, lefts.as_slice())
 }
 
@@ -69,10 +68,12 @@ fn after(rt: &impl Abort, alloc: Global, node: &Node, number: u8) -> Result<Node
 }
 
 /// The front of the vectors whose bits these are, the first layout first.
-fn front_of(alloc: Global, bits: &[[bool; 2]]) -> Result<Front, AllocError> {
+fn front_of(rt: &impl Abort, alloc: Global, bits: &[[bool; 2]]) -> Result<Front, AllocError> {
     let mut front = Front::new(alloc, 2);
     for [first, second] in bits {
-        front.insert(WinVector::none(2).set(0, *first).set(1, *second))?;
+        let vector = WinVector::none(2).set(0, *first).set(1, *second);
+        assert!(rt; front.width() == vector.width());
+        front.insert(vector)?;
     }
     Ok(front)
 }
@@ -131,7 +132,7 @@ fn over<S: FrontStore>(
 fn early_cut(rt: HostRuntime) -> Result<(), Fail> {
     let alloc = rt.alloc();
     let node = after(&rt, alloc, &guess(&rt, alloc)?, 0)?;
-    let alpha = front_of(alloc, &[[true, false], [false, true]])?;
+    let alpha = front_of(&rt, alloc, &[[true, false], [false, true]])?;
     let rules = CutRules::all(Stop::Never);
     let found = entered(&rt, alloc, &mut NoStore, &node, 1, &alpha, rules);
     assert_eq!(rt; found, (4, false));
@@ -144,7 +145,7 @@ fn early_cut(rt: HostRuntime) -> Result<(), Fail> {
 fn cut_by_double_dummy(rt: HostRuntime) -> Result<(), Fail> {
     let alloc = rt.alloc();
     let node = after(&rt, alloc, &guess(&rt, alloc)?, 0)?;
-    let alpha = front_of(alloc, &[[true, true]])?;
+    let alpha = front_of(&rt, alloc, &[[true, true]])?;
     let rules = CutRules::all(Stop::Never);
     let found = entered(&rt, alloc, &mut NoStore, &node, 1, &alpha, rules);
     assert_eq!(rt; found, (1, false));
@@ -159,7 +160,7 @@ fn cut_by_fewer_moves(rt: HostRuntime) -> Result<(), Fail> {
     let node = after(&rt, alloc, &guess(&rt, alloc)?, 0)?;
     let mut store = LocalStore::new(alloc, 64);
     assert_eq!(rt; over(&rt, alloc, &mut store, &node, 1), (10, true));
-    let alpha = front_of(alloc, &[[true, false], [false, true]])?;
+    let alpha = front_of(&rt, alloc, &[[true, false], [false, true]])?;
     let rules = CutRules::all(Stop::Never);
     let found = entered(&rt, alloc, &mut store, &node, 2, &alpha, rules);
     assert_eq!(rt; found, (1, false));

@@ -32,7 +32,7 @@ fn chosen(number: u16) -> CardSet {
 }
 
 /// Whether Left may hold each of the hands.
-fn all_fit(position: &Position, lefts: &[CardSet]) -> bool
+pub fn all_fit(position: &Position, lefts: &[CardSet]) -> bool
     ensures { IsTrue result → All (FitsLeft position.now) lefts.now }
 {
     lefts.iter().all(|left| position.fits(*left))
