@@ -116,7 +116,8 @@ def long_lines(folder, ending, lengths, are_apart):
     *lines, leaf, union = processor_seconds(problem.words("prove", "--moves", 1, "--nodes", 2 ** 28))[1].splitlines()[1:-1]
     told = unproved(len(lines) + 3) if are_apart else (0, f"alphamu audit 1\nlines {len(lines) + 2}\ncomplete\n", "")
     for length in lengths:
-        count = length // 2 // (ending.width + 1) - 1
+        # The other lines take less than a kilobyte.
+        count = (length - 1024) // 2 // (ending.width + 1) - 1
         texts = []
         for line, more in (leaf, leaf.rsplit(" ", 1)[1]), (union, "0" * ending.width):
             words, own = line.rsplit(" ", 1)
