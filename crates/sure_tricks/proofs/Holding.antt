@@ -58,7 +58,7 @@ may_follow w ds hand c legal = go (of_suit (suit_of w) hand) refl legal
         record { held = both.0; suit = inl (same_suit-true (suit_of c) (suit_of w) both.1) }
 
 -- a hand with none of the suit
-none_in_hand : (w : ℕ) (hand : List ℕ) → ((d : ℕ) → has_card hand d ≡ true → same_suit (suit_of d) (suit_of w) ≡ false) → length (of_suit (suit_of w) hand) ≡ 0
+pub none_in_hand : (w : ℕ) (hand : List ℕ) → ((d : ℕ) → has_card hand d ≡ true → same_suit (suit_of d) (suit_of w) ≡ false) → length (of_suit (suit_of w) hand) ≡ 0
 none_in_hand w hand none = ap (length {A = ℕ}) (filter-none (λ d. same_suit (suit_of d) (suit_of w)) hand none)
 
 module _ (trump : Trump) (sure : List ℕ) (w : ℕ) (lead : IsLead trump sure w) where

@@ -11,3 +11,6 @@ pub mod Together
 pub mod Counted
 pub mod Summing
 pub mod TopTrumps
+pub mod StoppedSuit
+pub mod Stoppers
+pub mod AllTricks

@@ -25,13 +25,13 @@ use Rattle.sure_tricks.proofs.Hands.{seats_differ, seat_cases, hand_after, hand_
 
 -- ---- sides
 
-sides : (a b : Bool) → (a ≡ b) ⊎ (a ≡ not b)
+pub sides : (a b : Bool) → (a ≡ b) ⊎ (a ≡ not b)
 sides true true = inl refl
 sides true false = inr refl
 sides false true = inr refl
 sides false false = inl refl
 
-two_sides : (a b : Bool) → a ≡ b → a ≡ not b → ⊥
+pub two_sides : (a b : Bool) → a ≡ b → a ≡ not b → ⊥
 two_sides true true e f = false≢true (sym f)
 two_sides true false e f = false≢true (sym e)
 two_sides false true e f = false≢true e
@@ -50,7 +50,7 @@ abbrev pub AreLower : Bool → Trump → ℕ → Seat → List ℕ → Type 0
 AreLower b trump w leader cards = (k : ℕ) → k < length cards → is_declarers (seat_after k leader) ≡ not b
     → is_trump trump (get_or cards k 0) ≡ true → rank_of (get_or cards k 0) < rank_of w
 
-highest_in : (xs : List ℕ) (i : ℕ) → (h : ℕ) × IsHighest xs (suc i) h
+pub highest_in : (xs : List ℕ) (i : ℕ) → (h : ℕ) × IsHighest xs (suc i) h
 highest_in xs zero = (0, IsHighest-one xs)
 highest_in xs (suc i) =
     let before : (h : ℕ) × IsHighest xs (suc i) h = highest_in xs i in

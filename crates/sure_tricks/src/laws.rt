@@ -8,6 +8,7 @@ ghost use Rattle.card_sets.specs.Cards.{suit_of};
 ghost use Rattle.card_sets.specs.declared.seat.Seat.{Seat};
 ghost use Rattle.card_sets.specs.SetWords.{has_card};
 ghost use Rattle.sure_tricks.specs.Sure.{AreSure, AreTopTrumps};
+ghost use Rattle.sure_tricks.specs.Stoppers.{AreStoppers};
 
 /// The side on lead takes a trick with each of its sure cards: declarer's side makes a need of no
 /// more tricks, and against the defenders it fails with a need that leaves them fewer.
@@ -56,4 +57,18 @@ pub fn top_trumps_win()
     ensures theirs { (s : State) (x : Seat) (top : List ℕ) → IsState s
         → s.position.trick.cards ≡ [] → AreTopTrumps s x top → is_declarers x ≡ false
         → tricks_left s.position < s.position.need + length top → makes s ≡ false }
+{}
+
+/// At no trump, if stoppers outlast its other suits, the side on lead doesn't take all the tricks:
+/// declarer's side fails with a need of all of them, and against the defenders it makes a need of
+/// one.
+#[tactic(auto, using(crate::proofs::AllTricks::we_fail, crate::proofs::AllTricks::they_fail))]
+pub fn stoppers_win_a_trick()
+    ensures ours { (s : State) (stoppers : List ℕ) → IsState s → s.position.trick.cards ≡ []
+        → s.position.trump ≡ NoTrump → AreStoppers s (to_play s.position) stoppers
+        → is_declarers (to_play s.position) ≡ true
+        → tricks_left s.position ≤ s.position.need → makes s ≡ false }
+    ensures theirs { (s : State) (stoppers : List ℕ) → IsState s → s.position.trick.cards ≡ []
+        → s.position.trump ≡ NoTrump → AreStoppers s (to_play s.position) stoppers
+        → is_declarers (to_play s.position) ≡ false → s.position.need ≤ 1 → makes s ≡ true }
 {}
