@@ -9,6 +9,7 @@ ghost use Rattle.trick_rules.specs.declared.trump.Trump.TheVariants.{NoTrump};
 ghost use Rattle.trick_rules.specs.Positions.{State, seat_after, to_play, tricks_left, IsState};
 ghost use Rattle.trick_rules.specs.Play.{after, decided, hand_of, is_declarers, is_over, legal_in, IsWonBy};
 ghost use Rattle.sure_tricks.specs.Sure.{AreSure, AreTopTrumps};
+ghost use Rattle.sure_tricks.specs.Stoppers.{AreStoppers};
 ghost use Rattle.alike_states.specs.Alike.{IsClosedUp, IsLike, IsLikeHand, AreAlike, SettlesTrick, SettlesEnd, HasAnswer, GivesAnswer};
 
 // ---- alike states
@@ -111,6 +112,14 @@ pub fn top_trumps_stay()
         → AreTopTrumps s seat top → AreTopTrumps t seat top }
 {}
 
+/// Stoppers that count are stoppers in each alike state, if the cards that count are closed up.
+pub fn stoppers_stay()
+    ensures { (counting : List ℕ) (s t : State) (seat : Seat) (stoppers : List ℕ)
+        → IsClosedUp counting → IsState s → IsState t → AreAlike counting s t
+        → IsSubset stoppers counting → AreStoppers s seat stoppers
+        → AreStoppers t seat stoppers }
+{}
+
 // ---- answers
 
 /// What is decided is answered for every alike state, whichever cards count.
@@ -165,6 +174,21 @@ pub fn top_trumps_answer()
         → IsClosedUp counting → IsSubset top counting → s.position.trick.cards ≡ []
         → AreTopTrumps s x top → is_declarers x ≡ false
         → tricks_left s.position < s.position.need + length top → HasAnswer counting s false }
+{}
+
+/// At no trump the stoppers that the side on lead would have to outlast answer for every alike
+/// state, where they count, if it needs all the tricks.
+pub fn stoppers_answer()
+    ensures ours { (counting : List ℕ) (s : State) (stoppers : List ℕ) → IsClosedUp counting
+        → IsSubset stoppers counting → IsState s → s.position.trick.cards ≡ []
+        → s.position.trump ≡ NoTrump → AreStoppers s (to_play s.position) stoppers
+        → is_declarers (to_play s.position) ≡ true
+        → tricks_left s.position ≤ s.position.need → HasAnswer counting s false }
+    ensures theirs { (counting : List ℕ) (s : State) (stoppers : List ℕ) → IsClosedUp counting
+        → IsSubset stoppers counting → IsState s → s.position.trick.cards ≡ []
+        → s.position.trump ≡ NoTrump → AreStoppers s (to_play s.position) stoppers
+        → is_declarers (to_play s.position) ≡ false → s.position.need ≤ 1
+        → HasAnswer counting s true }
 {}
 
 /// An answer goes from a state to an alike one, and from some of the cards that count to all. What
