@@ -1,6 +1,7 @@
 pub mod SureCards
 pub mod Winner
 pub mod EqualsDown
+pub mod NeedsAll
 pub mod Tried
 pub mod Keyed
 pub mod Highest

@@ -1,6 +1,7 @@
 pub mod Closed
 pub mod Sure
 pub mod Keys
+pub mod NeedsAll
 pub mod Answers
 pub mod Squeezing
 pub mod Remembers

@@ -11,6 +11,7 @@ mod hands;
 mod key;
 mod leads;
 mod memo;
+mod needs_all;
 mod order;
 mod plays;
 mod search;

@@ -11,6 +11,7 @@ use crate::answer::{Answer, joined, with_winner};
 use crate::enough::{one_of_equals, with_lower_equals, without_like};
 use crate::key::Key;
 use crate::memo::Memo;
+use crate::needs_all::needs_all_answer;
 use crate::order::{Order, turn_of};
 use crate::squeeze::Squeezed;
 use crate::sure::sure_answer;
@@ -61,6 +62,9 @@ fn search_key(memo: &mut Memo, key: &Key) -> Answer
         return answer;
     }
     let position = key.position();
+    if let Some(answer) = needs_all_answer(&position, key.left) {
+        return answer;
+    }
     if let Some(answer) = top_trumps_answer(&position, key.left) {
         return answer;
     }
