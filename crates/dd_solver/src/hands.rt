@@ -37,6 +37,12 @@ impl Hands {
         }
     }
 
+    /// The cards of all four.
+    pub(crate) fn all(&self) -> CardSet {
+        let ours = self.own.either(self.partner);
+        ours.either(self.next).either(self.last)
+    }
+
     /// The most cards of a suit that another hand has.
     pub(crate) fn most_of_others(&self, suit: Suit) -> u8
         ensures next { length (of_suit suit self.now.next) ≤ result }

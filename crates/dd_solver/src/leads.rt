@@ -1,42 +1,37 @@
 //! Move ordering of leads: each lead has a weight, and the heaviest is tried first. The order
 //! changes no answer.
-ghost use Rattle.std.specs.Prelude.{◌≤◌};
+ghost use Rattle.std.specs.Prelude.{◌≡◌, ◌≤◌, true, [], MatchOption};
+ghost use Rattle.card_sets.specs.SetWords.{has_card};
 
 use crate::hands::Hands;
 use card_sets::{Card, CardSet, Suit};
 use trick_rules::{Position, Trump};
 
 /// What no two hands' choices weigh more than.
-const MOST_CHOICES: u16 = 5_100;
+const MOST_CHOICES: u16 = 7_650;
 
-// How many cards a hand may play to a suit.
-fn choice_of(hand: CardSet, suit: Suit) -> u16
+// How many cards a hand that has none of a suit may play to it.
+fn discards_of(hand: CardSet, suit: Suit) -> u16
     ensures { result ≤ 255 }
 {
-    let following = hand.of_suit(suit);
-    if following.is_empty() {
+    if hand.of_suit(suit).is_empty() {
         u16::from(hand.count())
     } else {
-        u16::from(following.count())
+        0
     }
 }
 
 // How wide the opponents' choice of cards is in a suit: the cards that they may play to it, each
 // seven or, with trumps, ten.
 fn choices(hands: &Hands, trump: Trump, suit: Suit) -> u16
-    ensures { result ≤ 5100 }
+    ensures { result ≤ 7650 }
 {
-    let cards = choice_of(hands.next, suit) + choice_of(hands.last, suit);
+    let following = u16::from(hands.next.either(hands.last).of_suit(suit).count());
+    let discards = discards_of(hands.next, suit) + discards_of(hands.last, suit);
     match trump {
-        Trump::NoTrump => 7 * cards,
-        Trump::Suit(_) => 10 * cards,
+        Trump::NoTrump => 7 * (following + discards),
+        Trump::Suit(_) => 10 * (following + discards),
     }
-}
-
-// The cards of a suit in all four hands.
-fn all_of_suit(hands: &Hands, suit: Suit) -> CardSet {
-    let ours = hands.own.either(hands.partner);
-    ours.either(hands.next).either(hands.last).of_suit(suit)
 }
 
 // Whether a hand can ruff a suit.
@@ -49,89 +44,65 @@ fn can_ruff(hand: CardSet, trump: Trump, suit: Suit) -> bool {
     }
 }
 
-/// The highest cards of a suit that are in play, at most this many.
+/// The highest cards of a suit that are in play, each as a set: empty if there are fewer.
 #[derive(Drop)]
 struct Honours {
-    best: Option<Card>,
-    second: Option<Card>,
-    third: Option<Card>,
+    best: CardSet,
+    second: CardSet,
+    third: CardSet,
 }
 
 impl Honours {
     fn of(cards: CardSet) -> Honours {
-        let mut honours = Honours {
-            best: None,
-            second: None,
-            third: None,
-        };
-        for card in cards {
-            honours = Honours {
-                best: Some(card),
-                second: honours.best,
-                third: honours.second,
-            };
-        }
-        honours
-    }
-}
-
-// Whether a hand has this card.
-fn holds(hand: CardSet, card: Option<Card>) -> bool {
-    match card {
-        Some(card) => hand.has(card),
-        None => false,
-    }
-}
-
-// Whether it is this card.
-fn is_card(card: Card, other: Option<Card>) -> bool {
-    match other {
-        Some(other) => card == other,
-        None => false,
-    }
-}
-
-/// Which leads of a suit win the trick for the side on lead.
-#[derive(Clone, Copy)]
-enum Winners {
-    All,
-    Best(Option<Card>),
-    None,
-}
-
-impl Winners {
-    // Partner may win each lead, by a ruff or by the best card, unless an opponent ruffs.
-    fn of(hands: &Hands, trump: Trump, suit: Suit, honours: &Honours) -> Winners {
-        if can_ruff(hands.next, trump, suit) || can_ruff(hands.last, trump, suit) {
-            Winners::None
-        } else if can_ruff(hands.partner, trump, suit) || holds(hands.partner, honours.best) {
-            Winners::All
-        } else {
-            Winners::Best(honours.best)
+        let best = highest_of(cards);
+        let rest = cards.minus(best);
+        let second = highest_of(rest);
+        Honours {
+            best,
+            second,
+            third: highest_of(rest.minus(second)),
         }
     }
+}
 
-    fn have(self, card: Card) -> bool {
-        match self {
-            Winners::All => true,
-            Winners::Best(best) => is_card(card, best),
-            Winners::None => false,
-        }
+// The highest card of a suit.
+fn highest_of(cards: CardSet) -> CardSet {
+    match cards.last() {
+        Some(card) => CardSet::empty().with(card),
+        None => cards,
+    }
+}
+
+// Whether a hand has a card of these.
+fn holds(hand: CardSet, cards: CardSet) -> bool {
+    !hand.is_disjoint(cards)
+}
+
+// The leads of a suit that win the trick for the side on lead. Partner may win each lead, by a ruff
+// or by the best card, unless an opponent ruffs.
+fn winners_of(hands: &Hands, trump: Trump, suit: Suit, best: CardSet) -> CardSet {
+    if can_ruff(hands.next, trump, suit) || can_ruff(hands.last, trump, suit) {
+        CardSet::empty()
+    } else if can_ruff(hands.partner, trump, suit) || holds(hands.partner, best) {
+        hands.own
+    } else {
+        best
     }
 }
 
 /// The leads of a suit, and what their weights have in common.
 #[derive(Drop)]
 struct SuitLeads {
-    winners: Winners,
+    /// What wins the trick for the side on lead, if it is led.
+    winners: CardSet,
     /// Of two touching honours below the best card, in the hand on lead, the higher.
-    sequence: Option<Card>,
+    sequence: CardSet,
     /// What a card that loses weighs.
     low: u16,
     /// What the opponents' choices leave.
     ease: u16,
     ghost low_fits: { low ≤ 47 },
-    ghost ease_fits: { ease ≤ 5100 },
+    ghost ease_fits: { ease ≤ 7650 },
 }
 
 // What a card that loses weighs: more if the opponents have the best card, and more if the side has
@@ -160,11 +131,15 @@ fn losers_weight(hands: &Hands, honours: &Honours, suit: Suit) -> u16
 
 impl SuitLeads {
     fn of(hands: &Hands, trump: Trump, suit: Suit) -> SuitLeads {
-        let honours = Honours::of(all_of_suit(hands, suit));
+        let honours = Honours::of(hands.all().of_suit(suit));
         let touching = holds(hands.own, honours.second) && holds(hands.own, honours.third);
         SuitLeads {
-            winners: Winners::of(hands, trump, suit, &honours),
-            sequence: if touching { honours.second } else { None },
+            winners: winners_of(hands, trump, suit, honours.best),
+            sequence: if touching {
+                honours.second
+            } else {
+                CardSet::empty()
+            },
             low: losers_weight(hands, &honours, suit),
             ease: MOST_CHOICES - choices(hands, trump, suit),
         }
@@ -175,10 +150,10 @@ impl SuitLeads {
         ensures { result ≤ 157 }
     {
         let was_best = best_leads.has(card);
-        if self.winners.have(card) {
+        if self.winners.has(card) {
             return if was_best { 157 } else { 57 };
         }
-        let worth = if is_card(card, self.sequence) {
+        let worth = if self.sequence.has(card) {
             self.low + 36
         } else {
             self.low
@@ -192,29 +167,83 @@ impl SuitLeads {
     }
 
     // Weighs some leads of the suit.
-    fn weigh(&self, weights: &mut [u16; 52], leads: CardSet, best_leads: CardSet) {
+    fn weigh(&self, weights: &mut LeadWeights, leads: CardSet, best_leads: CardSet) {
         for card in leads {
-            weights[usize::from(card.number())] = self.weight(card, best_leads);
+            weights.add(card, self.weight(card, best_leads));
         }
     }
 }
 
-/// The weights of some leads, each at its card's number. Those that were best at
-/// such a turn before weigh more.
-pub(crate) fn lead_weights(
-    position: &Position,
-    left: CardSet,
-    cards: CardSet,
-    best_leads: CardSet,
-) -> [u16; 52] {
-    let hands = Hands::of(position, left, position.to_play());
-    let mut weights = [0; 52];
-    for suit in Suit::ALL {
-        let leads = cards.of_suit(suit);
-        if !leads.is_empty() {
-            let weighed = SuitLeads::of(&hands, position.trump, suit);
-            weighed.weigh(&mut weights, leads, best_leads);
+/// The weights of the leads of a turn.
+#[derive(Clone, Copy)]
+pub(crate) struct LeadWeights {
+    leads: CardSet,
+    /// The weight of each lead, in card order, and how many are there.
+    weights: [u16; 13],
+    many: usize,
+    /// The first of the leads that weigh most, and what it weighs.
+    heaviest: Card,
+    most: u16,
+}
+
+impl LeadWeights {
+    // Adds the weight of the next lead.
+    fn add(&mut self, card: Card, weight: u16) {
+        if self.many < 13 {
+            self.weights[self.many] = weight;
+            self.many += 1;
+        }
+        if self.most < weight {
+            self.heaviest = card;
+            self.most = weight;
         }
     }
-    weights
+
+    /// Weighs some leads. Those that were best at such a turn before weigh more.
+    pub(crate) fn of(
+        position: &Position,
+        left: CardSet,
+        leads: CardSet,
+        best_leads: CardSet,
+    ) -> LeadWeights {
+        let hands = Hands::of(position, left, position.to_play());
+        let mut weights = LeadWeights {
+            leads,
+            weights: [0; 13],
+            many: 0,
+            heaviest: Card::default(),
+            most: 0,
+        };
+        for suit in Suit::ALL {
+            let here = leads.of_suit(suit);
+            if !here.is_empty() {
+                let weighed = SuitLeads::of(&hands, position.trump, suit);
+                weighed.weigh(&mut weights, here, best_leads);
+            }
+        }
+        weights
+    }
+
+    /// The one of these cards that weighs most, of like ones the first in card order.
+    pub(crate) fn heaviest_of(&self, cards: CardSet) -> Option<Card>
+        ensures { MatchOption result (cards ≡ []) (λ card. has_card cards card ≡ true) }
+    {
+        if cards.has(self.heaviest) {
+            return Some(self.heaviest);
+        }
+        let mut rest = cards;
+        let mut best = rest.pop_first()?;
+        let mut most = 0;
+        let mut leads = self.leads;
+        for weight in self.weights.as_slice() {
+            let Some(card) = leads.pop_first() else {
+                break;
+            };
+            if most < *weight && cards.has(card) {
+                best = card;
+                most = *weight;
+            }
+        }
+        Some(best)
+    }
 }

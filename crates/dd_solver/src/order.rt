@@ -2,7 +2,7 @@
 ghost use Rattle.std.specs.Prelude.{◌≡◌, true, [], MatchOption};
 ghost use Rattle.card_sets.specs.SetWords.{has_card, IsSubset};
 
-use crate::leads::lead_weights;
+use crate::leads::LeadWeights;
 use crate::plays::{likely_plays, longest_side_suit};
 use card_sets::{Card, CardSet, Seat};
 use trick_rules::{Position, Trump};
@@ -35,18 +35,10 @@ fn narrowed(cards: CardSet, part: CardSet) -> CardSet
     if both.is_empty() { cards } else { both }
 }
 
-// The one of these cards that weighs most, of like ones the first in card order.
-fn heaviest(weights: &[u16; 52], cards: CardSet) -> Option<Card>
-    ensures { MatchOption result (cards ≡ []) (λ card. has_card cards card ≡ true) }
-{
+// Whether there are two cards or more.
+fn has_two(cards: CardSet) -> bool {
     let mut rest = cards;
-    let mut best = rest.pop_first()?;
-    while let Some(card) = rest.pop_first() {
-        if weights[usize::from(best.number())] < weights[usize::from(card.number())] {
-            best = card;
-        }
-    }
-    Some(best)
+    rest.pop_first().is_some() && !rest.is_empty()
 }
 
 /// Which of some cards go before the others.
@@ -54,8 +46,10 @@ fn heaviest(weights: &[u16; 52], cards: CardSet) -> Option<Card>
 pub(crate) enum Order {
     /// The best lead of another position. Nothing is said of the others yet.
     Begun(Card),
-    /// The heaviest lead, by the weight at its card's number.
-    Leads([u16; 52]),
+    /// The heaviest lead.
+    Leads(LeadWeights),
+    /// Those in this set. Nothing is said of the others yet.
+    Likely(CardSet),
     /// Those in the first set, and of these, or of all if none is, those in the second.
     Plays(CardSet, CardSet),
 }
@@ -63,15 +57,22 @@ pub(crate) enum Order {
 impl Order {
     // The order of all these cards.
     fn of(position: &Position, left: CardSet, cards: CardSet, best_leads: CardSet) -> Order {
-        if cards.count() < 2 {
-            Order::Plays(cards, cards)
-        } else if position.trick.cards.is_empty() {
-            Order::Leads(lead_weights(position, left, cards, best_leads))
-        } else {
-            Order::Plays(
-                likely_plays(position, left, cards),
-                longest_side_suit(position, left, cards),
-            )
+        if !has_two(cards) {
+            return Order::Plays(cards, cards);
+        }
+        match position.trick.suit_led() {
+            None => Order::Leads(LeadWeights::of(position, left, cards, best_leads)),
+            Some(led) => {
+                let likely = likely_plays(position, left, led, cards);
+                // Cards that follow suit are all of one suit.
+                if !cards.of_suit(led).is_empty() {
+                    Order::Plays(likely, cards)
+                } else if !likely.is_empty() {
+                    Order::Likely(likely)
+                } else {
+                    Order::Plays(cards, longest_side_suit(position, left, cards))
+                }
+            }
         }
     }
 
@@ -94,8 +95,12 @@ impl Order {
 
     /// Orders the cards that are left, if only the first is known.
     pub(crate) fn complete(&mut self, position: &Position, left: CardSet, cards: CardSet) {
-        if let Order::Begun(_) = self {
-            *self = Order::of(position, left, cards, CardSet::empty());
+        match self {
+            Order::Begun(_) => *self = Order::of(position, left, cards, CardSet::empty()),
+            Order::Likely(likely) if cards.is_disjoint(*likely) => {
+                *self = Order::Plays(cards, longest_side_suit(position, left, cards));
+            }
+            _ => {}
         }
     }
 
@@ -106,7 +111,8 @@ impl Order {
         match self {
             Order::Begun(card) if cards.has(*card) => Some(*card),
             Order::Begun(_) => cards.first(),
-            Order::Leads(weights) => heaviest(weights, cards),
+            Order::Likely(likely) => narrowed(cards, *likely).first(),
+            Order::Leads(weights) => weights.heaviest_of(cards),
             Order::Plays(first, second) => narrowed(narrowed(cards, *first), *second).first(),
         }
     }

@@ -1,146 +1,121 @@
 //! Move ordering within a trick: the cards that most often win it are tried first, and in third
 //! seat the lowest that forces out the fourth hand's highest. The order changes no answer.
 
-use card_sets::{Card, CardSet, Suit};
+use card_sets::{CardSet, Suit};
 use trick_rules::{Position, Trump};
 
-/// The suit led to a trick, and trumps.
-#[derive(Clone, Copy)]
-struct Strain {
-    led: Suit,
-    trump: Trump,
-}
-
-impl Strain {
-    // Whether a card beats the best card of the trick so far.
-    fn beats(self, card: Card, best: Card) -> bool {
-        if card.suit() == best.suit() {
-            best.number() < card.number()
-        } else {
-            self.trump == Trump::Suit(card.suit())
-        }
+// Those of some cards of a suit that a hand with more cards of it than one beats by its highest
+// card alone.
+fn forcing_of(cards: CardSet, following: CardSet) -> CardSet {
+    let Some(highest) = following.last() else {
+        return CardSet::empty();
+    };
+    let lower = following.without(highest);
+    if lower.is_empty() {
+        return CardSet::empty();
     }
-
-    // Whether a hand that follows suit if it can has a card that beats the best card of the trick
-    // so far.
-    fn can_beat(self, hand: CardSet, best: Card) -> bool {
-        let following = hand.of_suit(self.led);
-        if !following.is_empty() {
-            return best.suit() == self.led && has_higher(following, best);
-        }
-        let Trump::Suit(trump) = self.trump else {
-            return false;
-        };
-        let trumps = hand.of_suit(trump);
-        if best.suit() == trump {
-            has_higher(trumps, best)
-        } else {
-            !trumps.is_empty()
-        }
-    }
-}
-
-// Whether a set has a card that comes after this one.
-fn has_higher(cards: CardSet, card: Card) -> bool {
-    cards.after(card).is_some()
-}
-
-// Whether a hand with more cards of the suit than one has a single card that beats this one.
-fn forces(card: Card, following: CardSet) -> bool {
-    match following.after(card) {
-        Some(higher) => following.count() > 1 && !has_higher(following, higher),
-        None => false,
-    }
+    let beaten = cards.minus(cards.after_each(following));
+    beaten.after_each(lower)
 }
 
 /// A trick that has a card, as the seat to play sees it.
 #[derive(Drop)]
 struct Table {
-    strain: Strain,
-    /// The best card so far, and whether partner played it.
-    best: Card,
+    led: Suit,
+    trump: Trump,
+    /// The suit of the best card so far, and that card.
+    best_suit: Suit,
+    best: CardSet,
     is_partners: bool,
     /// The hand of the opponent who plays next, unless the trick is full by then.
     next: CardSet,
     is_third: bool,
 }
 
+// The cards of a trick.
+fn cards_of(position: &Position) -> CardSet {
+    let mut cards = CardSet::empty();
+    for card in position.trick.cards.as_slice() {
+        cards = cards.with(*card);
+    }
+    cards
+}
+
+// The suit in which the best card of a trick is.
+fn best_suit_of(played: CardSet, led: Suit, trump: Trump) -> Suit {
+    match trump {
+        Trump::Suit(suit) if !played.of_suit(suit).is_empty() => suit,
+        _ => led,
+    }
+}
+
 impl Table {
     // Nothing if no card is played yet.
-    fn of(position: &Position, left: CardSet) -> Option<Table> {
-        let strain = Strain {
-            led: position.trick.suit_led()?,
-            trump: position.trump,
+    fn of(position: &Position, left: CardSet, led: Suit) -> Option<Table> {
+        let played = cards_of(position);
+        let best_suit = best_suit_of(played, led, position.trump);
+        let best = played.of_suit(best_suit).last()?;
+        let cards = position.trick.cards.as_slice();
+        let is_partners = match cards {
+            [partners, _] | [_, partners, _] => *partners == best,
+            _ => false,
         };
-        let played = position.trick.cards.len();
-        let mut best = *position.trick.cards.first()?;
-        let mut is_partners = played == 2;
-        for (place, card) in position.trick.cards.as_slice().iter().enumerate() {
-            if strain.beats(*card, best) {
-                best = *card;
-                is_partners = place.saturating_add(2) == played;
-            }
-        }
-        let next = if played < 3 {
+        let next = if cards.len() < 3 {
             position.hand(position.to_play().next(), left)
         } else {
             CardSet::empty()
         };
         Some(Table {
-            strain,
-            best,
+            led,
+            trump: position.trump,
+            best_suit,
+            best: CardSet::empty().with(best),
             is_partners,
             next,
-            is_third: played == 2,
+            is_third: cards.len() == 2,
         })
-    }
-
-    // Whether the opponent who plays next can't beat a card.
-    fn is_safe(&self, card: Card) -> bool {
-        !self.strain.can_beat(self.next, card)
     }
 
     // The cards that beat the best one so far.
     fn beating(&self, cards: CardSet) -> CardSet {
-        let mut beating = CardSet::empty();
-        for card in cards {
-            if self.strain.beats(card, self.best) {
-                beating = beating.with(card);
-            }
+        let higher = cards.of_suit(self.best_suit).after_each(self.best);
+        match self.trump {
+            Trump::Suit(trump) if trump != self.best_suit => higher.either(cards.of_suit(trump)),
+            _ => higher,
         }
-        beating
     }
 
     // Those of some cards that the next opponent can't beat.
     fn safe(&self, cards: CardSet) -> CardSet {
-        let mut safe = CardSet::empty();
-        for card in cards {
-            if self.is_safe(card) {
-                safe = safe.with(card);
-            }
+        let following = self.next.of_suit(self.led);
+        if !following.is_empty() {
+            let led = cards.of_suit(self.led);
+            return cards.minus(led).either(led.after_each(following));
         }
-        safe
+        let Trump::Suit(trump) = self.trump else {
+            return cards;
+        };
+        let trumps = self.next.of_suit(trump);
+        if trumps.is_empty() {
+            cards
+        } else {
+            cards.of_suit(trump).after_each(trumps)
+        }
     }
 
     // Those of some cards that only the fourth hand's highest beats, unless partner's card is such
     // a one already.
     fn forcing(&self, cards: CardSet) -> CardSet {
-        let following = self.next.of_suit(self.strain.led);
-        let mut forcing = CardSet::empty();
-        if self.is_partners && forces(self.best, following) {
-            return forcing;
+        let following = self.next.of_suit(self.led);
+        if self.is_partners && !forcing_of(self.best, following).is_empty() {
+            return CardSet::empty();
         }
-        for card in cards {
-            if forces(card, following) {
-                forcing = forcing.with(card);
-            }
-        }
-        forcing
+        forcing_of(cards.of_suit(self.led), following)
     }
 
     // The cards to try first: none if partner wins the trick.
     fn likely(&self, cards: CardSet) -> CardSet {
-        if self.is_partners && self.is_safe(self.best) {
+        if self.is_partners && !self.safe(self.best).is_empty() {
             return CardSet::empty();
         }
         let beating = self.beating(cards);
@@ -158,10 +133,15 @@ impl Table {
 // Of the suits of some cards the one in which a hand has most, as the hand has it.
 fn longest_suit(hand: CardSet, cards: CardSet) -> CardSet {
     let mut longest = CardSet::empty();
+    let mut most = 0;
     for suit in Suit::ALL {
-        let here = hand.of_suit(suit);
-        if longest.count() < here.count() && !cards.of_suit(suit).is_empty() {
-            longest = here;
+        if !cards.of_suit(suit).is_empty() {
+            let here = hand.of_suit(suit);
+            let many = here.count();
+            if most < many {
+                longest = here;
+                most = many;
+            }
         }
     }
     longest
@@ -176,8 +156,13 @@ fn side_cards(trump: Trump, cards: CardSet) -> CardSet {
 }
 
 /// The cards that are likely to win the trick.
-pub(crate) fn likely_plays(position: &Position, left: CardSet, cards: CardSet) -> CardSet {
-    match Table::of(position, left) {
+pub(crate) fn likely_plays(
+    position: &Position,
+    left: CardSet,
+    led: Suit,
+    cards: CardSet,
+) -> CardSet {
+    match Table::of(position, left, led) {
         Some(table) => table.likely(cards),
         None => CardSet::empty(),
     }

@@ -57,6 +57,9 @@ fn winners_in(hands: &Hands, suit: Suit, many: u8) -> CardSet
     ensures partner { AreWinnersIn suit many hands.now.own hands.now.partner result }
     ensures last { AreWinnersIn suit many hands.now.own hands.now.last result }
 {
+    if many == 0 {
+        return CardSet::empty();
+    }
     highest_of(hands.own, suit, many.min(hands.most_of_others(suit)))
 }
 

@@ -41,6 +41,12 @@ fn top_of_either(
     ensures { IfSome result (λ cards. AreOutOfReach hand opponents suit many cards
         ⊎ AreOutOfReach partner opponents suit many cards) }
 {
+    let trumps = hand.either(partner).of_suit(suit);
+    let top = trumps.after_each(opponents.of_suit(suit));
+    // One side alone has top trumps, and counting takes longer than looking.
+    if top.is_empty() || top.count() < many {
+        return None;
+    }
     match top_of(hand, opponents, suit, many) {
         Some(cards) => Some(cards),
         None => top_of(partner, opponents, suit, many),

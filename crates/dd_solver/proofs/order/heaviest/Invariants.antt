@@ -1,9 +1,0 @@
-use Rattle.std.proofs.Common.{◌≡◌, true, length}
-use Rattle.card_sets.specs.SetWords.{has_card, IsSubset}
-use Rattle.dd_solver.proofs.order.heaviest.Given as goal
-
-abbrev pub invariant-loop-card : goal.invariant-loop-card
-invariant-loop-card l = record { rest : IsSubset l.rest l.fn.cards; best : has_card l.fn.cards l.best ≡ true }
-
-abbrev pub decreases-loop-card : goal.decreases-loop-card
-decreases-loop-card l = length l.rest
