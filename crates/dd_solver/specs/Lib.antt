@@ -2,5 +2,5 @@ pub mod Closed
 pub mod Sure
 pub mod Keys
 pub mod Answers
-pub mod Squeezing
+pub mod RelativeRanks
 pub mod Remembers
