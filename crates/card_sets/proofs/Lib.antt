@@ -1,4 +1,5 @@
 pub mod Last
+pub mod Raised
 pub mod SetCounts
 pub mod Sets
 pub mod Suits

@@ -1,3 +1,4 @@
 pub mod Cards
 pub mod SetWords
 pub mod Seats
+pub mod Raised

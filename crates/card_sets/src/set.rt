@@ -5,6 +5,7 @@ ghost use Rattle.std.specs.Iterator.{YieldsFirst, item_count};
 ghost use Rattle.bit_lists.specs.Bits.{places};
 ghost use Rattle.card_sets.specs.Cards.{suit_of, same_suit};
 ghost use Rattle.card_sets.specs.SetWords.{has_card, cards_where, IsCardSet, IsSubset, Apart, first_card, next_card, IsLast};
+ghost use Rattle.card_sets.specs.Raised.{with_raised};
 
 use crate::card::{Card, Suit};
 use std::hash::{Hash, Hasher};
@@ -274,6 +275,28 @@ impl CardSet {
         ensures a_set { IsCardSet self }
     {
         self.bits & other.bits == 0
+    }
+
+    /// A card and all higher ones of its suit.
+    pub fn up_from(card: Card) -> CardSet
+        ensures value { result
+            ≡ cards_where (λ c. same_suit (suit_of c) (suit_of card) && not (nat_lt c card)) }
+        ensures a_set { IsCardSet result }
+    {
+        CardSet {
+            bits: suit_bits(card.suit()) & (u64::MAX << card.number()),
+        }
+    }
+
+    /// The cards, with those of a place's suit below it each one place higher.
+    pub fn raised_to(self, place: Card) -> CardSet
+        ensures value { result ≡ with_raised place self }
+        ensures a_set { IsCardSet result }
+    {
+        let below = self.bits & suit_bits(place.suit()) & (bit_of(place) - 1);
+        CardSet {
+            bits: self.bits & !below | below << 1u32,
+        }
     }
 
     /// Takes out the first card in card order: `None` exactly when the set was empty.

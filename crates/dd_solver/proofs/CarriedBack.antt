@@ -1,5 +1,5 @@
 -- What is known after cards moved up, carried back to where they were.
-use Rattle.std.proofs.Common.{◌≡◌, ℕ, ◌<◌, ◌≤◌, Bool, true, false, not, ◌&&◌, ◌||◌, List, [], ◌∷◌, ◌++◌, length, refl, sym, ap, subst, ◌∙◌, inl, arith}
+use Rattle.std.proofs.Common.{◌≡◌, ℕ, ◌<◌, ◌≤◌, Bool, true, false, not, ◌&&◌, ◌||◌, List, [], length, refl, sym, ap, subst, ◌∙◌, inl, arith}
 use Rattle.std.proofs.lemmas.Bool.{both_ways, eq-eqb, false_from_ne_true, or_right}
 use Rattle.std.proofs.lemmas.List.{nil_from_length}
 use Rattle.card_sets.specs.declared.card.Suit.{Suit}
@@ -18,11 +18,9 @@ use Rattle.double_dummy.proofs.Mirror.{hand-mirrored}
 use Rattle.alike_states.specs.Alike.{IsClosedUp, AreAlike, HasAnswer}
 use Rattle.alike_states.proofs.Likes.{alike_back}
 use Rattle.alike_states.proofs.Answers.{an_alike_state_answers}
-use Rattle.dd_solver.specs.declared.squeeze.Move.{Move}
 use Rattle.dd_solver.specs.Closed.{up_from}
-use Rattle.dd_solver.specs.Squeezing.{with_moved, IsMovedUp, AreMovedUp}
 use Rattle.dd_solver.proofs.Winner.{up_has}
-use Rattle.dd_solver.proofs.MovedUp.{nobody, moved-IsState, moved-mirrored, moved-makes, suit-renamed, declarer-length, dummy-length, unseen-length}
+use Rattle.dd_solver.proofs.MovedUp.{with_moved, IsMovedUp, nobody, moved-IsState, moved-mirrored, moved-makes, suit-renamed, declarer-length, dummy-length, unseen-length}
 
 -- a place between two cards of one suit is of that suit
 pub between_suit : (low c high : ℕ) → low ≤ c → c ≤ high → high < 52 → suit_of low ≡ suit_of high → suit_of c ≡ suit_of low
@@ -148,64 +146,15 @@ pub place_not_in : (s t : State) (low high : ℕ) (counting : List ℕ) (made : 
 place_not_in s t low high counting made ok m closed answer out =
     place_out s low high ok m.between_tricks m.suit m.order m.fits m.free counting made closed (subst (λ x. HasAnswer counting x made) m.moved answer) out
 
--- ---- card after card
-
 pub moved-state : (s t : State) (low high : ℕ) → IsState s → IsMovedUp s low high t → IsState t
 moved-state s t low high ok m = subst IsState (sym m.moved) (moved-IsState s low high ok m.between_tricks m.suit m.order m.fits m.free)
 
-pub steps-state : (steps : List Move) (s t : State) → IsState s → AreMovedUp steps s t → IsState t
-steps-state [] s t ok e = subst IsState e ok
-steps-state (step ∷ steps) s t ok (next, first, others) = steps-state steps next t (moved-state s next step.low step.high ok first) others
-
--- the last step
-pub last-step : (steps : List Move) (step : Move) (s t : State) → AreMovedUp (steps ++ step ∷ []) s t → (u : State) × AreMovedUp steps s u × IsMovedUp u step.low step.high t
-last-step [] step s t (next, first, e) = (s, refl, subst (λ x. IsMovedUp s step.low step.high x) e first)
-last-step (one ∷ steps) step s t (next, first, others) =
-    let found : (u : State) × AreMovedUp steps next u × IsMovedUp u step.low step.high t = last-step steps step next t others in
-    (found.0, (next, first, found.1), found.2)
-
-pub one-more-step : (steps : List Move) (step : Move) (s t u : State) → AreMovedUp steps s t → IsMovedUp t step.low step.high u → AreMovedUp (steps ++ step ∷ []) s u
-one-more-step [] step s t u e m = (u, subst (λ x. IsMovedUp x step.low step.high u) (sym e) m, refl)
-one-more-step (one ∷ steps) step s t u (next, first, others) m = (next, first, one-more-step steps step next t u others m)
-
--- what is known after all steps is known after the first ones, by other cards that count
-pub record AreCarriedBack (steps rest : List Move) (start counting : List ℕ) : Type 0 where
-  pub closed : IsClosedUp counting
-  pub back : (s t : State) (made : Bool) → IsState s → AreMovedUp steps s t → HasAnswer start t made → (u : State) × AreMovedUp rest s u × HasAnswer counting u made
-
-pub carried-none : (steps : List Move) (start : List ℕ) → IsClosedUp start → AreCarriedBack steps steps start start
-carried-none steps start closed = record { closed = closed; back = λ s t made ok m answer. (t, m, answer) }
-
-pub carried-step : (steps rest fewer : List Move) (step : Move) (start counting less : List ℕ) → AreCarriedBack steps rest start counting → rest ≡ fewer ++ step ∷ [] → IsClosedUp less
-    → ((s t : State) (made : Bool) → IsState s → IsMovedUp s step.low step.high t → HasAnswer counting t made → HasAnswer less s made) → AreCarriedBack steps fewer start less
-carried-step steps rest fewer step start counting less r e closed law = record {
-  closed = closed;
-  back = λ s t made ok m answer.
-      (let got : (u : State) × AreMovedUp rest s u × HasAnswer counting u made = r.back s t made ok m answer in
-      let found : (v : State) × AreMovedUp fewer s v × IsMovedUp v step.low step.high got.0 = last-step fewer step s got.0 (subst (λ l. AreMovedUp l s got.0) e got.1) in
-      (found.0, found.1, law found.0 got.0 made (steps-state fewer s found.0 ok found.1) found.2 got.2));
-}
-
-pub carried-all : (steps rest : List Move) (start counting : List ℕ) → AreCarriedBack steps rest start counting → rest ≡ [] → (s t : State) (made : Bool) → IsState s → AreMovedUp steps s t
-    → HasAnswer start t made → HasAnswer counting s made
-carried-all steps rest start counting r e s t made ok m answer =
-    let got : (u : State) × AreMovedUp rest s u × HasAnswer counting u made = r.back s t made ok m answer in
-    let same : s ≡ got.0 = subst (λ l. AreMovedUp l s got.0) e got.1 in
-    subst (λ x. HasAnswer counting x made) (sym same) got.2
-
 -- ---- what a move leaves as it is
 
-moved-numbers : (s t : State) (low high : ℕ) → IsState s → IsMovedUp s low high t → (cards_left t.position ≡ cards_left s.position) × (decided t.position ≡ decided s.position)
+pub moved-numbers : (s t : State) (low high : ℕ) → IsState s → IsMovedUp s low high t → (cards_left t.position ≡ cards_left s.position) × (decided t.position ≡ decided s.position)
 moved-numbers s t low high ok m =
     let d = declarer-length s low high ok m.between_tricks m.suit m.order m.fits m.free in
     let e = dummy-length s low high ok m.between_tricks m.suit m.order m.fits m.free in
     let f = unseen-length s low high ok m.between_tricks m.suit m.order m.fits m.free in
     let tricks : tricks_left (with_moved low high s).position ≡ tricks_left s.position = omega (arith, d) in
     (ap (λ (x : State). cards_left x.position) m.moved ∙ omega (arith, d, e, f), ap (λ (x : State). decided x.position) m.moved ∙ rw tricks refl)
-
-pub steps-numbers : (steps : List Move) (s t : State) → IsState s → AreMovedUp steps s t → (cards_left t.position ≡ cards_left s.position) × (decided t.position ≡ decided s.position)
-steps-numbers [] s t ok e = (ap (λ (x : State). cards_left x.position) (sym e), ap (λ (x : State). decided x.position) (sym e))
-steps-numbers (step ∷ steps) s t ok (next, first, others) =
-    let here = moved-numbers s next step.low step.high ok first in
-    let later = steps-numbers steps next t (moved-state s next step.low step.high ok first) others in
-    (later.0 ∙ here.0, later.1 ∙ here.1)

@@ -7,5 +7,7 @@ pub mod Keyed
 pub mod Highest
 pub mod MovedUp
 pub mod CarriedBack
-pub mod Squeezing
+pub mod Gaps
+pub mod GapAfterGap
+pub mod NextLower
 pub mod TopTrumps

@@ -1,5 +1,5 @@
 -- A card that moves up to a place that nobody holds.
-use Rattle.std.proofs.Common.{◌≡◌, ◌≢◌, ℕ, suc, ◌<◌, ◌≤◌, Bool, true, false, not, ◌&&◌, ◌||◌, eqb, List, [], length, map, refl, sym, ap, subst, ◌∙◌, inl, inr, arith}
+use Rattle.std.proofs.Common.{◌≡◌, ◌≢◌, ℕ, suc, ◌<◌, ◌≤◌, Bool, true, false, not, ◌&&◌, ◌||◌, eqb, cond, List, [], filter, length, map, refl, sym, ap, subst, ◌∙◌, inl, inr, arith}
 use Rattle.std.proofs.lemmas.Bool.{false≢true, eq-eqb, ne_eqb, cases_lt, cases_Bool, or_parts, false_from_ne_true}
 use Rattle.card_sets.specs.declared.card.Suit.{Suit}
 use Rattle.card_sets.specs.declared.seat.Seat.{Seat}
@@ -13,10 +13,35 @@ use Rattle.trick_rules.specs.Play.{take_out, of_suit, hand_of, cards_left, makes
 use Rattle.trick_rules.proofs.CardLists.{has_card-take_out}
 use Rattle.trick_rules.proofs.States.{right_of-low}
 use Rattle.double_dummy.specs.Equals.{in_play}
-use Rattle.dd_solver.specs.Squeezing.{move_card, with_moved}
 use Rattle.double_dummy.proofs.Swap.{swap, swap-first, swap-second, swap-other, swap-suit, each_card}
 use Rattle.double_dummy.proofs.Mirror.{Renamed, Mirrored, Follows, hand-mirrored, renamed_back}
 use Rattle.double_dummy.proofs.EqualCards.{makes-mirrored}
+
+-- ---- what moves
+
+-- a set with a card moved to another place, where the set has the card
+abbrev pub move_card : ℕ → ℕ → List ℕ → List ℕ
+move_card low high cards = cond (has_card cards low) (cards_where (λ c. has_card (filter (λ d. not (eqb d low)) cards) c || eqb c high)) cards
+
+-- the same state where whoever holds a card holds another one in its stead
+abbrev pub with_moved : ℕ → ℕ → State → State
+with_moved low high s = record {
+  position = record s.position {
+    declarer = move_card low high s.position.declarer;
+    dummy = move_card low high s.position.dummy;
+    unseen = move_card low high s.position.unseen;
+  };
+  left = move_card low high s.left;
+}
+
+-- between two tricks a card moves up to a place of its suit; no card in play is there or lies between
+pub record IsMovedUp (s : State) (low high : ℕ) (t : State) : Type 0 where
+  pub between_tricks : s.position.trick.cards ≡ []
+  pub suit : suit_of low ≡ suit_of high
+  pub order : low < high
+  pub fits : high < 52
+  pub free : (place : ℕ) → low < place → place ≤ high → in_play s.position place ≡ false
+  pub moved : t ≡ with_moved low high s
 
 -- ---- one set
 

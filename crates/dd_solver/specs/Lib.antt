@@ -3,5 +3,5 @@ pub mod Sure
 pub mod Keys
 pub mod NeedsAll
 pub mod Answers
-pub mod Squeezing
+pub mod RelativeRanks
 pub mod Remembers

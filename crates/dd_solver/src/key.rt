@@ -1,7 +1,7 @@
 //! A position between two tricks as the memo holds it.
 ghost use Rattle.std.specs.Prelude.{◌≡◌, [], IsTrue};
 ghost use Rattle.trick_rules.specs.Positions.{IsState};
-ghost use Rattle.dd_solver.specs.Squeezing.{move_card as with_card_moved, with_moved};
+ghost use Rattle.dd_solver.specs.RelativeRanks.{with_gap_closed};
 ghost use Rattle.dd_solver.specs.Keys.{key_state, lengths_of, HasShape, AreSame, AreLikeKeys};
 
 use card_sets::{Card, CardSet, Seat, Suit};
@@ -51,17 +51,6 @@ pub(crate) struct Key {
     pub(crate) need: u8,
 }
 
-// The cards with one moved to another place, if they have it.
-fn move_card(cards: CardSet, low: Card, high: Card) -> CardSet
-    ensures { result ≡ with_card_moved low high cards }
-{
-    if cards.has(low) {
-        cards.without(low).with(high)
-    } else {
-        cards
-    }
-}
-
 // Whether the cards that count are the same in two sets.
 fn are_same(counting: CardSet, these: CardSet, those: CardSet) -> bool
     ensures { IsTrue result → AreSame counting these those }
@@ -108,16 +97,16 @@ impl Key {
         }
     }
 
-    /// The same for a position in which each card may have changed places with another of its suit.
-    pub(crate) fn moved(&self, low: Card, high: Card) -> Key
-        ensures state { key_state result ≡ with_moved low high (key_state self.now) }
+    /// The key of the position in which the cards of the gap's suit below it go up one place.
+    pub(crate) fn raised_to(&self, gap: Card) -> Key
+        ensures state { key_state result ≡ with_gap_closed gap (key_state self.now) }
         ensures shape { result.shape ≡ self.now.shape }
     {
         Key {
-            declarer: move_card(self.declarer, low, high),
-            dummy: move_card(self.dummy, low, high),
-            unseen: move_card(self.unseen, low, high),
-            left: move_card(self.left, low, high),
+            declarer: self.declarer.raised_to(gap),
+            dummy: self.dummy.raised_to(gap),
+            unseen: self.unseen.raised_to(gap),
+            left: self.left.raised_to(gap),
             shape: self.shape,
             leader: self.leader,
             trump: self.trump,

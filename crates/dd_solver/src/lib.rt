@@ -1,6 +1,6 @@
 //! Double dummy by partition search (Ginsberg): an answer that is remembered holds for every
-//! position in which the cards that count lie alike. Ranks are relative: with four tricks left or
-//! more, cards out of play leave no gap.
+//! position in which the cards that count lie alike. Ranks are relative: cards out of play leave no
+//! gap.
 //! It builds on the laws of equivalent positions, `alike_states` and `alike_choices`.
 //! Its contract promises that the solver answers `makes` of `trick_rules`, whatever its ways.
 #![tactic(auto)]
@@ -14,9 +14,9 @@ mod memo;
 mod needs_all;
 mod order;
 mod plays;
+mod relative_ranks;
 mod search;
 mod solver;
-mod squeeze;
 mod sure;
 mod top_trumps;
 

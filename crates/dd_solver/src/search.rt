@@ -13,7 +13,7 @@ use crate::key::Key;
 use crate::memo::Memo;
 use crate::needs_all::needs_all_answer;
 use crate::order::{Order, turn_of};
-use crate::squeeze::Squeezed;
+use crate::relative_ranks::RelativeRanks;
 use crate::sure::sure_answer;
 use crate::top_trumps::top_trumps_answer;
 use card_sets::CardSet;
@@ -39,14 +39,9 @@ pub(crate) fn search(memo: &mut Memo, position: &Position, left: CardSet) -> Ans
     if !between || position.declarer.count() < 2 {
         return search_cards(memo, position, left);
     }
-    let key = Key::of(position, left);
-    // With fewer than four tricks left, moving the cards takes longer than it saves.
-    if position.declarer.count() < 4 {
-        return search_key(memo, &key);
-    }
-    let squeezed = Squeezed::of(&key);
-    let answer = search_key(memo, &squeezed.key);
-    squeezed.carried_back(&answer)
+    let ranks = RelativeRanks::of(&Key::of(position, left));
+    let answer = search_key(memo, &ranks.key);
+    ranks.carried_back(&answer)
 }
 
 // The same for the position of a key, which the memo may know.

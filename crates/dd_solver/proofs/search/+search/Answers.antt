@@ -8,7 +8,7 @@ use Rattle.alike_states.specs.Alike.{IsClosedUp, HasAnswer}
 use Rattle.alike_states.proofs.Counting.{no_card_is_closed_up}
 use Rattle.alike_states.proofs.Answers.{a_decided_state_answers}
 use Rattle.dd_solver.specs.Keys.{key_state}
-use Rattle.dd_solver.proofs.CarriedBack.{steps-numbers}
+use Rattle.dd_solver.proofs.GapAfterGap.{gaps-still}
 use Rattle.dd_solver.proofs.Winner.{shorter}
 use Rattle.dd_solver.proofs.Tried.{given_by, given-one, tried-more, answer-each}
 use Rattle.dd_solver.proofs.search.+search.Goals as goal
@@ -24,13 +24,13 @@ search-returns-in-Some-clause-answer t c =
 pub search-search_key-answer-requires : goal.search-search_key-answer-requires
 search-search_key-answer-requires t c =
     let s : State = record { position = c.args.position.now; left = c.args.left } in
-    let key = c.of-key.result in
-    let squeezed = c.of-squeezed.result in
+    let key = c.of.result in
+    let ranks = c.of-ranks.result in
     let ok : IsState s = record { sound = subst IsSound c.position.view_is c.position.invariant; fits = c.requires } in
-    let here : IsState (key_state key) = subst IsState (sym c.of-key.ensures.state) ok in
-    let numbers = steps-numbers squeezed.moves.items (key_state key) (key_state squeezed.key) here c.of-squeezed.ensures.moved in (
-      omega (arith, numbers.0, ap (λ (x : State). cards_left x.position) c.of-key.ensures.state, c.decreases),
-      (c.of-squeezed.ensures.state, (c.of-squeezed.ensures.shape, numbers.1 ∙ ap (λ (x : State). decided x.position) c.of-key.ensures.state ∙ sym c.decided.ensures ∙ c.in_default.is)),
+    let here : IsState (key_state key) = subst IsState (sym c.of.ensures.state) ok in
+    let still = gaps-still ranks.gaps.items (key_state key) (key_state ranks.key) here c.of-ranks.ensures.closed in (
+      omega (arith, still.cards, ap (λ (x : State). cards_left x.position) c.of.ensures.state, c.decreases),
+      (c.of-ranks.ensures.state, (c.of-ranks.ensures.shape, still.decided ∙ ap (λ (x : State). decided x.position) c.of.ensures.state ∙ sym c.decided.ensures ∙ c.in_default.is)),
     )
 
 pub search_cards-returns-clause-answer : goal.search_cards-returns-clause-answer
