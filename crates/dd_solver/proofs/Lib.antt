@@ -8,3 +8,5 @@ pub mod MovedUp
 pub mod CarriedBack
 pub mod Squeezing
 pub mod TopTrumps
+pub mod Turns
+pub mod JustBelow

@@ -18,5 +18,6 @@ mod solver;
 mod squeeze;
 mod sure;
 mod top_trumps;
+mod turn;
 
 pub use solver::Solver;
