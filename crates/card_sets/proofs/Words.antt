@@ -1,16 +1,17 @@
 -- A word as a set of cards: what each step on words does to the set.
-use Rattle.std.proofs.Common.{◌≡◌, ℕ, ◌+◌, ◌-◌, ◌*◌, ◌%◌, ◌^◌, ◌<◌, Bool, not, [], Some, inl, inr, refl, sym, ap, ap₂, ◌∙◌, arith}
+use Rattle.std.proofs.Common.{◌≡◌, ℕ, suc, ◌+◌, ◌-◌, ◌*◌, ◌/◌, ◌%◌, ◌^◌, ◌<◌, ◌≤◌, ◌⊎◌, Bool, not, ◌&&◌, [], Some, inl, inr, add-one, refl, sym, ap, ap₂, ◌∙◌, arith}
 use Rattle.std.specs.Prelude.{nat_eq, ◌==◌, ◌||◌, filter, bit_and, bit_or, nat_lt}
 use Rattle.std.specs.Int.{w64, trailing_zeros}
 use Rattle.std.proofs.lemmas.Slice.Eq.{bytes_eq-Decides}
 use Rattle.std.specs.Cmp.Lexicographic.{pointwise}
 use Rattle.std.proofs.lemmas.Bool.{cases_eq, eq-eqb, ne_eqb, false_from_ne_true, cases_lt, lt-ltb, le-ltb, not-false}
 use Rattle.std.proofs.lemmas.Nat.{and_le_l, pow_below}
-use Rattle.std.proofs.lemmas.Nat.Bits.{bit_at-trailing_zeros, bit_at_above, ones_shl, bit_at_mask_inside, bit_at_mask_below}
+use Rattle.std.proofs.lemmas.Nat.Bits.{bit_at-suc, bit_at-trailing_zeros, bit_at_above, ones_shl, bit_at_mask_inside, bit_at_mask_below}
 use Rattle.bit_lists.specs.Bits.{has_bit, below, places, number_at}
-use Rattle.bit_lists.proofs.Places.{places-from_bits, places-and, filter-places_agree, among-places, has_bit-or, has_bit-not, has_bit-pow, find-places, number_at-places}
+use Rattle.bit_lists.proofs.Places.{places-from_bits, places-and, filter-places_agree, among-places, among-places_past, has_bit-or, has_bit-not, has_bit-pow, find-places, number_at-places}
+use Rattle.card_sets.specs.Cards.{suit_of, same_suit}
 use Rattle.card_sets.specs.SetWords.{has_card, cards_where, IsCardSet, IsSubset, Apart, first_card}
-use Rattle.card_sets.proofs.Sets.{IsCardSet-cards_where, has_card-cards_where, filter-none, fails-filter_nil}
+use Rattle.card_sets.proofs.Sets.{IsCardSet-cards_where, has_card-cards_where, filter-cards_where, filter-none, fails-filter_nil}
 
 -- a word's places are the cards at which it has a one
 pub IsCardSet-places : (n : ℕ) → IsCardSet (places 52 n)
@@ -124,3 +125,21 @@ same_places a b fits_a fits_b =
           ∙ sym (false_from_ne_true (pointwise nat_eq (places 52 a) (places 52 b)) (λ yes.
           other (sym (number_at-places 52 a fits_a) ∙ ap number_at (decides.0 yes) ∙ number_at-places 52 b fits_b)))
     ]
+
+-- `n >> 1`: each card moves to the one before it
+pub places-down : (n : ℕ) → n < 2 ^ 52 → places 52 (n / 2 ^ 1) ≡ cards_where (λ c. has_card (places 52 n) (c + 1))
+unfolding cards_where
+places-down n fits = places-from_bits _ 52 (n / 2 ^ 1) (λ c within. ap (λ b. b == 1) (sym (bit_at-suc n c)) ∙ next c within (cases_lt (c + 1) 52))
+  where
+    next : (c : ℕ) → c < 52 → (c + 1 < 52) ⊎ (52 ≤ c + 1) → has_bit n (suc c) ≡ has_card (places 52 n) (c + 1)
+    next c within (inl inside) = rw add-one (sym (has_card-places n (suc c) (omega (arith, inside))))
+    next c within (inr past) =
+        ap (λ b. b == 1) (bit_at_above n 52 (suc c) fits (omega (arith, past))) ∙ sym (among-places_past 52 n (c + 1) past)
+
+-- the cards before one of their own suit, by a word that has them all
+pub places-one_below : (n mask : ℕ) → n < 2 ^ 52 → places 52 mask ≡ cards_where (λ c. same_suit (suit_of c) (suit_of (c + 1)))
+    → places 52 (bit_and (n / 2 ^ 1) mask) ≡ cards_where (λ c. has_card (places 52 n) (c + 1) && same_suit (suit_of c) (suit_of (c + 1)))
+places-one_below n mask fits is =
+    places-masked (n / 2 ^ 1) mask (λ c. same_suit (suit_of c) (suit_of (c + 1))) is
+    ∙ ap (filter (λ c. same_suit (suit_of c) (suit_of (c + 1)))) (places-down n fits)
+    ∙ filter-cards_where (λ c. same_suit (suit_of c) (suit_of (c + 1))) (λ c. has_card (places 52 n) (c + 1))

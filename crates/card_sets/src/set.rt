@@ -38,6 +38,10 @@ impl Model for CardSet {
 /// The ones of the thirteen spades.
 const SPADES: u64 = 0x1fff;
 
+/// The ones of all cards except the last of the first three suits: after each of these another suit
+/// begins.
+const NOT_LAST: u64 = 0xf_ffbf_fdff_efff;
+
 /// The ones of all 52 cards.
 const PACK: u64 = 0xf_ffff_ffff_ffff;
 
@@ -228,6 +232,17 @@ impl CardSet {
         };
         CardSet {
             bits: self.bits & (u64::MAX << (last.number() + 1)),
+        }
+    }
+
+    /// The cards just below a card of this set, in its suit.
+    pub fn one_below(self) -> CardSet
+        ensures value { result
+            ≡ cards_where (λ c. has_card self (c + 1) && same_suit (suit_of c) (suit_of (c + 1))) }
+        ensures a_set { IsCardSet result }
+    {
+        CardSet {
+            bits: self.bits >> 1u32 & NOT_LAST,
         }
     }
 

@@ -11,3 +11,5 @@ pub mod Gaps
 pub mod GapAfterGap
 pub mod NextLower
 pub mod TopTrumps
+pub mod Turns
+pub mod JustBelow

@@ -12,9 +12,9 @@ use Rattle.card_sets.specs.SetWords.{has_card, cards_where, IsCardSet, IsSubset,
 use Rattle.card_sets.proofs.Sets.{has_card-cards_where, has_card-below, cards_where-agree, IsCardSet-cards_where, IsCardSet-nil}
 use Rattle.card_sets.proofs.Suits.{same_suit-true, card_of-suit_of}
 use Rattle.trick_rules.specs.Positions.{PositionValue, seat_after, places_on, to_play, IsSound}
-use Rattle.trick_rules.specs.Play.{take_out, after_card, CanPlay}
+use Rattle.trick_rules.specs.Play.{take_out, winning_place, CanPlay}
 use Rattle.trick_rules.proofs.TrickLemmas.{one_winner}
-use Rattle.trick_rules.proofs.Soundness.{after_third, held_low, trick_held}
+use Rattle.trick_rules.proofs.Soundness.{held_low, trick_held}
 use Rattle.sure_tricks.proofs.Holding.{suit_test}
 use Rattle.alike_states.specs.Alike.{IsClosedUp, SettlesTrick}
 use Rattle.alike_states.proofs.Counting.{a_card_and_all_higher, both_are_closed_up}
@@ -192,25 +192,18 @@ module _ (t : PositionValue) (c : ℕ) (sound : IsSound t) (can : CanPlay t c) (
   differ : AllPairs (λ d e. d ≢ e) cards
   differ = all_pairs_push (λ d e. d ≢ e) t.trick.cards c sound.trick_differs (absent_differs t.trick.cards c (trick_held t sound (to_play t) c can))
 
-  -- the trick is settled by the card of the seat that leads next
-  pub settled_by : (counting : List ℕ) (next : PositionValue) (place : ℕ) → next ≡ after_card t c → place ≡ places_on t.trick.leader next.trick.leader
+  -- the trick is settled by the card at its winning place
+  pub settled_by : (counting : List ℕ) (place : ℕ) → place < 4 → place ≡ winning_place t.trump cards
       → ((has_card counting (get_or cards place 0) ≡ true) ⊎ ((other : ℕ) → other < 4 → other ≢ place → suit_of (get_or cards other 0) ≢ suit_of (get_or cards place 0)))
       → SettlesTrick counting t.trump cards
-  settled_by counting next place e at settled other wins =
-      let one = one_winner t.trump (record { leader = t.trick.leader; cards = cards }) (omega (arith, count)) low differ in
+  settled_by counting place fits at settled other wins =
+      let leader = t.trick.leader in
+      let one = one_winner t.trump (record { leader = leader; cards = cards }) (omega (arith, count)) low differ in
       let within : one.0 < 4 = omega (arith, one.1.within, count) in
-      let leads : next.trick.leader ≡ seat_after one.0 t.trick.leader = ap (λ (p : PositionValue). p.trick.leader) (e ∙ after_third t c third) ∙ one.3 in
-      let same : place ≡ other = at ∙ ap (places_on t.trick.leader) leads ∙ place_back t.trick.leader one.0 within ∙ sym (one.2 other wins) in
+      let leads : seat_after place leader ≡ seat_after one.0 leader = ap (λ n. seat_after n leader) at ∙ one.3 in
+      let same : place ≡ other = sym (place_back leader place fits) ∙ ap (places_on leader) leads ∙ place_back leader one.0 within ∙ sym (one.2 other wins) in
       subst (λ p. (has_card counting (get_or cards p 0) ≡ true) ⊎ ((k : ℕ) → k < length cards → k ≢ p → suit_of (get_or cards k 0) ≢ suit_of (get_or cards p 0))) same
       (subst (λ n. (has_card counting (get_or cards place 0) ≡ true) ⊎ ((k : ℕ) → k < n → k ≢ place → suit_of (get_or cards k 0) ≢ suit_of (get_or cards place 0))) (sym count) settled)
-
-  -- the winner's place is one of the four
-  pub place_fits : (next : PositionValue) → next ≡ after_card t c → places_on t.trick.leader next.trick.leader < 4
-  place_fits next e =
-      let one = one_winner t.trump (record { leader = t.trick.leader; cards = cards }) (omega (arith, count)) low differ in
-      let within : one.0 < 4 = omega (arith, one.1.within, count) in
-      let leads : next.trick.leader ≡ seat_after one.0 t.trick.leader = ap (λ (p : PositionValue). p.trick.leader) (e ∙ after_third t c third) ∙ one.3 in
-      omega (arith, ap (places_on t.trick.leader) leads, place_back t.trick.leader one.0 within)
 
   pub card_fits : (k : ℕ) → k < 4 → get_or cards k 0 < 52
   card_fits k h = low k 0 (omega (arith, count))

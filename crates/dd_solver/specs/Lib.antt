@@ -5,3 +5,4 @@ pub mod NeedsAll
 pub mod Answers
 pub mod RelativeRanks
 pub mod Remembers
+pub mod Turns

@@ -2,12 +2,13 @@
 ghost use Rattle.std.specs.Prelude.{◌≡◌, ◌≢◌, ℕ, ◌<◌, ◌+◌, ◌*◌, ◌∷◌, [], ◌++◌, true, ◌||◌, IsTrue, List, length, slice_index};
 ghost use Rattle.card_sets.specs.Cards.{suit_of, suit_place};
 ghost use Rattle.card_sets.specs.SetWords.{has_card, IsCardSet, IsSubset};
-ghost use Rattle.trick_rules.specs.Play.{after_card, CanPlay};
+ghost use Rattle.trick_rules.specs.Positions.{IsSound};
+ghost use Rattle.trick_rules.specs.Play.{winning_place, CanPlay};
 ghost use Rattle.alike_states.specs.Alike.{IsClosedUp, SettlesEnd};
 ghost use Rattle.dd_solver.specs.Closed.{up_from as up_from_card};
 
-use card_sets::{Card, CardSet, Seat, Suit};
-use trick_rules::{Position, places_on};
+use card_sets::{Card, CardSet, Suit};
+use trick_rules::Position;
 
 /// An answer of double dummy, and the cards that count for it.
 #[derive(Clone, Copy, Debug)]
@@ -87,13 +88,6 @@ fn is_alone(cards: &[Card; 4], place: usize) -> bool
     true
 }
 
-// Who led to the present trick.
-fn leader_of(position: &Position) -> Seat
-    ensures { result ≡ position.now.trick.leader }
-{
-    position.trick.leader
-}
-
 // The cards of the trick that this card ends.
 fn cards_with(position: &Position, card: Card) -> [Card; 4]
     requires { length position.now.trick.cards ≡ 3 }
@@ -103,27 +97,22 @@ fn cards_with(position: &Position, card: Card) -> [Card; 4]
     [cards[0], cards[1], cards[2], card]
 }
 
-/// The cards that count with the one that wins the trick that this card ends, unless it is the only
-/// one of its suit there.
-pub(crate) fn with_winner(
-    position: &Position,
-    card: Card,
-    after: &Position,
-    part: CardSet,
-) -> CardSet
+/// The cards that count with the one that wins the trick that this card ends, which lies at this
+/// place, unless it is the only one of its suit there.
+pub(crate) fn with_winner(position: &Position, card: Card, place: usize, part: CardSet) -> CardSet
+    requires sound { IsSound position.now }
     requires held { CanPlay position.now card }
-    requires next { after.now ≡ after_card position.now card }
+    requires fourth { length position.now.trick.cards ≡ 3 }
+    requires within { place < 4 }
+    requires wins { place
+        ≡ winning_place position.now.trump (position.now.trick.cards ++ card ∷ []) }
     requires closed { IsClosedUp part }
     ensures closed { IsClosedUp result }
     ensures within { IsSubset part result }
     ensures settles { (left : List ℕ)
         → SettlesEnd result (record { position = position.now; left = left }) card }
 {
-    if position.trick.cards.len() != 3 {
-        return part;
-    }
     let cards = cards_with(position, card);
-    let place = usize::from(places_on(leader_of(position), leader_of(after)));
     if is_alone(&cards, place) {
         part
     } else {

@@ -19,5 +19,6 @@ mod search;
 mod solver;
 mod sure;
 mod top_trumps;
+mod turn;
 
 pub use solver::Solver;

@@ -1,10 +1,12 @@
 //! Double dummy with the cards that most often settle it tried first, with relative ranks, and with
 //! a memo of sets.
-ghost use Rattle.std.specs.Prelude.{◌≡◌, ◌<◌, None, not};
-ghost use Rattle.card_sets.specs.SetWords.{IsSubset};
+ghost use Rattle.std.specs.Prelude.{◌≡◌, None, true};
+ghost use Rattle.card_sets.specs.SetWords.{has_card, IsSubset};
 ghost use Rattle.trick_rules.specs.Positions.{FitsLeft, IsState, to_play};
 ghost use Rattle.trick_rules.specs.Play.{decided, is_declarers, legal_in};
+ghost use Rattle.alike_states.specs.Alike.{IsClosedUp, GivesAnswer};
 ghost use Rattle.dd_solver.specs.Keys.{key_state, HasShape};
+ghost use Rattle.dd_solver.specs.Turns.{turn_state, IsTurn};
 ghost use Rattle.dd_solver.specs.Answers.{IsAnswer, IsGiven};
 
 use crate::answer::{Answer, joined, with_winner};
@@ -12,12 +14,13 @@ use crate::enough::{one_of_equals, with_lower_equals, without_like};
 use crate::key::Key;
 use crate::memo::Memo;
 use crate::needs_all::needs_all_answer;
-use crate::order::{Order, turn_of};
+use crate::order::turn_of;
 use crate::relative_ranks::RelativeRanks;
 use crate::sure::sure_answer;
 use crate::top_trumps::top_trumps_answer;
-use card_sets::CardSet;
-use trick_rules::{Position, play};
+use crate::turn::Turn;
+use card_sets::{Card, CardSet};
+use trick_rules::{Position, end_trick};
 
 /// Whether declarer's side takes the need where Left holds these cards, with all cards seen by all,
 /// and the cards that count for it.
@@ -37,7 +40,7 @@ pub(crate) fn search(memo: &mut Memo, position: &Position, left: CardSet) -> Ans
     }
     // With one trick left there is no choice, and looking takes longer than playing.
     if !between || position.declarer.count() < 2 {
-        return search_cards(memo, position, left);
+        return search_cards(memo, &Turn::of(position, left));
     }
     let ranks = RelativeRanks::of(&Key::of(position, left));
     let answer = search_key(memo, &ranks.key);
@@ -66,68 +69,82 @@ fn search_key(memo: &mut Memo, key: &Key) -> Answer
     if let Some(answer) = sure_answer(&position, key.left) {
         return answer;
     }
-    let answer = search_cards(memo, &position, key.left);
+    let answer = search_cards(memo, &Turn::of(&position, key.left));
     memo.keep(key, &answer);
     answer
 }
 
-// The same, if the result is open.
+// The same at a turn, if the result is open.
 #[cycle(search)]
-fn search_cards(memo: &mut Memo, position: &Position, left: CardSet) -> Answer
-    requires state { IsState (record { position = position.now; left = left }) }
-    requires open { decided position.now ≡ None }
-    ensures answer { IsAnswer (record { position = position.now; left = left }) result }
+fn search_cards(memo: &mut Memo, turn: &Turn) -> Answer
+    requires turn { IsTurn turn.now }
+    requires open { decided turn.now.position ≡ None }
+    ensures answer { IsAnswer (turn_state turn.now) result }
     ensures limit { memo.new.most ≡ memo.old.most }
 {
-    let ours = position.is_ours();
-    let cards = one_of_equals(position, left);
-    let answer = best_of(memo, position, left, cards, ours);
+    let ours = turn.position.is_ours();
+    let legal = turn.position.legal_in(turn.left);
+    let cards = one_of_equals(turn, legal);
+    let answer = best_of(memo, turn, cards, ours);
     if answer.made == ours {
         return answer;
     }
     Answer {
         made: !ours,
-        counting: with_lower_equals(position, left, answer.counting),
+        counting: with_lower_equals(turn, legal, answer.counting),
     }
 }
 
 // What these cards give the seat to play, which is `ours` or a defender: the answer of the first
 // that gives what it wants, or of all.
 #[cycle(search)]
-fn best_of(
-    memo: &mut Memo,
-    position: &Position,
-    left: CardSet,
-    cards: CardSet,
-    ours: bool,
-) -> Answer
-    requires state { IsState (record { position = position.now; left = left }) }
-    requires legal { IsSubset cards (legal_in (record { position = position.now; left = left })) }
-    requires turn { is_declarers (to_play position.now) ≡ ours }
-    ensures given { IsGiven (record { position = position.now; left = left }) cards ours result }
+fn best_of(memo: &mut Memo, turn: &Turn, cards: CardSet, ours: bool) -> Answer
+    requires turn { IsTurn turn.now }
+    requires open { decided turn.now.position ≡ None }
+    requires legal { IsSubset cards (legal_in (turn_state turn.now)) }
+    requires side { is_declarers (to_play turn.now.position) ≡ ours }
+    ensures given { IsGiven (turn_state turn.now) cards ours result }
     ensures limit { memo.new.most ≡ memo.old.most }
 {
-    let mut order = Order::begun(position, left, cards, memo.best_lead(turn_of(position)));
+    let mut order = turn.order(memo, cards);
     let mut rest = cards;
     let mut counting = CardSet::empty();
     while let Some(card) = order.first_of(rest) {
         rest = rest.without(card);
-        let after = play(position, card);
-        let there = search(memo, &after, left.without(card));
-        let part = with_winner(position, card, &after, there.counting);
+        let there = search_after(memo, turn, card);
         if there.made == ours {
-            memo.note_best_lead(turn_of(position), card);
-            return Answer {
-                made: ours,
-                counting: part,
-            };
+            memo.note_best_lead(turn_of(&turn.position), card);
+            return there;
         }
-        counting = joined(counting, part);
-        rest = without_like(rest, card, part);
-        order.complete(position, left, rest);
+        counting = joined(counting, there.counting);
+        rest = without_like(rest, card, there.counting);
+        turn.complete(&mut order, rest);
     }
     Answer {
         made: !ours,
         counting,
+    }
+}
+
+// What a legal card gives.
+#[cycle(search)]
+fn search_after(memo: &mut Memo, turn: &Turn, card: Card) -> Answer
+    requires turn { IsTurn turn.now }
+    requires open { decided turn.now.position ≡ None }
+    requires legal { has_card (legal_in (turn_state turn.now)) card ≡ true }
+    ensures closed { IsClosedUp result.counting }
+    ensures given { GivesAnswer result.counting (turn_state turn.now) card result.made }
+    ensures limit { memo.new.most ≡ memo.old.most }
+{
+    let position = &turn.position;
+    if position.trick.cards.len() != 3 {
+        return search_cards(memo, &turn.after(card));
+    }
+    let place = position.trick.winning_place(position.trump, card);
+    let after = end_trick(position, card, place);
+    let there = search(memo, &after, turn.left.without(card));
+    Answer {
+        made: there.made,
+        counting: with_winner(position, card, place, there.counting),
     }
 }

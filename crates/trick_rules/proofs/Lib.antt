@@ -8,4 +8,5 @@ pub mod DoubleDummy
 pub mod NodeLemmas
 pub mod KeptLayouts
 pub mod TrickLemmas
+pub mod BestCard
 pub mod PlayLaws

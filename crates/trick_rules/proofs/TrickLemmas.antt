@@ -10,6 +10,7 @@ use Rattle.std.proofs.lemmas.List.{get_or-map, length-map}
 use Rattle.card_sets.specs.declared.card.Suit.{Suit}
 use Rattle.card_sets.specs.declared.seat.Seat.{Seat}
 use Rattle.card_sets.specs.Cards.{suit_of, rank_of, same_suit, suit_place}
+use Rattle.card_sets.proofs.Suits.{same_suit-true}
 use Rattle.trick_rules.specs.declared.trump.Trump.{Trump}
 use Rattle.trick_rules.specs.declared.trump.Trump.TheVariants.{NoTrump, Suit as Suited}
 use Rattle.trick_rules.specs.Positions.{TrickValue, seat_after}
@@ -49,7 +50,7 @@ IsHighest-takes xs i b h high = record {
   first = λ k at. omega (arith, h.most k at);
 }
 
-highest_among : (xs : List ℕ) (i : ℕ) → (b : ℕ) × IsHighest xs (suc i) b
+pub highest_among : (xs : List ℕ) (i : ℕ) → (b : ℕ) × IsHighest xs (suc i) b
 highest_among xs zero = (0, IsHighest-one xs)
 highest_among xs (suc i) =
     let before : (b : ℕ) × IsHighest xs (suc i) b = highest_among xs i in
@@ -105,7 +106,7 @@ beats-strength trump led c d =
 
 -- ---- cards of equal strength
 
-suit_place-of : (c : ℕ) → c < 52 → suit_place (suit_of c) ≡ c / 13
+pub suit_place-of : (c : ℕ) → c < 52 → suit_place (suit_of c) ≡ c / 13
 suit_place-of c h =
     elim (cases_lt c 13) as (λ _. suit_place (suit_of c) ≡ c / 13) [
       | inl a ↦ rw (lt-ltb c 13 a) (omega arith)
@@ -159,6 +160,19 @@ strong_numbers false r h = omega arith
 -- the card led has a strength
 pub led_strong : (trump : Trump) (led : ℕ) → 0 < strength trump (suit_of led) led
 led_strong trump led = rw (eq-eqb (suit_place (suit_of led)) (suit_place (suit_of led)) refl) (strong_numbers (is_trump trump led) (rank_of led) (rank-low led).0)
+
+-- what is so of a card with a strength above 0
+pub strong_card : (trump : Trump) (led : Suit) (c : ℕ) → 0 < strength trump led c → (is_trump trump c ≡ true) ⊎ (suit_of c ≡ led)
+strong_card trump led c p =
+    elim (either (is_trump trump c) (same_suit (suit_of c) led) (rank_of c) p) as (λ _. (is_trump trump c ≡ true) ⊎ (suit_of c ≡ led)) [
+      | inl trumps ↦ inl trumps
+      | inr suits ↦ inr (same_suit-true (suit_of c) led suits)
+    ]
+  where
+    either : (t f : Bool) (r : ℕ) → 0 < cond t (20 + r) (cond f r 0) → (t ≡ true) ⊎ (f ≡ true)
+    either true f r h = inl refl
+    either false true r h = inr refl
+    either false false r h = absurd (omega arith)
 
 -- ---- a trick's one winner
 

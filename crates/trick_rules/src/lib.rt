@@ -15,6 +15,6 @@ mod trump;
 
 pub use card_line::CardLine;
 pub use node::{MOST_MOVES, Node};
-pub use position::{Position, legal, places_on, play};
+pub use position::{Position, end_trick, legal, places_on, play};
 pub use trick::{Trick, winner};
 pub use trump::Trump;

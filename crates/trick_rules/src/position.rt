@@ -1,10 +1,10 @@
 //! What all at the table know, and the laws of play.
-ghost use Rattle.std.specs.Prelude.{◌≡◌, ◌<◌, ◌≤◌, ◌↔◌, true, IsTrue, IsSome, IfSome};
+ghost use Rattle.std.specs.Prelude.{◌≡◌, ◌<◌, ◌≤◌, ◌↔◌, ◌∷◌, ◌++◌, [], length, true, IsTrue, IsSome, IfSome};
 ghost use Rattle.card_sets.specs.SetWords.{has_card, IsCardSet};
 ghost use Rattle.trick_rules.specs.Positions.{to_play as seat_to_play, tricks_left as count_of_tricks, has_played as seat_has_played, places_on as count_of_places, seat_place, IsSound, FitsLeft, HandsFit, position_between_tricks};
-ghost use Rattle.trick_rules.specs.Play.{is_over, decided as result_of, is_declarers, legal_cards, legal_in as legal_cards_in, held_by as cards_held_by, hand_of, after_card, CanPlay};
+ghost use Rattle.trick_rules.specs.Play.{is_over, decided as result_of, is_declarers, legal_cards, legal_in as legal_cards_in, winning_place, held_by as cards_held_by, hand_of, after_card, CanPlay};
 
-use crate::trick::Trick;
+use crate::trick::{Trick, seat_after};
 use crate::trump::Trump;
 use card_sets::{Card, CardSet, Seat};
 use std::marker::Model;
@@ -289,6 +289,31 @@ pub fn play(position: &Position, card: Card) -> Position
         dummy: position.dummy.without(card),
         unseen: position.unseen.without(card),
         trick,
+        need,
+        trump: position.trump,
+    }
+}
+
+/// The position after the fourth card of a trick, if the card at this place wins it.
+pub fn end_trick(position: &Position, card: Card, place: usize) -> Position
+    requires held { CanPlay position.now card }
+    requires fourth { length position.now.trick.cards ≡ 3 }
+    requires wins { place
+        ≡ winning_place position.now.trump (position.now.trick.cards ++ card ∷ []) }
+    ensures value { result ≡ after_card position.now card }
+    ensures sound { IsSound result }
+{
+    let leader = seat_after(place, position.trick.leader);
+    let need = if is_ours(leader) {
+        position.need.saturating_sub(1)
+    } else {
+        position.need
+    };
+    Position {
+        declarer: position.declarer.without(card),
+        dummy: position.dummy.without(card),
+        unseen: position.unseen.without(card),
+        trick: Trick::led_by(leader),
         need,
         trump: position.trump,
     }

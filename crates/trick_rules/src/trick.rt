@@ -1,7 +1,9 @@
 //! A trick, and its winner.
-ghost use Rattle.std.specs.Prelude.{◌≡◌, ◌≤◌, ◌<◌, length, [], IsTrue, ◌↔◌};
+ghost use Rattle.std.specs.Prelude.{◌≡◌, ◌≤◌, ◌<◌, ◌↔◌, ◌⊎◌, ◌∷◌, ◌++◌, true, length, [], IsTrue};
+ghost use Rattle.card_sets.specs.Cards.{suit_of};
+ghost use Rattle.card_sets.specs.declared.card.Suit.{Suit};
 ghost use Rattle.trick_rules.specs.Positions.{seat_after as seat_that_many_on};
-ghost use Rattle.trick_rules.specs.Play.{suit_led, legal_cards, is_trump as is_trump_card, strength as strength_of, next_trick, winner_of};
+ghost use Rattle.trick_rules.specs.Play.{suit_led, legal_cards, is_trump as is_trump_card, beats, winning_place as winning_place_of, next_trick, winner_of};
 
 use crate::trump::Trump;
 use arrayvec::ArrayVec;
@@ -64,6 +66,21 @@ impl Trick {
         }
     }
 
+    /// The place of the card that wins the trick that this card ends.
+    pub fn winning_place(&self, trump: Trump, last: Card) -> usize
+        requires { length self.now.cards ≡ 3 }
+        ensures value { result ≡ winning_place_of trump (self.now.cards ++ last ∷ []) }
+        ensures within { result < 4 }
+    {
+        let cards = self.cards.as_slice();
+        let best = best_place(trump, cards);
+        if takes(trump, cards[best], last) {
+            3
+        } else {
+            best
+        }
+    }
+
     /// Adds a card to a trick that has fewer than four. After the fourth card its winner leads to
     /// the next trick.
     pub fn add(&mut self, trump: Trump, card: Card)
@@ -99,19 +116,15 @@ impl Trick {
     }
 }
 
-// The rank of a card within a trick: a trump ranks above every other card, a card of the suit led
-// above those of the other suits.
-fn strength(trump: Trump, led: Suit, card: Card) -> u8
-    ensures value { result ≡ strength_of trump led card }
-    ensures small { result < 64 }
+// Whether a card beats the best one of the trick so far, which is a trump or of the suit led.
+fn takes(trump: Trump, best: Card, card: Card) -> bool
+    ensures { (led : Suit) → (is_trump_card trump best ≡ true) ⊎ (suit_of best ≡ led)
+        → result ≡ beats trump led card best }
 {
-    let rank = card.rank().number();
-    if is_trump(trump, card) {
-        20 + rank
-    } else if card.suit() == led {
-        rank
+    if card.suit() == best.suit() {
+        best.number() < card.number()
     } else {
-        0
+        is_trump(trump, card)
     }
 }
 
@@ -126,7 +139,7 @@ fn is_trump(trump: Trump, card: Card) -> bool
 
 // The seat that many places on, clockwise.
 #[tactic(auto, using(crate::proofs::Turns::seat_after_more))]
-fn seat_after(places: usize, seat: Seat) -> Seat
+pub(crate) fn seat_after(places: usize, seat: Seat) -> Seat
     ensures { result ≡ seat_that_many_on places seat }
 {
     let mut there = seat;
@@ -136,18 +149,26 @@ fn seat_after(places: usize, seat: Seat) -> Seat
     there
 }
 
+// The place of the card that wins among the cards of a trick so far.
+fn best_place(trump: Trump, cards: &[Card]) -> usize
+    requires { 1 ≤ length cards.now }
+    ensures value { result ≡ winning_place_of trump cards.now }
+    ensures within { result < length cards.now }
+{
+    let mut best = 0;
+    for place in 1..cards.len() {
+        if takes(trump, cards[best], cards[place]) {
+            best = place;
+        }
+    }
+    best
+}
+
 /// The winner of a trick of four cards: the seat of the highest trump, or if there is none of the
 /// highest card of the suit led.
 pub fn winner(trick: &Trick, trump: Trump) -> Seat
     requires { length trick.now.cards ≡ 4 }
     ensures { result ≡ winner_of trump trick.now }
 {
-    let led = trick.cards[0].suit();
-    let mut best = 0;
-    for place in 1..trick.cards.len() {
-        if strength(trump, led, trick.cards[best]) < strength(trump, led, trick.cards[place]) {
-            best = place;
-        }
-    }
-    seat_after(best, trick.leader)
+    seat_after(best_place(trump, trick.cards.as_slice()), trick.leader)
 }

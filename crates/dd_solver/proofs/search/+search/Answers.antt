@@ -1,14 +1,17 @@
-use Rattle.std.proofs.Common.{ℕ, not, length, sym, ap, subst, refl, ◌∙◌, arith}
+use Rattle.std.proofs.Common.{rules, ◌≢◌, ℕ, not, length, sym, ap, subst, refl, ◌∙◌, arith}
 use Rattle.trick_rules.specs.Positions.{State, IsSound, IsState}
 use Rattle.trick_rules.specs.Play.{after, cards_left, decided}
 use Rattle.trick_rules.proofs.PlayLaws.{a_legal_card_can_be_played, a_legal_card_leads_to_a_state, a_card_leaves_one_fewer}
 use Rattle.trick_rules.proofs.Decisions.{open-decided}
 use Rattle.double_dummy.proofs.Minimax.{same_answer, other_answer}
-use Rattle.alike_states.specs.Alike.{IsClosedUp, HasAnswer}
+use Rattle.alike_states.specs.Alike.{IsClosedUp, HasAnswer, GivesAnswer}
 use Rattle.alike_states.proofs.Counting.{no_card_is_closed_up}
 use Rattle.alike_states.proofs.Answers.{a_decided_state_answers}
 use Rattle.dd_solver.specs.Keys.{key_state}
 use Rattle.dd_solver.proofs.GapAfterGap.{gaps-still}
+use Rattle.dd_solver.specs.Turns.{turn_state}
+use Rattle.dd_solver.proofs.CarriedBack.{steps-numbers}
+use Rattle.dd_solver.proofs.Turns.{open-after}
 use Rattle.dd_solver.proofs.Winner.{shorter}
 use Rattle.dd_solver.proofs.Tried.{given_by, given-one, tried-more, answer-each}
 use Rattle.dd_solver.proofs.search.+search.Goals as goal
@@ -35,48 +38,22 @@ search-search_key-answer-requires t c =
 
 pub search_cards-returns-clause-answer : goal.search_cards-returns-clause-answer
 search_cards-returns-clause-answer t c =
-    let s : State = record { position = c.args.position.now; left = c.args.left } in
+    let s = turn_state c.args.turn.now in
     let ours = c.is_ours-ours.result in
     answer-each s c.one_of_equals-cards.result c.with_lower_equals.result ours c.best_of-answer.result (record { made = not ours; counting = c.with_lower_equals.result })
-    c.requires.state (open-decided s.position c.requires.open) c.best_of-answer.ensures.given (other_answer c.best_of-answer.result.made ours c.if-answer-ours.false)
+    c.requires.turn.state (open-decided s.position c.requires.open) c.best_of-answer.ensures.given (other_answer c.best_of-answer.result.made ours c.if-answer-ours.false)
     c.one_of_equals-cards.ensures.others refl refl c.with_lower_equals.ensures.closed c.with_lower_equals.ensures.within c.with_lower_equals.ensures.down
-
-pub best_of-play-after-requires : goal.best_of-play-after-requires
-best_of-play-after-requires t c =
-    let s : State = record { position = c.args.position.now; left = c.args.left } in
-    let card = c.in-Some.card in
-    a_legal_card_can_be_played s card c.requires.state (c.requires.legal card (c.loop-card.invariant.tried.part card c.in-Some.ensures))
-
-pub best_of-search-there-requires : goal.best_of-search-there-requires
-best_of-search-there-requires t c =
-    let s : State = record { position = c.args.position.now; left = c.args.left } in
-    let card = c.in-Some.card in
-    let ok : IsState s = c.requires.state in
-    let legal = c.requires.legal card (c.loop-card.invariant.tried.part card c.in-Some.ensures) in
-    let fewer = a_card_leaves_one_fewer s.position card ok.sound (a_legal_card_can_be_played s card ok legal) in (
-      omega (arith, fewer, ap cards_left c.play-after.ensures.value, c.decreases),
-      rw (c.play-after.ensures.value, c.without.ensures.value) (a_legal_card_leads_to_a_state s card ok legal).fits,
-    )
-
-pub best_of-with_winner-part-requires-clause-held : goal.best_of-with_winner-part-requires-clause-held
-best_of-with_winner-part-requires-clause-held t c =
-    let s : State = record { position = c.args.position.now; left = c.args.left } in
-    let card = c.in-Some.card in
-    a_legal_card_can_be_played s card c.requires.state (c.requires.legal card (c.loop-card.invariant.tried.part card c.in-Some.ensures))
 
 pub best_of-returns-then-there-ours-clause-given : goal.best_of-returns-then-there-ours-clause-given
 best_of-returns-then-there-ours-clause-given t c =
-    let s : State = record { position = c.args.position.now; left = c.args.left } in
+    let s = turn_state c.args.turn.now in
     let card = c.in-Some.card in
     let ours = c.args.ours in
-    let there = c.search-there.result in
-    let part = c.with_winner-part.result in
-    let got : HasAnswer there.counting (after s card) there.made = rw (c.play-after.ensures.value, c.without.ensures.value) at c.search-there.ensures.answer.answers in
-    let wins : HasAnswer there.counting (after s card) ours = subst (λ b. HasAnswer there.counting (after s card) b) (same_answer there.made ours c.if-there-ours.true) got in
+    let there = c.search_after-there.result in
+    let same = same_answer there.made ours c.if-there-ours.true in
     let legal = c.requires.legal card (c.loop-card.invariant.tried.part card c.in-Some.ensures) in
-    given-one s c.args.cards ours card (record { made = ours; counting = part }) c.requires.state legal c.requires.turn refl
-    c.with_winner-part.ensures.closed
-    (given_by s card ours there.counting part legal c.with_winner-part.ensures.closed c.with_winner-part.ensures.within (c.with_winner-part.ensures.settles c.args.left) wins)
+    given-one s c.args.cards ours card there c.requires.turn.state legal c.requires.side same
+    c.search_after-there.ensures.closed (subst (λ b. GivesAnswer there.counting s card b) same c.search_after-there.ensures.given)
 
 pub best_of-loop-card-smaller : goal.best_of-loop-card-smaller
 best_of-loop-card-smaller t c =
@@ -85,18 +62,57 @@ best_of-loop-card-smaller t c =
 
 pub best_of-loop-card-preserved : goal.best_of-loop-card-preserved
 best_of-loop-card-preserved t c =
-    let s : State = record { position = c.args.position.now; left = c.args.left } in
+    let s = turn_state c.args.turn.now in
     let card = c.in-Some.card in
     let ours = c.args.ours in
-    let there = c.search-there.result in
-    let part = c.with_winner-part.result in
-    let got : HasAnswer there.counting (after s card) there.made = rw (c.play-after.ensures.value, c.without.ensures.value) at c.search-there.ensures.answer.answers in
-    let fails : HasAnswer there.counting (after s card) (not ours) = subst (λ b. HasAnswer there.counting (after s card) b) (other_answer there.made ours c.if-there-ours.false) got in
-    let legal = c.requires.legal card (c.loop-card.invariant.tried.part card c.in-Some.ensures) in
+    let there = c.search_after-there.result in
     record {
-      tried = tried-more s c.args.cards c.loop-card.rest c.without-rest.result c.without_like-rest.result c.loop-card.counting c.joined-counting.result part ours card c.loop-card.invariant.tried
+      tried = tried-more s c.args.cards c.loop-card.rest c.without-rest.result c.without_like-rest.result c.loop-card.counting c.joined-counting.result there.counting ours card c.loop-card.invariant.tried
           c.without-rest.ensures.value c.without_like-rest.ensures.within c.without_like-rest.ensures.like
           c.joined-counting.ensures.closed c.joined-counting.ensures.first_within c.joined-counting.ensures.second_within
-          (given_by s card (not ours) there.counting part legal c.with_winner-part.ensures.closed c.with_winner-part.ensures.within (c.with_winner-part.ensures.settles c.args.left) fails);
-      limit = c.search-there.ensures.limit ∙ c.loop-card.invariant.limit;
+          (subst (λ b. GivesAnswer there.counting s card b) (other_answer there.made ours c.if-there-ours.false) c.search_after-there.ensures.given);
+      limit = c.search_after-there.ensures.limit ∙ c.loop-card.invariant.limit;
     }
+
+pub search_after-search_cards-requires : goal.search_after-search_cards-requires
+search_after-search_cards-requires t c =
+    let s = turn_state c.args.turn.now in
+    let card = c.args.card in
+    let ok = c.requires.turn.state in
+    let can = a_legal_card_can_be_played s card ok c.requires.legal in
+    let fewer = a_card_leaves_one_fewer s.position card ok.sound can in
+    let goes_on : length s.position.trick.cards ≢ 3 = search rules in (
+      omega (arith, fewer, ap (λ (x : State). cards_left x.position) c.after.ensures.state, c.decreases),
+      (c.after.ensures.turn, ap (λ (x : State). decided x.position) c.after.ensures.state ∙ open-after s.position card ok.sound can goes_on c.requires.open),
+    )
+
+pub search_after-returns-then-len-ne3-clause-given : goal.search_after-returns-then-len-ne3-clause-given
+search_after-returns-then-len-ne3-clause-given t c =
+    let s = turn_state c.args.turn.now in
+    let there = c.search_cards.result in
+    let goes_on : length s.position.trick.cards ≢ 3 = search rules in
+    given_by s c.args.card there.made there.counting there.counting c.requires.legal c.search_cards.ensures.answer.closed (λ d h. h) (λ third. absurd (goes_on third))
+    (subst (λ (x : State). HasAnswer there.counting x there.made) c.after.ensures.state c.search_cards.ensures.answer.answers)
+
+pub search_after-end_trick-after-requires-clause-held : goal.search_after-end_trick-after-requires-clause-held
+search_after-end_trick-after-requires-clause-held t c = a_legal_card_can_be_played (turn_state c.args.turn.now) c.args.card c.requires.turn.state c.requires.legal
+
+pub search_after-search-there-requires : goal.search_after-search-there-requires
+search_after-search-there-requires t c =
+    let s = turn_state c.args.turn.now in
+    let card = c.args.card in
+    let ok = c.requires.turn.state in
+    let fewer = a_card_leaves_one_fewer s.position card ok.sound (a_legal_card_can_be_played s card ok c.requires.legal) in (
+      omega (arith, fewer, ap cards_left c.end_trick-after.ensures.value, c.decreases),
+      rw (c.end_trick-after.ensures.value, c.without.ensures.value) (a_legal_card_leads_to_a_state s card ok c.requires.legal).fits,
+    )
+
+pub search_after-with_winner-requires-clause-held : goal.search_after-with_winner-requires-clause-held
+search_after-with_winner-requires-clause-held t c = a_legal_card_can_be_played (turn_state c.args.turn.now) c.args.card c.requires.turn.state c.requires.legal
+
+pub search_after-returns-clause-given : goal.search_after-returns-clause-given
+search_after-returns-clause-given t c =
+    let s = turn_state c.args.turn.now in
+    let there = c.search-there.result in
+    let got : HasAnswer there.counting (after s c.args.card) there.made = rw (c.end_trick-after.ensures.value, c.without.ensures.value) at c.search-there.ensures.answer.answers in
+    given_by s c.args.card there.made there.counting c.with_winner.result c.requires.legal c.with_winner.ensures.closed c.with_winner.ensures.within (c.with_winner.ensures.settles c.args.turn.now.left) got

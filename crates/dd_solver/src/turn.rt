@@ -1,0 +1,70 @@
+//! A turn of a trick, with what stays the same from one turn to the next.
+ghost use Rattle.std.specs.Prelude.{◌≡◌, ◌≢◌, true, length};
+ghost use Rattle.card_sets.specs.SetWords.{has_card};
+ghost use Rattle.trick_rules.specs.Positions.{IsState};
+ghost use Rattle.trick_rules.specs.Play.{after as after_play, legal_in};
+ghost use Rattle.dd_solver.specs.Turns.{turn_state, IsTurn};
+
+use crate::memo::Memo;
+use crate::order::{Order, turn_of};
+use card_sets::{Card, CardSet};
+use double_dummy::cards_in_play;
+use trick_rules::{Position, play};
+
+/// A position, Left's hand, and the cards in play, which stay the same until the trick ends.
+#[derive(Drop)]
+pub(crate) struct Turn {
+    pub(crate) position: Position,
+    pub(crate) left: CardSet,
+    pub(crate) playing: CardSet,
+}
+
+impl Turn {
+    /// The turn at a position.
+    pub(crate) fn of(position: &Position, left: CardSet) -> Turn
+        requires { IsState (record { position = position.now; left = left }) }
+        ensures turn { IsTurn result }
+        ensures position { result.position ≡ position.now }
+        ensures left { result.left ≡ left }
+    {
+        Turn {
+            position: position.copy(),
+            left,
+            playing: cards_in_play(position),
+        }
+    }
+
+    /// The next turn of the trick.
+    pub(crate) fn after(&self, card: Card) -> Turn
+        requires turn { IsTurn self.now }
+        requires legal { has_card (legal_in (turn_state self.now)) card ≡ true }
+        requires goes_on { length self.now.position.trick.cards ≢ 3 }
+        ensures turn { IsTurn result }
+        ensures state { turn_state result ≡ after_play (turn_state self.now) card }
+    {
+        Turn {
+            position: play(&self.position, card),
+            left: self.left.without(card),
+            playing: self.playing,
+        }
+    }
+
+    /// The order in which these cards are tried. A single card needs none.
+    pub(crate) fn order(&self, memo: &Memo, cards: CardSet) -> Order {
+        let mut others = cards;
+        match others.pop_first() {
+            Some(card) if others.is_empty() => Order::Begun(card),
+            _ => {
+                let best_lead = memo.best_lead(turn_of(&self.position));
+                Order::begun(&self.position, self.left, cards, best_lead)
+            }
+        }
+    }
+
+    /// Orders the cards that are left, if there are any and only the first is known.
+    pub(crate) fn complete(&self, order: &mut Order, cards: CardSet) {
+        if !cards.is_empty() {
+            order.complete(&self.position, self.left, cards);
+        }
+    }
+}
