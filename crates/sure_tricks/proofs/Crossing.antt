@@ -55,7 +55,7 @@ module _ (x : Seat) (s : State) (cards : List ℕ) (t : IsTrick x s cards) where
       (legal_cards-low s.position.trick.cards (hand_of s (to_play s.position)) c legal)
 
 -- a card of the suit led is legal
-follows_legally : (led : ℕ) (ds hand : List ℕ) (c : ℕ) → has_card hand c ≡ true → suit_of c ≡ suit_of led → has_card (legal_cards (led ∷ ds) hand) c ≡ true
+pub follows_legally : (led : ℕ) (ds hand : List ℕ) (c : ℕ) → has_card hand c ≡ true → suit_of c ≡ suit_of led → has_card (legal_cards (led ∷ ds) hand) c ≡ true
 follows_legally led ds hand c held suit = go (of_suit (suit_of led) hand) (has_card-filter (λ d. same_suit (suit_of d) (suit_of led)) hand c ∙ rw (held, suit_test c (suit_of led) suit) refl)
   where
     go : (part : List ℕ) → has_card part c ≡ true → has_card (or_whole part hand) c ≡ true

@@ -11,3 +11,4 @@ pub mod Together
 pub mod Counted
 pub mod Summing
 pub mod TopTrumps
+pub mod Headed
