@@ -4,3 +4,4 @@ pub mod Cards
 pub mod Answers
 pub mod Counting
 pub mod RankWinners
+pub mod Headed

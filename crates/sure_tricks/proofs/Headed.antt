@@ -26,7 +26,7 @@ use Rattle.sure_tricks.proofs.Crossing.{follows_legally, safe_at_no_trump}
 
 -- ---- one card
 
-only : (w c : ℕ) → has_card (w ∷ []) c ≡ true → c ≡ w
+pub only : (w c : ℕ) → has_card (w ∷ []) c ≡ true → c ≡ w
 only w c h = elim (cases_eq w c) as (λ _. c ≡ w) [
   | inl e ↦ sym e
   | inr differ ↦ absurd (false≢true (rw (ne_eqb w c differ) at h))
@@ -70,6 +70,13 @@ other_weaker trump w hand set c may high safe low_w =
           absurd (omega arith))
     ]
 
+-- cards that nobody can ruff are safe
+pub safe_beyond : (trump : Trump) (sure : List ℕ) → AreBeyondRuffs trump sure → (hand : List ℕ) → AreSafe trump sure hand
+safe_beyond trump sure beyond hand = elim beyond as (λ _. AreSafe trump sure hand) [
+  | inl none ↦ subst (λ t. AreSafe t sure hand) (sym none) (safe_at_no_trump sure hand)
+  | inr trumps ↦ inr (λ card mem side. absurd (false≢true (sym side ∙ trumps card mem)))
+]
+
 -- ---- within the trick
 
 module _ (L : Seat) (m : ℕ) (trump : Trump) (w : ℕ) (sure : List ℕ) where
@@ -91,12 +98,6 @@ module _ (L : Seat) (m : ℕ) (trump : Trump) (w : ℕ) (sure : List ℕ) where
     pub high : (y : Seat) → y ≢ seat_after m L → AreHigh sure (hand_of s y)
 
   module _ (low_w : w < 52) (low_m : m < 4) (set : IsCardSet sure) (apart : has_card sure w ≡ false) (beyond : AreBeyondRuffs trump sure) where
-    safe_from : (hand : List ℕ) → AreSafe trump sure hand
-    safe_from hand = elim beyond as (λ _. AreSafe trump sure hand) [
-      | inl none ↦ subst (λ t. AreSafe t sure hand) (sym none) (safe_at_no_trump sure hand)
-      | inr trumps ↦ inr (λ card mem side. absurd (false≢true (sym side ∙ trumps card mem)))
-    ]
-
     module _ (s : State) (j : ℕ) (f : IsHeading s j) (past : 1 ≤ j) (short : j < 4) where
       turn : to_play s.position ≡ seat_after j L
       turn = ap₂ (λ (n : ℕ) (seat : Seat). seat_after n seat) f.count f.leads
@@ -197,7 +198,7 @@ module _ (L : Seat) (m : ℕ) (trump : Trump) (w : ℕ) (sure : List ℕ) where
               set = set;
               held = rest_held;
               high = still_high;
-              safe = λ y differ. safe_from (hand_of (after s c) y);
+              safe = λ y differ. safe_beyond trump sure beyond (hand_of (after s c) y);
             }
 
       -- the seat's own card
