@@ -1,3 +1,4 @@
+pub mod Last
 pub mod SetCounts
 pub mod Sets
 pub mod Suits

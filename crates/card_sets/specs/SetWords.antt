@@ -1,5 +1,5 @@
 -- A set of cards is the list of its cards in card order.
-use Rattle.std.specs.Prelude.{◌≡◌, ℕ, Bool, true, false, nat_lt, Option, List, filter, find}
+use Rattle.std.specs.Prelude.{◌≡◌, ℕ, Bool, true, false, nat_lt, ◌≤◌, Option, List, filter, find}
 use Rattle.bit_lists.specs.Bits.{below, among}
 
 -- whether a card is in a set
@@ -29,3 +29,8 @@ first_card cards = find (λ _. true) cards
 -- the first card of a set that comes after a card in card order
 abbrev pub next_card : List ℕ → ℕ → Option ℕ
 next_card cards card = find (nat_lt card) cards
+
+-- a card of a set that none of the set comes after
+pub record IsLast (card : ℕ) (cards : List ℕ) : Type 0 where
+  pub held : has_card cards card ≡ true
+  pub last : (other : ℕ) → has_card cards other ≡ true → other ≤ card

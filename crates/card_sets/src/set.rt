@@ -1,9 +1,10 @@
 //! A set of cards in one machine word: bit i is the card at place i in card order.
 ghost use Rattle.std.specs.Prelude.{◌≡◌, ℕ, ◌+◌, ◌^◌, ◌<◌, ◌≤◌, ◌↔◌, ◌==◌, ◌&&◌, ◌||◌, Bool, not, true, false, nat_lt, IsTrue, List, [], ◌∷◌, filter, length, MatchOption};
+ghost use Rattle.std.specs.List.{list_all};
 ghost use Rattle.std.specs.Iterator.{YieldsFirst, item_count};
 ghost use Rattle.bit_lists.specs.Bits.{places};
 ghost use Rattle.card_sets.specs.Cards.{suit_of, same_suit};
-ghost use Rattle.card_sets.specs.SetWords.{has_card, cards_where, IsCardSet, IsSubset, Apart, first_card, next_card};
+ghost use Rattle.card_sets.specs.SetWords.{has_card, cards_where, IsCardSet, IsSubset, Apart, first_card, next_card, IsLast};
 
 use crate::card::{Card, Suit};
 use std::hash::{Hash, Hasher};
@@ -202,6 +203,31 @@ impl CardSet {
         ensures a_set { IsCardSet self }
     {
         lowest(self.bits & (u64::MAX << (card.number() + 1)))
+    }
+
+    /// The last card in card order: `None` exactly when the set is empty.
+    pub fn last(self) -> Option<Card>
+        ensures value { MatchOption result (self ≡ []) (λ card. IsLast card self) }
+        ensures a_set { IsCardSet self }
+    {
+        if self.bits == 0 {
+            None
+        } else {
+            Some(Card::from_number(self.bits.ilog2() as u8))
+        }
+    }
+
+    /// The cards of this set that come after each card of the other.
+    pub fn after_each(self, other: CardSet) -> CardSet
+        ensures value { result ≡ filter (λ c. list_all (λ d. nat_lt d c) other) self }
+        ensures a_set { IsCardSet result }
+    {
+        let Some(last) = other.last() else {
+            return self;
+        };
+        CardSet {
+            bits: self.bits & (u64::MAX << (last.number() + 1)),
+        }
     }
 
     /// The cards of this set that are not in the other.

@@ -39,48 +39,13 @@ impl Ruffs {
             last: false,
         }
     }
-
-    // The same in a suit: trumps aren't ruffed.
-    fn in_suit(&self, trump: Trump, suit: Suit) -> Ruffs
-        ensures next { result.next ≡ (not (is_suit trump suit) && self.now.next) }
-        ensures partner { result.partner ≡ (not (is_suit trump suit) && self.now.partner) }
-        ensures last { result.last ≡ (not (is_suit trump suit) && self.now.last) }
-    {
-        let side = trump != Trump::Suit(suit);
-        Ruffs {
-            next: side && self.next,
-            partner: side && self.partner,
-            last: side && self.last,
-        }
-    }
-}
-
-// Whether a card comes after each card of a set.
-fn is_higher(card: Card, cards: CardSet) -> bool
-    ensures { result ≡ list_all (λ d. nat_lt d card) cards }
-{
-    !cards.has(card) && cards.after(card).is_none()
-}
-
-// How many cards of the first set come after each card of the second.
-fn top_count(own: CardSet, theirs: CardSet) -> u8
-    ensures { result ≡ count_above own theirs }
-{
-    let mut top = own;
-    while let Some(low) = top.first() {
-        if is_higher(low, theirs) {
-            return top.count();
-        }
-        top = top.without(low);
-    }
-    0
 }
 
 // Of one suit: how many cards of the hand on lead are high against these of another hand.
 fn high_count(own: CardSet, theirs: CardSet) -> u8
     ensures { result ≡ count_of_high own theirs }
 {
-    let top = top_count(own, theirs);
+    let top = own.after_each(theirs).count();
     if top < theirs.count() {
         top
     } else {
@@ -131,6 +96,10 @@ impl Hands {
             (taken_from ruffs.now.last (of_suit suit self.now.own) (of_suit suit self.now.last))) }
     {
         let own = self.own.of_suit(suit);
+        let others = self.next.either(self.partner).either(self.last);
+        if own.after_each(others.of_suit(suit)).is_empty() {
+            return 0;
+        }
         let next = safe_count(own, self.next.of_suit(suit), ruffs.next);
         let partner = safe_count(own, self.partner.of_suit(suit), ruffs.partner);
         let last = safe_count(own, self.last.of_suit(suit), ruffs.last);
@@ -159,21 +128,54 @@ impl Hands {
         ensures last { result.last ≡ nat_lt drawn (length (trumps_of trump self.now.last)) }
     {
         Ruffs {
-            next: drawn < trumps(self.next, trump),
-            partner: drawn < trumps(self.partner, trump),
-            last: drawn < trumps(self.last, trump),
+            next: has_more(self.next, trump, drawn),
+            partner: has_more(self.partner, trump, drawn),
+            last: has_more(self.last, trump, drawn),
+        }
+    }
+
+    // The sure cards of a suit, if this many trumps are drawn and these hands may ruff then.
+    fn sure_after(&self, trump: Trump, drawn: u8, ruffs: &Ruffs, suit: Suit) -> u8
+        requires { (suit : Suit) → trump ≡ Suited suit → drawn
+            ≡ min (taken_from false (of_suit suit self.now.own) (of_suit suit self.now.next))
+            (min (taken_from false (of_suit suit self.now.own) (of_suit suit self.now.partner))
+            (taken_from false (of_suit suit self.now.own) (of_suit suit self.now.last))) }
+        ensures { result ≡ min (taken_from (not (is_suit trump suit) && ruffs.now.next)
+            (of_suit suit self.now.own) (of_suit suit self.now.next))
+            (min (taken_from (not (is_suit trump suit) && ruffs.now.partner)
+            (of_suit suit self.now.own) (of_suit suit self.now.partner))
+            (taken_from (not (is_suit trump suit) && ruffs.now.last)
+            (of_suit suit self.now.own) (of_suit suit self.now.last))) }
+    {
+        if trump == Trump::Suit(suit) {
+            drawn
+        } else {
+            self.sure_of(ruffs, suit)
         }
     }
 }
 
-// How many trumps a hand has.
+// The trumps of a hand.
 #[tactic(auto, using(crate::proofs::Looking::no_trumps))]
-fn trumps(hand: CardSet, trump: Trump) -> u8
-    ensures { result ≡ length (trumps_of trump hand) }
+fn trumps_in(hand: CardSet, trump: Trump) -> CardSet
+    ensures { result ≡ trumps_of trump hand }
 {
     match trump {
-        Trump::NoTrump => 0,
-        Trump::Suit(suit) => hand.of_suit(suit).count(),
+        Trump::NoTrump => CardSet::empty(),
+        Trump::Suit(suit) => hand.of_suit(suit),
+    }
+}
+
+// Whether a hand has more trumps than this many.
+#[tactic(auto, using(crate::proofs::Looking::some_by_length))]
+fn has_more(hand: CardSet, trump: Trump, many: u8) -> bool
+    ensures { result ≡ nat_lt many (length (trumps_of trump hand)) }
+{
+    let trumps = trumps_in(hand, trump);
+    if many == 0 {
+        !trumps.is_empty()
+    } else {
+        many < trumps.count()
     }
 }
 
@@ -216,10 +218,10 @@ pub fn own_counts(position: &Position, left: CardSet) -> Counts
     let drawn = hands.drawn(trump);
     let ruffs = hands.ruffs(trump, drawn);
     Counts {
-        spades: hands.sure_of(&ruffs.in_suit(trump, Suit::Spades), Suit::Spades),
-        hearts: hands.sure_of(&ruffs.in_suit(trump, Suit::Hearts), Suit::Hearts),
-        diamonds: hands.sure_of(&ruffs.in_suit(trump, Suit::Diamonds), Suit::Diamonds),
-        clubs: hands.sure_of(&ruffs.in_suit(trump, Suit::Clubs), Suit::Clubs),
+        spades: hands.sure_after(trump, drawn, &ruffs, Suit::Spades),
+        hearts: hands.sure_after(trump, drawn, &ruffs, Suit::Hearts),
+        diamonds: hands.sure_after(trump, drawn, &ruffs, Suit::Diamonds),
+        clubs: hands.sure_after(trump, drawn, &ruffs, Suit::Clubs),
     }
 }
 

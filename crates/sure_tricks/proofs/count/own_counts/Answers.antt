@@ -1,13 +1,13 @@
-use Rattle.std.proofs.Common.{not, ◌&&◌, ap, ◌∙◌}
+use Rattle.std.proofs.Common.{not, ◌&&◌, refl, ap, ◌∙◌}
 use Rattle.card_sets.specs.declared.card.Suit.TheVariants.{Spades, Hearts, Diamonds, Clubs}
 use Rattle.trick_rules.specs.Positions.{PositionValue, State, seat_after, to_play}
 use Rattle.trick_rules.specs.Play.{hand_of}
 use Rattle.sure_tricks.specs.Sure.{is_suit, may_ruff}
 use Rattle.sure_tricks.proofs.Summing.{IsLook, suit_is, few_in}
 use Rattle.sure_tricks.proofs.count.own_counts.Goals as goal
-use Rattle.sure_tricks.proofs.count.own_counts.Goals.{After-sure_of-4}
+use Rattle.sure_tricks.proofs.count.own_counts.Goals.{After-sure_after-4}
 
-look : (c : After-sure_of-4) → IsLook (record { position = c.args.position.now; left = c.args.left }) c.of-hands.result.own c.of-hands.result.next c.of-hands.result.partner c.of-hands.result.last
+look : (c : After-sure_after-4) → IsLook (record { position = c.args.position.now; left = c.args.left }) c.of-hands.result.own c.of-hands.result.next c.of-hands.result.partner c.of-hands.result.last
     c.position.inside.trump c.drawn-drawn.result
 look c =
     let s : State = record { position = c.args.position.now; left = c.args.left } in
@@ -26,22 +26,26 @@ look c =
 pub returns-clause-spades : goal.returns-clause-spades
 returns-clause-spades c = suit_is (record { position = c.args.position.now; left = c.args.left }) c.of-hands.result.own c.of-hands.result.next c.of-hands.result.partner c.of-hands.result.last
     c.position.inside.trump c.drawn-drawn.result (look c) c.ruffs-ruffs.result c.ruffs-ruffs.ensures.next c.ruffs-ruffs.ensures.partner c.ruffs-ruffs.ensures.last
-    Spades c.sure_of.result c.in_suit.result c.in_suit.ensures.next c.in_suit.ensures.partner c.in_suit.ensures.last c.sure_of.ensures
+    Spades c.sure_after.result (record { next = not (is_suit c.position.inside.trump Spades) && c.ruffs-ruffs.result.next; partner = not (is_suit c.position.inside.trump Spades) && c.ruffs-ruffs.result.partner; last = not (is_suit c.position.inside.trump Spades) && c.ruffs-ruffs.result.last })
+    refl refl refl c.sure_after.ensures
 
 pub returns-clause-hearts : goal.returns-clause-hearts
 returns-clause-hearts c = suit_is (record { position = c.args.position.now; left = c.args.left }) c.of-hands.result.own c.of-hands.result.next c.of-hands.result.partner c.of-hands.result.last
     c.position.inside.trump c.drawn-drawn.result (look c) c.ruffs-ruffs.result c.ruffs-ruffs.ensures.next c.ruffs-ruffs.ensures.partner c.ruffs-ruffs.ensures.last
-    Hearts c.sure_of-2.result c.in_suit-2.result c.in_suit-2.ensures.next c.in_suit-2.ensures.partner c.in_suit-2.ensures.last c.sure_of-2.ensures
+    Hearts c.sure_after-2.result (record { next = not (is_suit c.position.inside.trump Hearts) && c.ruffs-ruffs.result.next; partner = not (is_suit c.position.inside.trump Hearts) && c.ruffs-ruffs.result.partner; last = not (is_suit c.position.inside.trump Hearts) && c.ruffs-ruffs.result.last })
+    refl refl refl c.sure_after-2.ensures
 
 pub returns-clause-diamonds : goal.returns-clause-diamonds
 returns-clause-diamonds c = suit_is (record { position = c.args.position.now; left = c.args.left }) c.of-hands.result.own c.of-hands.result.next c.of-hands.result.partner c.of-hands.result.last
     c.position.inside.trump c.drawn-drawn.result (look c) c.ruffs-ruffs.result c.ruffs-ruffs.ensures.next c.ruffs-ruffs.ensures.partner c.ruffs-ruffs.ensures.last
-    Diamonds c.sure_of-3.result c.in_suit-3.result c.in_suit-3.ensures.next c.in_suit-3.ensures.partner c.in_suit-3.ensures.last c.sure_of-3.ensures
+    Diamonds c.sure_after-3.result (record { next = not (is_suit c.position.inside.trump Diamonds) && c.ruffs-ruffs.result.next; partner = not (is_suit c.position.inside.trump Diamonds) && c.ruffs-ruffs.result.partner; last = not (is_suit c.position.inside.trump Diamonds) && c.ruffs-ruffs.result.last })
+    refl refl refl c.sure_after-3.ensures
 
 pub returns-clause-clubs : goal.returns-clause-clubs
 returns-clause-clubs c = suit_is (record { position = c.args.position.now; left = c.args.left }) c.of-hands.result.own c.of-hands.result.next c.of-hands.result.partner c.of-hands.result.last
     c.position.inside.trump c.drawn-drawn.result (look c) c.ruffs-ruffs.result c.ruffs-ruffs.ensures.next c.ruffs-ruffs.ensures.partner c.ruffs-ruffs.ensures.last
-    Clubs c.sure_of-4.result c.in_suit-4.result c.in_suit-4.ensures.next c.in_suit-4.ensures.partner c.in_suit-4.ensures.last c.sure_of-4.ensures
+    Clubs c.sure_after-4.result (record { next = not (is_suit c.position.inside.trump Clubs) && c.ruffs-ruffs.result.next; partner = not (is_suit c.position.inside.trump Clubs) && c.ruffs-ruffs.result.partner; last = not (is_suit c.position.inside.trump Clubs) && c.ruffs-ruffs.result.last })
+    refl refl refl c.sure_after-4.ensures
 
 pub returns-clause-few : goal.returns-clause-few
 returns-clause-few c =
