@@ -81,7 +81,7 @@ following card k hand = picked k (take_out card hand)
 abbrev pub BeyondRuffs : Trump → (Suit → ℕ) → Type 0
 BeyondRuffs trump k = (trump ≡ NoTrump) ⊎ ((c : ℕ) → is_trump trump c ≡ false → k (suit_of c) ≡ 0)
 
-are_beyond : (trump : Trump) (k : Suit → ℕ) (card : ℕ) (hand : List ℕ) → BeyondRuffs trump k → AreBeyondRuffs trump (following card k hand)
+pub are_beyond : (trump : Trump) (k : Suit → ℕ) (card : ℕ) (hand : List ℕ) → BeyondRuffs trump k → AreBeyondRuffs trump (following card k hand)
 are_beyond trump k card hand beyond = elim beyond as (λ _. AreBeyondRuffs trump (following card k hand)) [
   | inl e ↦ inl e
   | inr trumps ↦ inr (λ c mem. elim (cases_Bool (is_trump trump c)) as (λ _. is_trump trump c ≡ true) [

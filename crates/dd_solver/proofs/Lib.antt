@@ -8,3 +8,4 @@ pub mod MovedUp
 pub mod CarriedBack
 pub mod Squeezing
 pub mod TopTrumps
+pub mod HeadingHand

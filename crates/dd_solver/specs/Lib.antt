@@ -4,3 +4,4 @@ pub mod Keys
 pub mod Answers
 pub mod Squeezing
 pub mod Remembers
+pub mod Headed

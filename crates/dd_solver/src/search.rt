@@ -9,6 +9,7 @@ ghost use Rattle.dd_solver.specs.Answers.{IsAnswer, IsGiven};
 
 use crate::answer::{Answer, joined, with_winner};
 use crate::enough::{one_of_equals, with_lower_equals, without_like};
+use crate::headed::headed_answer;
 use crate::key::Key;
 use crate::memo::Memo;
 use crate::order::{Order, turn_of};
@@ -33,6 +34,11 @@ pub(crate) fn search(memo: &mut Memo, position: &Position, left: CardSet) -> Ans
             made,
             counting: CardSet::empty(),
         };
+    }
+    if position.trick.cards.len() == 1 {
+        if let Some(answer) = headed_answer(position, left) {
+            return answer;
+        }
     }
     // With one trick left there is no choice, and looking takes longer than playing.
     if !between || position.declarer.count() < 2 {
