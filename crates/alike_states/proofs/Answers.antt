@@ -96,7 +96,7 @@ all_cards_answer counting s made ok on each = λ t ok' a.
 module _ (counting : List ℕ) (closed : IsClosedUp counting) (sure xs ys : List ℕ) (within : IsSubset sure counting)
     (same : (c : ℕ) → has_card counting c ≡ true → has_card xs c ≡ has_card ys c) (lengths : (suit : Suit) → length (of_suit suit xs) ≡ length (of_suit suit ys))
     (low : (c : ℕ) → has_card ys c ≡ true → c < 52) where
-  high_alike : AreHigh sure xs → AreHigh sure ys
+  pub high_alike : AreHigh sure xs → AreHigh sure ys
   high_alike high card among = elim (high card among) as (λ _. ((c : ℕ) → has_card ys c ≡ true → same_suit (suit_of c) (suit_of card) ≡ true → c < card) ⊎ (length (of_suit (suit_of card) ys) ≤ length (above card sure))) [
     | inl lower ↦ inl (λ c held suit. elim (cases_Bool (has_card counting c)) as (λ _. c < card) [
       | inl counts ↦ lower c (same c counts ∙ held) suit
@@ -109,7 +109,7 @@ module _ (counting : List ℕ) (closed : IsClosedUp counting) (sure xs ys : List
   trumps_alike NoTrump = ap (length {A = ℕ}) (filter-none (λ c. false) xs (λ c h. refl) ∙ sym (filter-none (λ c. false) ys (λ c h. refl)))
   trumps_alike (Suited suit) = lengths suit
 
-  safe_alike : (trump : Trump) → AreSafe trump sure xs → AreSafe trump sure ys
+  pub safe_alike : (trump : Trump) → AreSafe trump sure xs → AreSafe trump sure ys
   safe_alike trump safe = elim safe as (λ _. AreSafe trump sure ys) [
     | inl few ↦ inl (let n = trumps_alike trump in omega arith)
     | inr follows ↦ inr (λ card among plain. let n = lengths (suit_of card) in let m = follows card among plain in omega arith)

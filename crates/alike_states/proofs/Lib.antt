@@ -5,3 +5,4 @@ pub mod Answers
 pub mod Counting
 pub mod RankWinners
 pub mod Stoppers
+pub mod Headed

@@ -57,7 +57,7 @@ above_fewer c xs set held =
 abbrev pub FirstCount : List ℕ → (Suit → ℕ) → List ℕ → Type 0
 FirstCount counting number hand = (c : ℕ) → has_card hand c ≡ true → length (above c hand) < number (suit_of c) → has_card counting c ≡ true
 
-picked_parts : (k : Suit → ℕ) (xs : List ℕ) (c : ℕ) → has_card (picked k xs) c ≡ true → (has_card xs c ≡ true) × (length (above c xs) < k (suit_of c))
+pub picked_parts : (k : Suit → ℕ) (xs : List ℕ) (c : ℕ) → has_card (picked k xs) c ≡ true → (has_card xs c ≡ true) × (length (above c xs) < k (suit_of c))
 picked_parts k xs c h =
     let both = and_parts (has_card xs c) (nat_lt (length (above c xs)) (k (suit_of c))) (sym (has_card-filter (λ d. nat_lt (length (above d xs)) (k (suit_of d))) xs c) ∙ h) in
     (both.0, ltb-true (length (above c xs)) (k (suit_of c)) both.1)
@@ -114,13 +114,13 @@ module _ (counting : List ℕ) (closed : IsClosedUp counting) (k : Suit → ℕ)
   same_numbers : (suit : Suit) → length (of_suit suit (picked k xs)) ≡ length (of_suit suit (picked k ys))
   same_numbers suit = in_suit k xs set suit ∙ ap (min (k suit)) (lengths suit) ∙ sym (in_suit k ys set' suit)
 
-  as_many : length (picked k xs) ≡ length (picked k ys)
+  pub as_many : length (picked k xs) ≡ length (picked k ys)
   as_many = omega (arith, by_suits (picked k xs), by_suits (picked k ys), same_numbers Spades, same_numbers Hearts, same_numbers Diamonds, same_numbers Clubs)
 
   module _ (us vs : List ℕ) (low : (c : ℕ) → has_card vs c ≡ true → c < 52)
       (same' : (c : ℕ) → has_card counting c ≡ true → has_card us c ≡ has_card vs c) (lengths' : (suit : Suit) → length (of_suit suit us) ≡ length (of_suit suit vs))
       (count : FirstCount counting (λ suit. min (k suit) (length (of_suit suit us))) xs) where
-    high_there : AreHigh (picked k xs) us → AreHigh (picked k ys) vs
+    pub high_there : AreHigh (picked k xs) us → AreHigh (picked k ys) vs
     high_there high card mem =
         let parts = picked_parts k ys card mem in
         let few = parts.1 in

@@ -13,3 +13,4 @@ pub mod NextLower
 pub mod TopTrumps
 pub mod Turns
 pub mod JustBelow
+pub mod HeadingHand

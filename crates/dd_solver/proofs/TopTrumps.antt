@@ -25,7 +25,7 @@ use Rattle.dd_solver.specs.Answers.{IsAnswer}
 -- ---- opponents
 
 -- each seat is the seat itself, its partner or an opponent
-each_seat : (x y : Seat) → ((y ≡ x) ⊎ (y ≡ seat_after 2 x)) ⊎ (is_declarers y ≡ not (is_declarers x))
+pub each_seat : (x y : Seat) → ((y ≡ x) ⊎ (y ≡ seat_after 2 x)) ⊎ (is_declarers y ≡ not (is_declarers x))
 each_seat Declarer Declarer = inl (inl refl)
 each_seat Declarer Left = inr refl
 each_seat Declarer Dummy = inl (inr refl)

@@ -6,3 +6,4 @@ pub mod Answers
 pub mod RelativeRanks
 pub mod Remembers
 pub mod Turns
+pub mod Headed

@@ -8,6 +8,7 @@
 mod answer;
 mod enough;
 mod hands;
+mod headed;
 mod key;
 mod leads;
 mod memo;

@@ -11,6 +11,7 @@ ghost use Rattle.dd_solver.specs.Answers.{IsAnswer, IsGiven};
 
 use crate::answer::{Answer, joined, with_winner};
 use crate::enough::{one_of_equals, with_lower_equals, without_like};
+use crate::headed::headed_answer;
 use crate::key::Key;
 use crate::memo::Memo;
 use crate::needs_all::needs_all_answer;
@@ -40,7 +41,7 @@ pub(crate) fn search(memo: &mut Memo, position: &Position, left: CardSet) -> Ans
     }
     // With one trick left there is no choice, and looking takes longer than playing.
     if !between || position.declarer.count() < 2 {
-        return search_cards(memo, &Turn::of(position, left));
+        return search_turn(memo, &Turn::of(position, left));
     }
     let ranks = RelativeRanks::of(&Key::of(position, left));
     let answer = search_key(memo, &ranks.key);
@@ -74,7 +75,23 @@ fn search_key(memo: &mut Memo, key: &Key) -> Answer
     answer
 }
 
-// The same at a turn, if the result is open.
+// The same at a turn, if the result is open. After a lead, a hand may head the suit led.
+#[cycle(search)]
+fn search_turn(memo: &mut Memo, turn: &Turn) -> Answer
+    requires turn { IsTurn turn.now }
+    requires open { decided turn.now.position ≡ None }
+    ensures answer { IsAnswer (turn_state turn.now) result }
+    ensures limit { memo.new.most ≡ memo.old.most }
+{
+    if turn.position.trick.cards.len() == 1 {
+        if let Some(answer) = headed_answer(&turn.position, turn.left) {
+            return answer;
+        }
+    }
+    search_cards(memo, turn)
+}
+
+// The same by trying the cards.
 #[cycle(search)]
 fn search_cards(memo: &mut Memo, turn: &Turn) -> Answer
     requires turn { IsTurn turn.now }
@@ -138,7 +155,7 @@ fn search_after(memo: &mut Memo, turn: &Turn, card: Card) -> Answer
 {
     let position = &turn.position;
     if position.trick.cards.len() != 3 {
-        return search_cards(memo, &turn.after(card));
+        return search_turn(memo, &turn.after(card));
     }
     let place = position.trick.winning_place(position.trump, card);
     let after = end_trick(position, card, place);

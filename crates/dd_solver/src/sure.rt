@@ -64,7 +64,7 @@ fn winners_in(hands: &Hands, suit: Suit, many: u8) -> CardSet
 }
 
 // The rank winners of each suit, as many of the hand's highest cards as are counted.
-fn rank_winners(hands: &Hands, counts: &Counts) -> CardSet
+pub(crate) fn rank_winners(hands: &Hands, counts: &Counts) -> CardSet
     requires { IsCardSet hands.now.own }
     ensures closed { IsClosedUp result }
     ensures next { AreWinners counts.now hands.now.own hands.now.next result }
@@ -103,7 +103,7 @@ fn spare_of(position: &Position, sure: u8) -> u8
 }
 
 // The sure cards without this many of them, those of the spades first.
-fn without(counts: &Counts, spare: u8) -> Counts
+pub(crate) fn without(counts: &Counts, spare: u8) -> Counts
     requires { spare ≤ counts.now.spades + counts.now.hearts + counts.now.diamonds
         + counts.now.clubs }
     ensures spades { result.spades ≤ counts.now.spades }

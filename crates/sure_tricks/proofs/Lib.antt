@@ -14,3 +14,4 @@ pub mod TopTrumps
 pub mod StoppedSuit
 pub mod Stoppers
 pub mod AllTricks
+pub mod Headed

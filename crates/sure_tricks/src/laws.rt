@@ -1,6 +1,6 @@
 //! What sure cards come to. Each function does nothing: its contract is the law, proved from the
 //! definitions alone.
-ghost use Rattle.std.specs.Prelude.{◌≡◌, ℕ, ◌+◌, ◌<◌, ◌≤◌, true, false, List, [], length, min};
+ghost use Rattle.std.specs.Prelude.{◌≡◌, ℕ, suc, ◌+◌, ◌<◌, ◌≤◌, true, false, List, [], length, min};
 ghost use Rattle.trick_rules.specs.Positions.{State, seat_after, to_play, tricks_left, IsState};
 ghost use Rattle.trick_rules.specs.Play.{hand_of, is_declarers, makes};
 ghost use Rattle.trick_rules.specs.declared.trump.Trump.TheVariants.{NoTrump};
@@ -9,6 +9,7 @@ ghost use Rattle.card_sets.specs.declared.seat.Seat.{Seat};
 ghost use Rattle.card_sets.specs.SetWords.{has_card};
 ghost use Rattle.sure_tricks.specs.Sure.{AreSure, AreTopTrumps};
 ghost use Rattle.sure_tricks.specs.Stoppers.{AreStoppers};
+ghost use Rattle.sure_tricks.specs.Headed.{HeadsSuitLed, AreBeyondRuffs};
 
 /// The side on lead takes a trick with each of its sure cards: declarer's side makes a need of no
 /// more tricks, and against the defenders it fails with a need that leaves them fewer.
@@ -71,4 +72,18 @@ pub fn stoppers_win_a_trick()
     ensures theirs { (s : State) (stoppers : List ℕ) → IsState s → s.position.trick.cards ≡ []
         → s.position.trump ≡ NoTrump → AreStoppers s (to_play s.position) stoppers
         → is_declarers (to_play s.position) ≡ false → s.position.need ≤ 1 → makes s ≡ true }
+{}
+
+/// A hand that heads the suit led takes this trick, and then one with each of its sure cards that
+/// nobody can ruff: declarer's side makes a need of no more tricks, and against the defenders it
+/// fails with a need that leaves them fewer.
+pub fn the_suit_led_is_headed()
+    ensures ours { (s : State) (x : Seat) (card : ℕ) (sure : List ℕ) → IsState s
+        → HeadsSuitLed s x card → AreSure s x sure → has_card sure card ≡ false
+        → AreBeyondRuffs s.position.trump sure → is_declarers x ≡ true
+        → s.position.need ≤ suc (length sure) → makes s ≡ true }
+    ensures theirs { (s : State) (x : Seat) (card : ℕ) (sure : List ℕ) → IsState s
+        → HeadsSuitLed s x card → AreSure s x sure → has_card sure card ≡ false
+        → AreBeyondRuffs s.position.trump sure → is_declarers x ≡ false
+        → tricks_left s.position < s.position.need + suc (length sure) → makes s ≡ false }
 {}

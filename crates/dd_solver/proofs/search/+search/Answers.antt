@@ -74,8 +74,8 @@ best_of-loop-card-preserved t c =
       limit = c.search_after-there.ensures.limit ∙ c.loop-card.invariant.limit;
     }
 
-pub search_after-search_cards-requires : goal.search_after-search_cards-requires
-search_after-search_cards-requires t c =
+pub search_after-search_turn-requires : goal.search_after-search_turn-requires
+search_after-search_turn-requires t c =
     let s = turn_state c.args.turn.now in
     let card = c.args.card in
     let ok = c.requires.turn.state in
@@ -91,8 +91,8 @@ search_after-returns-then-len-ne3-clause-given t c =
     let s = turn_state c.args.turn.now in
     let there = c.search_cards.result in
     let goes_on : length s.position.trick.cards ≢ 3 = search rules in
-    given_by s c.args.card there.made there.counting there.counting c.requires.legal c.search_cards.ensures.answer.closed (λ d h. h) (λ third. absurd (goes_on third))
-    (subst (λ (x : State). HasAnswer there.counting x there.made) c.after.ensures.state c.search_cards.ensures.answer.answers)
+    given_by s c.args.card there.made there.counting there.counting c.requires.legal c.search_turn.ensures.answer.closed (λ d h. h) (λ third. absurd (goes_on third))
+    (subst (λ (x : State). HasAnswer there.counting x there.made) c.after.ensures.state c.search_turn.ensures.answer.answers)
 
 pub search_after-end_trick-after-requires-clause-held : goal.search_after-end_trick-after-requires-clause-held
 search_after-end_trick-after-requires-clause-held t c = a_legal_card_can_be_played (turn_state c.args.turn.now) c.args.card c.requires.turn.state c.requires.legal

@@ -11,6 +11,9 @@ decreases-search l = 5 * cards_left l.position.now + 4
 abbrev pub decreases-search_key : goal.decreases-search_key
 decreases-search_key l = 5 * cards_left (key_state l.key.now).position + 3
 
+abbrev pub decreases-search_turn : goal.decreases-search_turn
+decreases-search_turn l = 5 * cards_left l.turn.now.position + 3
+
 abbrev pub decreases-search_cards : goal.decreases-search_cards
 decreases-search_cards l = 5 * cards_left l.turn.now.position + 2
 
