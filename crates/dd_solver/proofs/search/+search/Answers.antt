@@ -10,7 +10,6 @@ use Rattle.alike_states.proofs.Answers.{a_decided_state_answers}
 use Rattle.dd_solver.specs.Keys.{key_state}
 use Rattle.dd_solver.proofs.GapAfterGap.{gaps-still}
 use Rattle.dd_solver.specs.Turns.{turn_state}
-use Rattle.dd_solver.proofs.CarriedBack.{steps-numbers}
 use Rattle.dd_solver.proofs.Turns.{open-after}
 use Rattle.dd_solver.proofs.Winner.{shorter}
 use Rattle.dd_solver.proofs.Tried.{given_by, given-one, tried-more, answer-each}
@@ -27,13 +26,13 @@ search-returns-in-Some-clause-answer t c =
 pub search-search_key-answer-requires : goal.search-search_key-answer-requires
 search-search_key-answer-requires t c =
     let s : State = record { position = c.args.position.now; left = c.args.left } in
-    let key = c.of.result in
+    let key = c.of-2.result in
     let ranks = c.of-ranks.result in
     let ok : IsState s = record { sound = subst IsSound c.position.view_is c.position.invariant; fits = c.requires } in
-    let here : IsState (key_state key) = subst IsState (sym c.of.ensures.state) ok in
+    let here : IsState (key_state key) = subst IsState (sym c.of-2.ensures.state) ok in
     let still = gaps-still ranks.gaps.items (key_state key) (key_state ranks.key) here c.of-ranks.ensures.closed in (
-      omega (arith, still.cards, ap (λ (x : State). cards_left x.position) c.of.ensures.state, c.decreases),
-      (c.of-ranks.ensures.state, (c.of-ranks.ensures.shape, still.decided ∙ ap (λ (x : State). decided x.position) c.of.ensures.state ∙ sym c.decided.ensures ∙ c.in_default.is)),
+      omega (arith, still.cards, ap (λ (x : State). cards_left x.position) c.of-2.ensures.state, c.decreases),
+      (c.of-ranks.ensures.state, (c.of-ranks.ensures.shape, still.decided ∙ ap (λ (x : State). decided x.position) c.of-2.ensures.state ∙ sym c.decided.ensures ∙ c.in_default.is)),
     )
 
 pub search_cards-returns-clause-answer : goal.search_cards-returns-clause-answer
@@ -89,7 +88,7 @@ search_after-search_turn-requires t c =
 pub search_after-returns-then-len-ne3-clause-given : goal.search_after-returns-then-len-ne3-clause-given
 search_after-returns-then-len-ne3-clause-given t c =
     let s = turn_state c.args.turn.now in
-    let there = c.search_cards.result in
+    let there = c.search_turn.result in
     let goes_on : length s.position.trick.cards ≢ 3 = search rules in
     given_by s c.args.card there.made there.counting there.counting c.requires.legal c.search_turn.ensures.answer.closed (λ d h. h) (λ third. absurd (goes_on third))
     (subst (λ (x : State). HasAnswer there.counting x there.made) c.after.ensures.state c.search_turn.ensures.answer.answers)
