@@ -16,10 +16,10 @@ use Rattle.sure_tricks.specs.Headed.{HeadsSuitLed, AreBeyondRuffs}
 use Rattle.sure_tricks.proofs.Counting.{count_in, count_out}
 use Rattle.sure_tricks.proofs.Hands.{Suffices, hand_set}
 use Rattle.sure_tricks.proofs.Picking.{picked}
-use Rattle.sure_tricks.proofs.Headed.{only, safe_beyond, headed_suit}
+use Rattle.sure_tricks.proofs.Headed.{only, safe_beyond, headed_suit, our_headed_suit_wins, their_headed_suit_wins}
 use Rattle.alike_states.specs.Alike.{IsClosedUp, IsLike, AreAlike, HasAnswer}
 use Rattle.alike_states.proofs.Likes.{like_suit, below_counting, alike_tricks}
-use Rattle.alike_states.proofs.Answers.{high_alike, safe_alike}
+use Rattle.alike_states.proofs.Answers.{high_alike, safe_alike, sure_cards_stay_sure}
 use Rattle.alike_states.proofs.RankWinners.{FirstCount, picked_parts, as_many, high_there}
 
 -- ---- the card that heads the suit
@@ -56,6 +56,21 @@ heads_there counting s t x card closed ok a counts heads =
           (safe_alike counting closed (card ∷ []) (hand_of s seat) (hand_of t seat) within ((a.hands seat).same) ((a.hands seat).lengths) (below seat) s.position.trump
           (heads.safe seat not_x (λ e. not_leader (e ∙ a.leader))));
     }
+
+-- ---- with sure cards that all count
+
+pub our_headed_suit_answers : (counting : List ℕ) (s : State) (x : Seat) (card : ℕ) (sure : List ℕ) → IsClosedUp counting → has_card counting card ≡ true → IsSubset sure counting
+    → HeadsSuitLed s x card → AreSure s x sure → has_card sure card ≡ false → AreBeyondRuffs s.position.trump sure → is_declarers x ≡ true → s.position.need ≤ suc (length sure) → HasAnswer counting s true
+our_headed_suit_answers counting s x card sure closed counts within heads are apart beyond side few = λ t ok a.
+    our_headed_suit_wins t x card sure ok (heads_there counting s t x card closed ok a counts heads) (sure_cards_stay_sure counting s t x sure closed ok a within are) apart
+    (subst (λ trump. AreBeyondRuffs trump sure) a.trump beyond) side (let need = a.need in omega arith)
+
+pub their_headed_suit_answers : (counting : List ℕ) (s : State) (x : Seat) (card : ℕ) (sure : List ℕ) → IsClosedUp counting → has_card counting card ≡ true → IsSubset sure counting
+    → HeadsSuitLed s x card → AreSure s x sure → has_card sure card ≡ false → AreBeyondRuffs s.position.trump sure → is_declarers x ≡ false
+    → tricks_left s.position < s.position.need + suc (length sure) → HasAnswer counting s false
+their_headed_suit_answers counting s x card sure closed counts within heads are apart beyond side many = λ t ok a.
+    their_headed_suit_wins t x card sure ok (heads_there counting s t x card closed ok a counts heads) (sure_cards_stay_sure counting s t x sure closed ok a within are) apart
+    (subst (λ trump. AreBeyondRuffs trump sure) a.trump beyond) side (let need = a.need in let tricks = alike_tricks counting s t a in omega arith)
 
 -- ---- the rest of its hand
 

@@ -1,6 +1,6 @@
 //! What the definitions come to. Each function does nothing: its contract is the law, proved from
 //! the definitions alone.
-ghost use Rattle.std.specs.Prelude.{◌≡◌, ◌≢◌, ℕ, ◌+◌, ◌<◌, ◌≤◌, Bool, true, false, not, ◌&&◌, ◌||◌, Some, List, [], length, min, nat_lt, slice_index, All, AllPairs};
+ghost use Rattle.std.specs.Prelude.{◌≡◌, ◌≢◌, ℕ, suc, ◌+◌, ◌<◌, ◌≤◌, Bool, true, false, not, ◌&&◌, ◌||◌, Some, List, [], length, min, nat_lt, slice_index, All, AllPairs};
 ghost use Rattle.card_sets.specs.Cards.{suit_of, same_suit};
 ghost use Rattle.card_sets.specs.declared.seat.Seat.{Seat};
 ghost use Rattle.card_sets.specs.SetWords.{has_card, cards_where, IsSubset};
@@ -10,6 +10,7 @@ ghost use Rattle.trick_rules.specs.Positions.{State, seat_after, to_play, tricks
 ghost use Rattle.trick_rules.specs.Play.{after, decided, hand_of, is_declarers, is_over, legal_in, IsWonBy};
 ghost use Rattle.sure_tricks.specs.Sure.{AreSure, AreTopTrumps};
 ghost use Rattle.sure_tricks.specs.Stoppers.{AreStoppers};
+ghost use Rattle.sure_tricks.specs.Headed.{HeadsSuitLed, AreBeyondRuffs};
 ghost use Rattle.alike_states.specs.Alike.{IsClosedUp, IsLike, IsLikeHand, AreAlike, SettlesTrick, SettlesEnd, HasAnswer, GivesAnswer};
 
 // ---- alike states
@@ -189,6 +190,22 @@ pub fn stoppers_answer()
         → s.position.trump ≡ NoTrump → AreStoppers s (to_play s.position) stoppers
         → is_declarers (to_play s.position) ≡ false → s.position.need ≤ 1
         → HasAnswer counting s true }
+{}
+
+/// A card that heads the suit led answers for every alike state, with the sure cards that follow
+/// it, if all of them count.
+pub fn a_headed_suit_answers()
+    ensures ours { (counting : List ℕ) (s : State) (x : Seat) (card : ℕ) (sure : List ℕ)
+        → IsClosedUp counting → has_card counting card ≡ true → IsSubset sure counting
+        → HeadsSuitLed s x card → AreSure s x sure → has_card sure card ≡ false
+        → AreBeyondRuffs s.position.trump sure → is_declarers x ≡ true
+        → s.position.need ≤ suc (length sure) → HasAnswer counting s true }
+    ensures theirs { (counting : List ℕ) (s : State) (x : Seat) (card : ℕ) (sure : List ℕ)
+        → IsClosedUp counting → has_card counting card ≡ true → IsSubset sure counting
+        → HeadsSuitLed s x card → AreSure s x sure → has_card sure card ≡ false
+        → AreBeyondRuffs s.position.trump sure → is_declarers x ≡ false
+        → tricks_left s.position < s.position.need + suc (length sure)
+        → HasAnswer counting s false }
 {}
 
 /// An answer goes from a state to an alike one, and from some of the cards that count to all. What

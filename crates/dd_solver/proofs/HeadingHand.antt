@@ -28,10 +28,10 @@ use Rattle.sure_tricks.proofs.Headed.{only, safe_beyond}
 use Rattle.alike_states.specs.Alike.{IsClosedUp, HasAnswer}
 use Rattle.alike_states.proofs.RankWinners.{FirstCount}
 use Rattle.alike_states.proofs.Headed.{following, BeyondRuffs, are_beyond, a_headed_suit_answers}
-use Rattle.dd_solver.specs.declared.headed.Table.{Table}
+use Rattle.dd_solver.specs.declared.headed.FourHands.{FourHands}
 use Rattle.dd_solver.specs.Closed.{up_from}
 use Rattle.dd_solver.specs.Sure.{number_in, AreWinners}
-use Rattle.dd_solver.specs.Headed.{IsTableOf, HeadsTrick, IsFollowed, is_beyond_ruffs, further_in, others_of}
+use Rattle.dd_solver.specs.Headed.{AreHandsOf, HeadsTrick, IsFollowed, is_beyond_ruffs, further_in, others_of}
 use Rattle.alike_states.proofs.Counting.{a_card_and_all_higher}
 use Rattle.dd_solver.proofs.Winner.{up_has}
 use Rattle.dd_solver.proofs.TopTrumps.{each_seat}
@@ -59,26 +59,26 @@ safe_follows trump suit card hand same some = inr (λ v mem side.
 
 -- ---- the card that heads the suit
 
-module _ (trump : Trump) (led : ℕ) (low : led < 52) (table : Table) (set : IsCardSet table.partner) (set' : IsCardSet table.third)
-    (safe : (card : ℕ) → suit_of card ≡ suit_of led → AreSafe trump (card ∷ []) table.partner) (safe' : (card : ℕ) → suit_of card ≡ suit_of led → AreSafe trump (card ∷ []) table.third)
-    (own either with' to_come tops : List ℕ) (own_is : own ≡ of_suit (suit_of led) table.own)
-    (either_is : either ≡ cards_where (λ c. has_card table.partner c || has_card table.third c))
+module _ (trump : Trump) (led : ℕ) (low : led < 52) (hands : FourHands) (set : IsCardSet hands.partner) (set' : IsCardSet hands.third)
+    (safe : (card : ℕ) → suit_of card ≡ suit_of led → AreSafe trump (card ∷ []) hands.partner) (safe' : (card : ℕ) → suit_of card ≡ suit_of led → AreSafe trump (card ∷ []) hands.third)
+    (own either with' to_come tops : List ℕ) (own_is : own ≡ of_suit (suit_of led) hands.own)
+    (either_is : either ≡ cards_where (λ c. has_card hands.partner c || has_card hands.third c))
     (with_is : with' ≡ cards_where (λ c. has_card either c || eqb c led)) (come_is : to_come ≡ of_suit (suit_of led) with')
     (tops_are : tops ≡ filter (λ c. list_all (λ d. nat_lt d c) to_come) own) where
   among : (c : ℕ) → c < 52 → suit_of c ≡ suit_of led → (has_card either c || eqb c led) ≡ true → has_card to_come c ≡ true
   among c fits suit is = ap (λ (l : List ℕ). has_card l c) come_is ∙ has_card-filter (λ d. same_suit (suit_of d) (suit_of led)) with' c
       ∙ rw (ap (λ (l : List ℕ). has_card l c) with_is ∙ has_card-cards_where (λ d. has_card either d || eqb d led) c fits ∙ is, suit_test c (suit_of led) suit) refl
 
-  in_either : (c : ℕ) → c < 52 → (has_card table.partner c || has_card table.third c) ≡ true → has_card either c ≡ true
-  in_either c fits is = ap (λ (l : List ℕ). has_card l c) either_is ∙ has_card-cards_where (λ d. has_card table.partner d || has_card table.third d) c fits ∙ is
+  in_either : (c : ℕ) → c < 52 → (has_card hands.partner c || has_card hands.third c) ≡ true → has_card either c ≡ true
+  in_either c fits is = ap (λ (l : List ℕ). has_card l c) either_is ∙ has_card-cards_where (λ d. has_card hands.partner d || has_card hands.third d) c fits ∙ is
 
   module _ (card : ℕ) (mem : has_card tops card ≡ true) where
     parts : (has_card own card ≡ true) × (list_all (λ d. nat_lt d card) to_come ≡ true)
     parts = and_parts (has_card own card) (list_all (λ d. nat_lt d card) to_come) (sym (has_card-filter (λ c. list_all (λ d. nat_lt d c) to_come) own card) ∙ ap (λ (l : List ℕ). has_card l card) (sym tops_are) ∙ mem)
 
-    in_own : (has_card table.own card ≡ true) × (same_suit (suit_of card) (suit_of led) ≡ true)
-    in_own = and_parts (has_card table.own card) (same_suit (suit_of card) (suit_of led))
-        (sym (has_card-filter (λ d. same_suit (suit_of d) (suit_of led)) table.own card) ∙ ap (λ (l : List ℕ). has_card l card) (sym own_is) ∙ parts.0)
+    in_own : (has_card hands.own card ≡ true) × (same_suit (suit_of card) (suit_of led) ≡ true)
+    in_own = and_parts (has_card hands.own card) (same_suit (suit_of card) (suit_of led))
+        (sym (has_card-filter (λ d. same_suit (suit_of d) (suit_of led)) hands.own card) ∙ ap (λ (l : List ℕ). has_card l card) (sym own_is) ∙ parts.0)
 
     suit_is : suit_of card ≡ suit_of led
     suit_is = same_suit-true (suit_of card) (suit_of led) in_own.1
@@ -86,7 +86,7 @@ module _ (trump : Trump) (led : ℕ) (low : led < 52) (table : Table) (set : IsC
     less : (c : ℕ) → has_card to_come c ≡ true → c < card
     less c h = ltb-true c card (cards_from_list_all (λ d. nat_lt d card) to_come parts.1 c h)
 
-    over : (hand : List ℕ) → IsCardSet hand → ((c : ℕ) → has_card hand c ≡ true → (has_card table.partner c || has_card table.third c) ≡ true) → AreHigh (card ∷ []) hand
+    over : (hand : List ℕ) → IsCardSet hand → ((c : ℕ) → has_card hand c ≡ true → (has_card hands.partner c || has_card hands.third c) ≡ true) → AreHigh (card ∷ []) hand
     over hand hand_is there v is = inl (λ c held same.
         let fits = has_card-below hand c hand_is held in
         let suit : suit_of c ≡ suit_of led = same_suit-true (suit_of c) (suit_of v) same ∙ ap suit_of (only card v is) ∙ suit_is in
@@ -94,18 +94,18 @@ module _ (trump : Trump) (led : ℕ) (low : led < 52) (table : Table) (set : IsC
         let v_is = only card v is in
         omega arith)
 
-    heads_trick : HeadsTrick trump led table card
+    heads_trick : HeadsTrick trump led hands card
     heads_trick = record {
       held = in_own.0;
       suit = sym suit_is;
       higher = less led (among led low refl (or_right (has_card either led) (eqb led led) (eq-eqb led led refl)));
-      over_partner = over table.partner set (λ c h. or_left (has_card table.partner c) (has_card table.third c) h);
-      over_third = over table.third set' (λ c h. or_right (has_card table.partner c) (has_card table.third c) h);
+      over_partner = over hands.partner set (λ c h. or_left (has_card hands.partner c) (has_card hands.third c) h);
+      over_third = over hands.third set' (λ c h. or_right (has_card hands.partner c) (has_card hands.third c) h);
       safe_from_partner = safe card suit_is;
       safe_from_third = safe' card suit_is;
     }
 
-  pub last_heads : (o : Option ℕ) → MatchOption o (tops ≡ []) (λ card. IsLast card tops) → IfSome o (HeadsTrick trump led table)
+  pub last_heads : (o : Option ℕ) → MatchOption o (tops ≡ []) (λ card. IsLast card tops) → IfSome o (HeadsTrick trump led hands)
   last_heads None h = _
   last_heads (Some card) h = heads_trick card h.held
 
@@ -147,8 +147,8 @@ from_not true h = refl
 from_not false h = absurd (false≢true (sym h))
 
 -- where no more are wanted none follow
-pub none_follow : (trump : Trump) (table : Table) (card rest : ℕ) (counting : List ℕ) → rest ≡ 0 → counting ≡ up_from card → IsFollowed trump table card rest counting
-none_follow trump table card rest counting none is =
+pub none_follow : (trump : Trump) (hands : FourHands) (card rest : ℕ) (counting : List ℕ) → rest ≡ 0 → counting ≡ up_from card → IsFollowed trump hands card rest counting
+none_follow trump hands card rest counting none is =
     let zeros : Counts = record { spades = 0; hearts = 0; diamonds = 0; clubs = 0 } in
     record {
       closed = subst IsClosedUp (sym is) (a_card_and_all_higher card);
@@ -233,8 +233,8 @@ winners_first counts own other counting winners c held few = winners c held (ome
 
 -- ---- what they answer
 
-module _ (s : State) (ok : IsState s) (x : Seat) (table : Table) (is : IsTableOf s x table) (side : is_declarers x ≡ is_declarers (to_play s.position)) (led : ℕ) (one : s.position.trick.cards ≡ led ∷ [])
-    (card : ℕ) (heads : HeadsTrick s.position.trump led table card) (rest : ℕ) (counting : List ℕ) (followed : IsFollowed s.position.trump table card rest counting) where
+module _ (s : State) (ok : IsState s) (x : Seat) (hands : FourHands) (is : AreHandsOf s x hands) (side : is_declarers x ≡ is_declarers (to_play s.position)) (led : ℕ) (one : s.position.trick.cards ≡ led ∷ [])
+    (card : ℕ) (heads : HeadsTrick s.position.trump led hands card) (rest : ℕ) (counting : List ℕ) (followed : IsFollowed s.position.trump hands card rest counting) where
   abbrev leader : Seat
   leader = s.position.trick.leader
 
@@ -255,7 +255,7 @@ module _ (s : State) (ok : IsState s) (x : Seat) (table : Table) (is : IsTableOf
         ])
   ]
 
-  by_seat : (P : List ℕ → Type 0) → P table.partner → P table.leader → P table.third → (y : Seat) → y ≢ x → P (hand_of s y)
+  by_seat : (P : List ℕ → Type 0) → P hands.partner → P hands.leader → P hands.third → (y : Seat) → y ≢ x → P (hand_of s y)
   by_seat P p l t y differ = elim (other_seats y differ) as (λ _. P (hand_of s y)) [
     | inl e ↦ subst P (is.partner ∙ ap (hand_of s) (sym e)) p
     | inr other ↦ elim other as (λ _. P (hand_of s y)) [
@@ -264,7 +264,7 @@ module _ (s : State) (ok : IsState s) (x : Seat) (table : Table) (is : IsTableOf
     ]
   ]
 
-  by_seat_to_come : (P : List ℕ → Type 0) → P table.partner → P table.third → (y : Seat) → y ≢ x → y ≢ leader → P (hand_of s y)
+  by_seat_to_come : (P : List ℕ → Type 0) → P hands.partner → P hands.third → (y : Seat) → y ≢ x → y ≢ leader → P (hand_of s y)
   by_seat_to_come P p t y differ not_leader = elim (other_seats y differ) as (λ _. P (hand_of s y)) [
     | inl e ↦ subst P (is.partner ∙ ap (hand_of s) (sym e)) p
     | inr other ↦ elim other as (λ _. P (hand_of s y)) [
@@ -297,38 +297,38 @@ module _ (s : State) (ok : IsState s) (x : Seat) (table : Table) (is : IsTableOf
   own_set : IsCardSet own
   own_set = IsCardSet-filter (λ d. not (eqb d card)) (hand_of s x) (hand_set s ok x)
 
-  few : (suit : Suit) → k suit ≤ further_in s.position.trump own (others_of table) suit
-  few suit = subst (λ (l : List ℕ). k suit ≤ further_in s.position.trump (take_out card l) (others_of table) suit) is.own (followed.few suit)
+  few : (suit : Suit) → k suit ≤ further_in s.position.trump own (others_of hands) suit
+  few suit = subst (λ (l : List ℕ). k suit ≤ further_in s.position.trump (take_out card l) (others_of hands) suit) is.own (followed.few suit)
 
-  among_others : (y : Seat) → y ≢ x → IsSubset (hand_of s y) (others_of table)
+  among_others : (y : Seat) → y ≢ x → IsSubset (hand_of s y) (others_of hands)
   among_others y differ c h =
-      has_card-cards_where (λ d. has_card table.partner d || has_card table.leader d || has_card table.third d) c (has_card-below (hand_of s y) c (hand_set s ok y) h)
-      ∙ by_seat (λ l. has_card l c ≡ true → (has_card table.partner c || has_card table.leader c || has_card table.third c) ≡ true)
-      (λ p. or_left (has_card table.partner c || has_card table.leader c) (has_card table.third c) (or_left (has_card table.partner c) (has_card table.leader c) p))
-      (λ p. or_left (has_card table.partner c || has_card table.leader c) (has_card table.third c) (or_right (has_card table.partner c) (has_card table.leader c) p))
-      (λ p. or_right (has_card table.partner c || has_card table.leader c) (has_card table.third c) p) y differ h
+      has_card-cards_where (λ d. has_card hands.partner d || has_card hands.leader d || has_card hands.third d) c (has_card-below (hand_of s y) c (hand_set s ok y) h)
+      ∙ by_seat (λ l. has_card l c ≡ true → (has_card hands.partner c || has_card hands.leader c || has_card hands.third c) ≡ true)
+      (λ p. or_left (has_card hands.partner c || has_card hands.leader c) (has_card hands.third c) (or_left (has_card hands.partner c) (has_card hands.leader c) p))
+      (λ p. or_left (has_card hands.partner c || has_card hands.leader c) (has_card hands.third c) (or_right (has_card hands.partner c) (has_card hands.leader c) p))
+      (λ p. or_right (has_card hands.partner c || has_card hands.leader c) (has_card hands.third c) p) y differ h
 
   beyond : BeyondRuffs s.position.trump k
-  beyond = beyond_from s.position.trump k own (others_of table) few
+  beyond = beyond_from s.position.trump k own (others_of hands) few
 
   are_sure : AreSure s x (following card k (hand_of s x))
   are_sure = record {
     set = IsCardSet-filter _ own own_set;
     held = λ c h. IsSubset-filter (λ d. not (eqb d card)) (hand_of s x) c (IsSubset-filter _ own c h);
     high = λ y differ. picked_high k own own_set (hand_of s y) (λ suit.
-        let most = few suit in let high = further_high s.position.trump own (others_of table) (hand_of s y) suit own_set (among_others y differ) in omega arith);
+        let most = few suit in let high = further_high s.position.trump own (others_of hands) (hand_of s y) suit own_set (among_others y differ) in omega arith);
     safe = λ y differ. safe_beyond s.position.trump (following card k (hand_of s x)) (are_beyond s.position.trump k card (hand_of s x) beyond) (hand_of s y);
   }
 
   first_count : (y : Seat) → y ≢ x → FirstCount counting (λ suit. min (k suit) (length (of_suit suit (hand_of s y)))) own
   first_count = by_seat (λ l. FirstCount counting (λ suit. min (k suit) (length (of_suit suit l))) own)
-      (here table.partner followed.partner) (here table.leader followed.leader) (here table.third followed.third)
+      (here hands.partner followed.partner) (here hands.leader followed.leader) (here hands.third followed.third)
     where
-      here : (other : List ℕ) → AreWinners followed.counts (take_out card table.own) other counting → FirstCount counting (λ suit. min (k suit) (length (of_suit suit other))) own
+      here : (other : List ℕ) → AreWinners followed.counts (take_out card hands.own) other counting → FirstCount counting (λ suit. min (k suit) (length (of_suit suit other))) own
       here other winners = winners_first followed.counts own other counting (subst (λ (l : List ℕ). AreWinners followed.counts (take_out card l) other counting) is.own winners)
 
   in_each : (suit : Suit) → length (of_suit suit (following card k (hand_of s x))) ≡ k suit
-  in_each suit = in_suit k own own_set suit ∙ min-eq_left (let most = few suit in let part = further_part s.position.trump own (others_of table) suit in omega arith)
+  in_each suit = in_suit k own own_set suit ∙ min-eq_left (let most = few suit in let part = further_part s.position.trump own (others_of hands) suit in omega arith)
 
   many : length (following card k (hand_of s x)) ≡ rest
   many =

@@ -1,4 +1,5 @@
-//! The suit led is headed: what DDS looks for as quick tricks of the second hand, before it plays.
+//! The suit led is headed (DDS: quick tricks of the second hand). It is asked before the second hand
+//! plays.
 ghost use Rattle.std.specs.Prelude.{◌≡◌, ◌≤◌, ℕ, ◌+◌, ◌-◌, ◌||◌, [], ◌∷◌, false, length, if◌then◌else◌, IfSome};
 ghost use Rattle.card_sets.specs.declared.card.Suit.TheVariants.{Spades, Hearts, Diamonds, Clubs};
 ghost use Rattle.card_sets.specs.declared.seat.Seat.{Seat};
@@ -7,7 +8,7 @@ ghost use Rattle.card_sets.specs.SetWords.{IsCardSet};
 ghost use Rattle.trick_rules.specs.Positions.{State, seat_after, to_play, tricks_left, FitsLeft};
 ghost use Rattle.trick_rules.specs.Play.{is_declarers};
 ghost use Rattle.sure_tricks.specs.Sure.{AreSafe};
-ghost use Rattle.dd_solver.specs.Headed.{IsTableOf, HeadsTrick, IsFollowed, is_beyond_ruffs as nobody_ruffs, further_in, others_of};
+ghost use Rattle.dd_solver.specs.Headed.{AreHandsOf, HeadsTrick, IsFollowed, is_beyond_ruffs as nobody_ruffs, further_in, others_of};
 ghost use Rattle.dd_solver.specs.Answers.{IsAnswer};
 
 use crate::answer::{Answer, joined, up_from};
@@ -19,7 +20,7 @@ use trick_rules::{Position, Trump};
 
 /// The hand of a seat that still has to play to the card led, and the three others.
 #[derive(Clone, Copy)]
-struct Table {
+struct FourHands {
     own: CardSet,
     partner: CardSet,
     leader: CardSet,
@@ -53,7 +54,7 @@ fn can_ruff(hand: CardSet, trump: Trump, suit: Suit) -> bool
     }
 }
 
-// Of a suit that nobody can ruff, how many cards are higher than each of the other hands'.
+// If nobody can ruff the suit, how many cards of a hand are higher than each of the others'.
 fn further_of(own: CardSet, others: CardSet, trump: Trump, suit: Suit) -> u8
     ensures { result ≡ further_in trump own others suit }
 {
@@ -93,15 +94,15 @@ fn wanted(position: &Position) -> u8
     }
 }
 
-impl Table {
+impl FourHands {
     // As the second hand sees it.
-    fn of(position: &Position, left: CardSet) -> Table
-        ensures { IsTableOf (record { position = position.now; left = left })
+    fn of(position: &Position, left: CardSet) -> FourHands
+        ensures { AreHandsOf (record { position = position.now; left = left })
             (to_play position.now) result }
     {
         let seat = position.to_play();
         let leader = position.trick.leader;
-        Table {
+        FourHands {
             own: position.hand(seat, left),
             partner: position.hand(seat.next().next(), left),
             leader: position.hand(leader, left),
@@ -110,11 +111,11 @@ impl Table {
     }
 
     // As its partner sees it.
-    fn of_partner(&self) -> Table
-        ensures { (s : State) (x : Seat) → IsTableOf s x self.now
-            → IsTableOf s (seat_after 2 x) result }
+    fn of_partner(&self) -> FourHands
+        ensures { (s : State) (x : Seat) → AreHandsOf s x self.now
+            → AreHandsOf s (seat_after 2 x) result }
     {
-        Table {
+        FourHands {
             own: self.partner,
             partner: self.own,
             leader: self.leader,
@@ -122,7 +123,7 @@ impl Table {
         }
     }
 
-    // The highest card of the hand of the suit led, if it takes the trick.
+    // The hand's highest card of the suit led, if it takes the trick whatever is played.
     fn heading_card(&self, led: Card, trump: Trump) -> Option<Card>
         requires partner { IsCardSet self.now.partner }
         requires third { IsCardSet self.now.third }
@@ -145,7 +146,7 @@ impl Table {
         self.partner.either(self.leader).either(self.third)
     }
 
-    // The cards that count if, after this card, `rest` of the hand's cards follow.
+    // The cards that count if, after this card, `rest` further cards of the hand take a trick each.
     fn counting(&self, card: Card, rest: u8, trump: Trump) -> Option<CardSet>
         ensures { IfSome result (IsFollowed trump self.now card rest) }
     {
@@ -157,13 +158,13 @@ impl Table {
         if all.total() < rest {
             return None;
         }
-        let hands = Hands {
+        let seen = Hands {
             own,
             next: self.third,
             partner: self.partner,
             last: self.leader,
         };
-        let winners = rank_winners(&hands, &without(&all, all.total() - rest));
+        let winners = rank_winners(&seen, &without(&all, all.total() - rest));
         Some(joined(up_from(card), winners))
     }
 
@@ -174,7 +175,7 @@ impl Table {
         requires partner { IsCardSet self.now.partner }
         requires third { IsCardSet self.now.third }
         ensures { (x : Seat)
-            → IsTableOf (record { position = position.now; left = left }) x self.now
+            → AreHandsOf (record { position = position.now; left = left }) x self.now
             → is_declarers x ≡ is_declarers (to_play position.now)
             → IfSome result
             (λ answer. IsAnswer (record { position = position.now; left = left }) answer) }
@@ -197,9 +198,9 @@ pub(crate) fn headed_answer(position: &Position, left: CardSet) -> Option<Answer
         (λ answer. IsAnswer (record { position = position.now; left = left }) answer) }
 {
     let led = *position.trick.cards.first()?;
-    let table = Table::of(position, left);
-    match table.answer(position, left, led) {
+    let hands = FourHands::of(position, left);
+    match hands.answer(position, left, led) {
         Some(answer) => Some(answer),
-        None => table.of_partner().answer(position, left, led),
+        None => hands.of_partner().answer(position, left, led),
     }
 }
