@@ -55,3 +55,9 @@ impl Hands {
         next.max(partner).max(last)
     }
 }
+
+/// Whether there are two cards or more.
+pub(crate) fn has_two(cards: CardSet) -> bool {
+    let mut rest = cards;
+    rest.pop_first().is_some() && !rest.is_empty()
+}

@@ -3,12 +3,15 @@
 ghost use Rattle.std.specs.Prelude.{◌≡◌, ◌≤◌, true, [], MatchOption};
 ghost use Rattle.card_sets.specs.SetWords.{has_card};
 
-use crate::hands::Hands;
+use crate::hands::{Hands, has_two};
 use card_sets::{Card, CardSet, Suit};
 use trick_rules::{Position, Trump};
 
 /// What no two hands' choices weigh more than.
 const MOST_CHOICES: u16 = 7_650;
+
+/// The most that the places of the cards take from a lead's weight.
+const MOST_LOST: u16 = 21;
 
 // How many cards a hand that has none of a suit may play to it.
 fn discards_of(hand: CardSet, suit: Suit) -> u16
@@ -78,12 +81,28 @@ fn holds(hand: CardSet, cards: CardSet) -> bool {
     !hand.is_disjoint(cards)
 }
 
+/// Who can ruff a suit.
+#[derive(Clone, Copy)]
+struct Ruffs {
+    opponents: bool,
+    partner: bool,
+}
+
+impl Ruffs {
+    fn of(hands: &Hands, trump: Trump, suit: Suit) -> Ruffs {
+        Ruffs {
+            opponents: can_ruff(hands.next, trump, suit) || can_ruff(hands.last, trump, suit),
+            partner: can_ruff(hands.partner, trump, suit),
+        }
+    }
+}
+
 // The leads of a suit that win the trick for the side on lead. Partner may win each lead, by a ruff
 // or by the best card, unless an opponent ruffs.
-fn winners_of(hands: &Hands, trump: Trump, suit: Suit, best: CardSet) -> CardSet {
-    if can_ruff(hands.next, trump, suit) || can_ruff(hands.last, trump, suit) {
+fn winners_of(hands: &Hands, ruffs: Ruffs, best: CardSet) -> CardSet {
+    if ruffs.opponents {
         CardSet::empty()
-    } else if can_ruff(hands.partner, trump, suit) || holds(hands.partner, best) {
+    } else if ruffs.partner || holds(hands.partner, best) {
         hands.own
     } else {
         best
@@ -99,10 +118,10 @@ struct SuitLeads {
     sequence: CardSet,
     /// What a card that loses weighs.
     low: u16,
-    /// What the opponents' choices leave.
+    /// What the opponents' choices leave, and what the places of the cards add.
     ease: u16,
     ghost low_fits: { low ≤ 47 },
-    ghost ease_fits: { ease ≤ 7650 },
+    ghost ease_fits: { ease ≤ 7750 },
 }
 
 // What a card that loses weighs: more if the opponents have the best card, and more if the side has
@@ -122,26 +141,83 @@ fn losers_weight(hands: &Hands, honours: &Honours, suit: Suit) -> u16
     }
     let split = second && holds(hands.own, honours.third)
         || third && holds(hands.own, honours.second);
-    if split && hands.partner.of_suit(suit).count() > 1 {
+    if split && has_two(hands.partner.of_suit(suit)) {
         ours + 20
     } else {
         ours
     }
 }
 
+// What the places of a suit's cards add at no trump: less if partner can't follow suit or the last
+// hand has high cards, and more if the lead goes through the best card to partner's second best.
+fn no_trump_weight(hands: &Hands, honours: &Honours, suit: Suit) -> u16
+    ensures { result ≤ 50 }
+{
+    let partner = hands.partner.of_suit(suit);
+    let last = hands.last.of_suit(suit);
+    let weight = if partner.is_empty() {
+        MOST_LOST - 9
+    } else {
+        MOST_LOST
+    };
+    if holds(last, honours.best) || holds(last, honours.second) {
+        if has_two(last) { weight - 12 } else { weight }
+    } else if holds(hands.next, honours.best)
+        && holds(partner, honours.second)
+        && has_two(partner)
+    {
+        weight + 29
+    } else {
+        weight
+    }
+}
+
+// Whether a lead of this suit is a singleton, from a hand with trumps, to partner's best card.
+fn is_singleton_to_best(hands: &Hands, honours: &Honours, trumps: Suit, suit: Suit) -> bool {
+    let partner = hands.partner.of_suit(suit);
+    holds(partner, honours.best)
+        && has_two(partner)
+        && trumps != suit
+        && !has_two(hands.own.of_suit(suit))
+        && !hands.own.of_suit(trumps).is_empty()
+}
+
+// What they add with trumps: less if an opponent can ruff, more if partner can, and more for a
+// singleton to partner's best card.
+fn suit_weight(hands: &Hands, honours: &Honours, ruffs: Ruffs, trumps: Suit, suit: Suit) -> u16
+    ensures { result ≤ 57 }
+{
+    let mut weight = MOST_LOST;
+    if ruffs.opponents {
+        weight -= 12;
+    }
+    if ruffs.partner && !hands.last.of_suit(suit).is_empty() {
+        weight += 17;
+    }
+    if is_singleton_to_best(hands, honours, trumps, suit) {
+        weight += 19;
+    }
+    weight
+}
+
 impl SuitLeads {
     fn of(hands: &Hands, trump: Trump, suit: Suit) -> SuitLeads {
         let honours = Honours::of(hands.all().of_suit(suit));
+        let ruffs = Ruffs::of(hands, trump, suit);
+        let places = match trump {
+            Trump::NoTrump => no_trump_weight(hands, &honours, suit),
+            Trump::Suit(trumps) => suit_weight(hands, &honours, ruffs, trumps, suit),
+        };
         let touching = holds(hands.own, honours.second) && holds(hands.own, honours.third);
         SuitLeads {
-            winners: winners_of(hands, trump, suit, honours.best),
+            winners: winners_of(hands, ruffs, honours.best),
             sequence: if touching {
                 honours.second
             } else {
                 CardSet::empty()
             },
             low: losers_weight(hands, &honours, suit),
-            ease: MOST_CHOICES - choices(hands, trump, suit),
+            ease: MOST_CHOICES - choices(hands, trump, suit) + places,
         }
     }
 

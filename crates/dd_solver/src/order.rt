@@ -2,6 +2,7 @@
 ghost use Rattle.std.specs.Prelude.{◌≡◌, true, [], MatchOption};
 ghost use Rattle.card_sets.specs.SetWords.{has_card, IsSubset};
 
+use crate::hands::has_two;
 use crate::leads::LeadWeights;
 use crate::plays::{likely_plays, longest_side_suit};
 use card_sets::{Card, CardSet, Seat};
@@ -33,12 +34,6 @@ fn narrowed(cards: CardSet, part: CardSet) -> CardSet
 {
     let both = cards.both(part);
     if both.is_empty() { cards } else { both }
-}
-
-// Whether there are two cards or more.
-fn has_two(cards: CardSet) -> bool {
-    let mut rest = cards;
-    rest.pop_first().is_some() && !rest.is_empty()
 }
 
 /// Which of some cards go before the others.

@@ -1,7 +1,8 @@
 //! Move ordering within a trick: the cards that most often win it are tried first, and in third
-//! seat the lowest that forces out the fourth hand's highest. The order changes no answer.
+//! seat the lowest that forces out the fourth hand's highest. The second hand plays low if its
+//! partner wins the trick. The order changes no answer.
 
-use card_sets::{CardSet, Suit};
+use card_sets::{CardSet, Seat, Suit};
 use trick_rules::{Position, Trump};
 
 // Those of some cards of a suit that a hand with more cards of it than one beats by its highest
@@ -29,6 +30,8 @@ struct Table {
     is_partners: bool,
     /// The hand of the opponent who plays next, unless the trick is full by then.
     next: CardSet,
+    /// Partner's hand if this is the second hand and follows suit: partner plays last.
+    partner: CardSet,
     is_third: bool,
 }
 
@@ -49,9 +52,18 @@ fn best_suit_of(played: CardSet, led: Suit, trump: Trump) -> Suit {
     }
 }
 
+// A seat's hand, or no cards.
+fn hand_if(counts: bool, position: &Position, left: CardSet, seat: Seat) -> CardSet {
+    if counts {
+        position.hand(seat, left)
+    } else {
+        CardSet::empty()
+    }
+}
+
 impl Table {
     // Nothing if no card is played yet.
-    fn of(position: &Position, left: CardSet, led: Suit) -> Option<Table> {
+    fn of(position: &Position, left: CardSet, led: Suit, follows: bool) -> Option<Table> {
         let played = cards_of(position);
         let best_suit = best_suit_of(played, led, position.trump);
         let best = played.of_suit(best_suit).last()?;
@@ -60,18 +72,15 @@ impl Table {
             [partners, _] | [_, partners, _] => *partners == best,
             _ => false,
         };
-        let next = if cards.len() < 3 {
-            position.hand(position.to_play().next(), left)
-        } else {
-            CardSet::empty()
-        };
+        let seat = position.to_play().next();
         Some(Table {
             led,
             trump: position.trump,
             best_suit,
             best: CardSet::empty().with(best),
             is_partners,
-            next,
+            next: hand_if(cards.len() < 3, position, left, seat),
+            partner: hand_if(cards.len() == 1 && follows, position, left, seat.next()),
             is_third: cards.len() == 2,
         })
     }
@@ -104,18 +113,30 @@ impl Table {
     }
 
     // Those of some cards that only the fourth hand's highest beats, unless partner's card is such
-    // a one already.
+    // a one already. All of them if the fourth hand can't follow suit.
     fn forcing(&self, cards: CardSet) -> CardSet {
         let following = self.next.of_suit(self.led);
+        if following.is_empty() {
+            return cards;
+        }
         if self.is_partners && !forcing_of(self.best, following).is_empty() {
             return CardSet::empty();
         }
         forcing_of(cards.of_suit(self.led), following)
     }
 
+    // Whether partner wins the trick, by the best card so far or as the last to play.
+    fn is_partners_trick(&self) -> bool {
+        if self.is_partners {
+            return !self.safe(self.best).is_empty();
+        }
+        let following = self.partner.of_suit(self.led);
+        !following.is_empty() && !self.safe(self.beating(following)).is_empty()
+    }
+
     // The cards to try first: none if partner wins the trick.
     fn likely(&self, cards: CardSet) -> CardSet {
-        if self.is_partners && !self.safe(self.best).is_empty() {
+        if self.is_partners_trick() {
             return CardSet::empty();
         }
         let beating = self.beating(cards);
@@ -162,7 +183,7 @@ pub(crate) fn likely_plays(
     led: Suit,
     cards: CardSet,
 ) -> CardSet {
-    match Table::of(position, left, led) {
+    match Table::of(position, left, led, !cards.of_suit(led).is_empty()) {
         Some(table) => table.likely(cards),
         None => CardSet::empty(),
     }
