@@ -1,13 +1,13 @@
 //! An answer, and the cards that count for it.
-ghost use Rattle.std.specs.Prelude.{◌≡◌, ◌≢◌, ℕ, ◌<◌, ◌+◌, ◌*◌, ◌∷◌, [], ◌++◌, true, ◌||◌, IsTrue, List, length, slice_index};
-ghost use Rattle.card_sets.specs.Cards.{suit_of, suit_place};
+ghost use Rattle.std.specs.Prelude.{◌≡◌, ◌≢◌, ℕ, ◌<◌, ◌∷◌, [], ◌++◌, true, ◌||◌, IsTrue, List, length, slice_index};
+ghost use Rattle.card_sets.specs.Cards.{suit_of};
 ghost use Rattle.card_sets.specs.SetWords.{has_card, IsCardSet, IsSubset};
 ghost use Rattle.trick_rules.specs.Positions.{IsSound};
 ghost use Rattle.trick_rules.specs.Play.{winning_place, CanPlay};
 ghost use Rattle.alike_states.specs.Alike.{IsClosedUp, SettlesEnd};
 ghost use Rattle.dd_solver.specs.Closed.{up_from as up_from_card};
 
-use card_sets::{Card, CardSet, Suit};
+use card_sets::{Card, CardSet};
 use trick_rules::Position;
 
 /// An answer of double dummy, and the cards that count for it.
@@ -17,27 +17,11 @@ pub(crate) struct Answer {
     pub(crate) counting: CardSet,
 }
 
-/// The last card of a suit.
-pub(crate) fn last_of(suit: Suit) -> u8
-    ensures { result ≡ 13 * suit_place suit + 12 }
-{
-    match suit {
-        Suit::Spades => 12,
-        Suit::Hearts => 25,
-        Suit::Diamonds => 38,
-        Suit::Clubs => 51,
-    }
-}
-
 /// A card with all higher ones of its suit.
 pub(crate) fn up_from(card: Card) -> CardSet
     ensures { result ≡ up_from_card card }
 {
-    let mut cards = CardSet::empty();
-    for number in card.number()..last_of(card.suit()) + 1 {
-        cards = cards.with(Card::from_number(number));
-    }
-    cards
+    CardSet::up_from(card)
 }
 
 /// The cards with one more and all higher ones of its suit.

@@ -49,6 +49,8 @@ pub(crate) struct Key {
     pub(crate) leader: Seat,
     pub(crate) trump: Trump,
     pub(crate) need: u8,
+    /// How many tricks are left.
+    pub(crate) tricks: u8,
 }
 
 // Whether the cards that count are the same in two sets.
@@ -79,6 +81,7 @@ impl Key {
             leader: position.trick.leader,
             trump: position.trump,
             need: position.need,
+            tricks: position.declarer.count(),
         }
     }
 
@@ -107,10 +110,7 @@ impl Key {
             dummy: self.dummy.raised_to(gap),
             unseen: self.unseen.raised_to(gap),
             left: self.left.raised_to(gap),
-            shape: self.shape,
-            leader: self.leader,
-            trump: self.trump,
-            need: self.need,
+            ..*self
         }
     }
 
@@ -142,11 +142,6 @@ impl Key {
         ensures { IsTrue result → AreLikeKeys counting self.now other.now }
     {
         self.has_table_of(other) && self.has_same(counting, other)
-    }
-
-    /// How many tricks are left.
-    pub(crate) fn tricks(&self) -> u8 {
-        self.declarer.count()
     }
 
     /// A number that differs between most keys that are not alike, and is the same for alike ones.

@@ -37,7 +37,7 @@ impl Entry {
         requires shape { HasShape key.now }
         ensures { IfSome result (λ answer. IsAnswer (key_state key.now) answer) }
     {
-        if self.settles(key.need) && self.key.is_like(self.answer.counting, key) {
+        if self.key.is_like(self.answer.counting, key) && self.settles(key.need) {
             Some(self.answer)
         } else {
             None
@@ -80,27 +80,25 @@ fn slot_of(number: u64, slots: usize) -> usize
     (number & (slots / WAYS - 1) as u64) as usize * WAYS
 }
 
-// Of the slots from this one on, in turn from `turn`, the first that is empty or whose answers the
-// entry gives too, or one with the fewest tricks left.
+// Of the slots from this one on, the first whose answers the entry gives too; else the first that is
+// empty, or one with the fewest tricks left, in turn.
 fn place_in(slots: &[Option<Entry>], first: usize, turn: usize, entry: &Entry) -> usize
     requires { first + 32 ≤ length slots.now }
     ensures { result < length slots.now }
 {
     let mut best = first;
-    let mut fewest = 14;
+    let mut least = usize::MAX;
     for step in 0..WAYS {
-        let place = first + (turn % WAYS + step) % WAYS;
-        match &slots[place] {
-            Some(there) => {
-                if entry.covers(there) {
-                    return place;
-                }
-                if there.key.tricks() < fewest {
-                    best = place;
-                    fewest = there.key.tricks();
-                }
-            }
-            None => return place,
+        let Some(there) = &slots[first + step] else {
+            return first + step;
+        };
+        if entry.covers(there) {
+            return first + step;
+        }
+        let weight = usize::from(there.key.tricks) * WAYS + step.wrapping_sub(turn) % WAYS;
+        if weight < least {
+            best = first + step;
+            least = weight;
         }
     }
     best
@@ -188,11 +186,11 @@ impl Memo {
             return None;
         }
         let first = slot_of(key.code(), self.slots.len());
-        for place in first..first + WAYS {
-            if let Some(entry) = &self.slots[place] {
-                if let Some(answer) = entry.answer_for(key) {
-                    return Some(answer);
-                }
+        // The slots are filled from the first on.
+        for slot in &self.slots[first..first + WAYS] {
+            let entry = slot.as_ref()?;
+            if let Some(answer) = entry.answer_for(key) {
+                return Some(answer);
             }
         }
         None
