@@ -1,16 +1,16 @@
 -- The card that wins a trick, and a card with all higher ones.
-use Rattle.std.proofs.Common.{◌≡◌, ◌≢◌, ◌⊎◌, ℕ, zero, suc, ◌+◌, ◌*◌, ◌<◌, ◌≤◌, Bool, true, false, not, ◌&&◌, ◌||◌, eqb, ltb, List, [], ◌∷◌, ◌++◌, length, get_or, All, AllPairs, refl, sym, ap, subst, ◌∙◌, inl, inr, arith}
+use Rattle.std.proofs.Common.{◌≡◌, ◌≢◌, ◌⊎◌, ℕ, zero, suc, ◌<◌, ◌≤◌, Bool, true, false, not, ◌&&◌, ◌||◌, ltb, List, [], ◌∷◌, ◌++◌, length, get_or, All, AllPairs, refl, sym, ap, subst, ◌∙◌, inl, inr, arith}
 use Rattle.std.specs.Prelude.{Option, MatchOption}
-use Rattle.std.proofs.lemmas.Bool.{false≢true, cases_eq, cases_lt, cases_order, eq-eqb, ne_eqb, lt-ltb, le-ltb, and_parts, or_left, or_right, not-true, ltb-false}
+use Rattle.std.proofs.lemmas.Bool.{false≢true, cases_eq, eq-eqb, ne_eqb, le-ltb, and_parts, or_left, or_right, not-true, ltb-false}
 use Rattle.std.proofs.lemmas.List.{length_push}
 use Rattle.std.proofs.lemmas.List.Elements.{All-push}
 use Rattle.std.proofs.lemmas.List.Quantifiers.{all_pairs_push}
 use Rattle.card_sets.specs.declared.seat.Seat.{Seat}
 use Rattle.card_sets.specs.declared.seat.Seat.TheVariants.{Declarer, Left, Dummy, Right}
-use Rattle.card_sets.specs.Cards.{suit_of, suit_place, same_suit}
+use Rattle.card_sets.specs.Cards.{suit_of, same_suit}
 use Rattle.card_sets.specs.SetWords.{has_card, cards_where, IsCardSet, IsSubset, first_card}
-use Rattle.card_sets.proofs.Sets.{has_card-cards_where, has_card-below, cards_where-agree, IsCardSet-cards_where, IsCardSet-nil}
-use Rattle.card_sets.proofs.Suits.{same_suit-true, card_of-suit_of}
+use Rattle.card_sets.proofs.Sets.{has_card-cards_where, has_card-below, IsCardSet-cards_where}
+use Rattle.card_sets.proofs.Suits.{same_suit-true}
 use Rattle.trick_rules.specs.Positions.{PositionValue, seat_after, places_on, to_play, IsSound}
 use Rattle.trick_rules.specs.Play.{take_out, winning_place, CanPlay}
 use Rattle.trick_rules.proofs.TrickLemmas.{one_winner}
@@ -37,56 +37,6 @@ up_parts low card h =
 pub up_suit : (low card : ℕ) → has_card (up_from low) card ≡ true → suit_of card ≡ suit_of low
 up_suit low card h = (up_parts low card h).0
 
--- ---- from one place to another
-
-or_no : (b : Bool) → (b || false) ≡ b
-or_no true = refl
-or_no false = refl
-
-abbrev pub from_to : ℕ → ℕ → ℕ → Bool
-from_to low end c = not (ltb c low) && ltb c end
-
-pub from_to-none : (low : ℕ) (cards : List ℕ) → cards ≡ [] → cards ≡ cards_where (from_to low low)
-from_to-none low cards e = e ∙ IsCardSet-nil ∙ cards_where-agree (has_card []) (from_to low low) (λ c fits. none (ltb c low))
-  where
-    none : (b : Bool) → false ≡ (not b && b)
-    none true = refl
-    none false = refl
-
-pub from_to-more : (low n : ℕ) (cards new : List ℕ) → low ≤ n → cards ≡ cards_where (from_to low n) → new ≡ cards_where (λ c. has_card cards c || eqb c n) → new ≡ cards_where (from_to low (n + 1))
-from_to-more low n cards new order e f =
-    f ∙ cards_where-agree (λ c. has_card cards c || eqb c n) (from_to low (n + 1)) (λ c fits.
-    ap (λ (b : Bool). b || eqb c n) (ap (λ (l : List ℕ). has_card l c) e ∙ has_card-cards_where (from_to low n) c fits) ∙ step c (cases_order c n))
-  where
-    step : (c : ℕ) → (c ≡ n) ⊎ ((c < n) ⊎ (n < c)) → (from_to low n c || eqb c n) ≡ from_to low (n + 1) c
-    step c (inl same) = rw (eq-eqb c n same, le-ltb c low (omega arith), lt-ltb c (n + 1) (omega arith)) (or_all (ltb c n))
-      where
-        or_all : (b : Bool) → (b || true) ≡ true
-        or_all true = refl
-        or_all false = refl
-    step c (inr (inl less)) = rw (lt-ltb c n less, lt-ltb c (n + 1) (omega arith), ne_eqb c n (λ h. omega arith)) (or_no (not (ltb c low) && true))
-    step c (inr (inr more)) = rw (le-ltb c n (omega arith), le-ltb c (n + 1) (omega arith), ne_eqb c n (λ h. omega arith)) (or_no (not (ltb c low) && false))
-
-pub from_to-all : (low : ℕ) (cards : List ℕ) (end : ℕ) → low < 52 → end ≡ 13 * suit_place (suit_of low) + 12 + 1 → cards ≡ cards_where (from_to low end) → cards ≡ up_from low
-from_to-all low cards end fits is e =
-    e ∙ cards_where-agree (from_to low end) (λ c. same_suit (suit_of c) (suit_of low) && not (ltb c low)) (λ c under. step c under (cases_lt c low))
-  where
-    step : (c : ℕ) → c < 52 → (c < low) ⊎ (low ≤ c) → from_to low end c ≡ (same_suit (suit_of c) (suit_of low) && not (ltb c low))
-    step c under (inl less) = rw (lt-ltb c low less) (sym (and_none (same_suit (suit_of c) (suit_of low))))
-      where
-        and_none : (b : Bool) → (b && false) ≡ false
-        and_none true = refl
-        and_none false = refl
-    step c under (inr more) = rw (le-ltb c low more) (ends (cases_lt c end) ∙ sym (and_all (same_suit (suit_of c) (suit_of low))))
-      where
-        and_all : (b : Bool) → (b && true) ≡ b
-        and_all true = refl
-        and_all false = refl
-
-        ends : (c < end) ⊎ (end ≤ c) → ltb c end ≡ same_suit (suit_of c) (suit_of low)
-        ends (inl less) = lt-ltb c end less ∙ sym (eq-eqb (suit_place (suit_of c)) (suit_place (suit_of low)) (omega (arith, card_of-suit_of c under, card_of-suit_of low fits, is, less, more)))
-        ends (inr past) = le-ltb c end past ∙ sym (ne_eqb (suit_place (suit_of c)) (suit_place (suit_of low)) (λ h. omega (arith, card_of-suit_of c under, card_of-suit_of low fits, is, past, h)))
-
 -- a closed-up set that has a card has all higher ones
 pub up_counts : (cards : List ℕ) (card : ℕ) → IsClosedUp cards → has_card cards card ≡ true → (c : ℕ) → c < 52 → has_card cards c ≡ (has_card cards c || has_card (up_from card) c)
 up_counts cards card closed held c fits = go (has_card cards c) (has_card (up_from card) c) refl refl
@@ -100,10 +50,6 @@ up_counts cards card closed held c fits = go (has_card cards c) (has_card (up_fr
           | inl same ↦ absurd (false≢true (sym e ∙ sym (ap (has_card cards) same) ∙ held))
           | inr other ↦ absurd (false≢true (sym e ∙ closed card c held (sym up.0) (omega (arith, up.1, other)) fits))
         ]
-
--- a card and the last one of its suit
-pub last_fits : (card : ℕ) → card < 52 → card ≤ 13 * suit_place (suit_of card) + 12
-last_fits card fits = omega (arith, card_of-suit_of card fits)
 
 -- ---- two sets
 

@@ -33,11 +33,7 @@ pub(crate) fn last_of(suit: Suit) -> u8
 pub(crate) fn up_from(card: Card) -> CardSet
     ensures { result ≡ up_from_card card }
 {
-    let mut cards = CardSet::empty();
-    for number in card.number()..last_of(card.suit()) + 1 {
-        cards = cards.with(Card::from_number(number));
-    }
-    cards
+    CardSet::up_from(card)
 }
 
 /// The cards with one more and all higher ones of its suit.
