@@ -1,4 +1,4 @@
--- A word whose cards below a place go up one place, and the cards from one up.
+-- A word whose cards below a place go up one place.
 use Rattle.std.proofs.Common.{◌≡◌, ℕ, zero, suc, ◌+◌, ◌-◌, ◌*◌, ◌/◌, ◌%◌, ◌^◌, ◌<◌, ◌≤◌, Bool, true, false, not, List, [], ◌∷◌, map, inl, inr, refl, sym, ap, ap₂, ◌∙◌, arith}
 use Rattle.std.specs.Prelude.{◌==◌, ◌&&◌, ◌||◌, filter, bit_and, bit_or, nat_lt}
 use Rattle.std.specs.Int.{bit_at}
@@ -100,22 +100,3 @@ module _ (n place mask : ℕ) (fits : n < 2 ^ 52) (within : place < 52) (is : pl
       ap (λ m. places 52 (bit_or (bit_and n (2 ^ 64 - 1 - low)) m)) shifted
       ∙ places-or (bit_and n (2 ^ 64 - 1 - low)) (low * 2 ^ 1)
       ∙ cards_where-agree _ _ (λ c small. ap₂ (λ a b. a || b) (stays c small) (goes c small))
-
--- ---- a card and all higher ones
-
-pub places-up_from : (card mask : ℕ) → card < 52 → places 52 mask ≡ cards_where (λ c. same_suit (suit_of c) (suit_of card))
-    → places 52 (bit_and mask ((2 ^ 64 - 1) * 2 ^ card % 2 ^ 64)) ≡ cards_where (λ c. same_suit (suit_of c) (suit_of card) && not (nat_lt c card))
-places-up_from card mask within is =
-    same_set _ _ (IsCardSet-places (bit_and mask ((2 ^ 64 - 1) * 2 ^ card % 2 ^ 64))) (IsCardSet-cards_where (λ c. same_suit (suit_of c) (suit_of card) && not (nat_lt c card))) (λ c small.
-    has_card-places (bit_and mask ((2 ^ 64 - 1) * 2 ^ card % 2 ^ 64)) c small
-    ∙ has_bit-and mask ((2 ^ 64 - 1) * 2 ^ card % 2 ^ 64) c
-    ∙ ap₂ (λ a b. a && b) (sym (has_card-places mask c small) ∙ ap (λ (x : List ℕ). has_card x c) is ∙ has_card-cards_where (λ d. same_suit (suit_of d) (suit_of card)) c small) (over c small)
-    ∙ sym (has_card-cards_where (λ d. same_suit (suit_of d) (suit_of card) && not (nat_lt d card)) c small))
-  where
-    over : (c : ℕ) → c < 52 → has_bit ((2 ^ 64 - 1) * 2 ^ card % 2 ^ 64) c ≡ not (nat_lt c card)
-    over c small =
-        ap (λ m. has_bit m c) (ones_shl 64 card (omega arith))
-        ∙ elim (cases_lt c card) as (λ _. has_bit (2 ^ 64 - 2 ^ card) c ≡ not (nat_lt c card)) [
-          | inl sooner ↦ ap (λ b. b == 1) (bit_at_mask_below card 64 c sooner) ∙ sym (ap not (lt-ltb c card sooner))
-          | inr later ↦ ap (λ b. b == 1) (bit_at_mask_inside card 64 c later (omega arith)) ∙ sym (ap not (le-ltb c card later))
-        ]

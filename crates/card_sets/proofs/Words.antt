@@ -11,7 +11,7 @@ use Rattle.bit_lists.specs.Bits.{has_bit, below, places, number_at}
 use Rattle.bit_lists.proofs.Places.{places-from_bits, places-and, filter-places_agree, among-places, among-places_past, has_bit-or, has_bit-not, has_bit-pow, find-places, number_at-places}
 use Rattle.card_sets.specs.Cards.{suit_of, same_suit}
 use Rattle.card_sets.specs.SetWords.{has_card, cards_where, IsCardSet, IsSubset, Apart, first_card}
-use Rattle.card_sets.proofs.Sets.{IsCardSet-cards_where, has_card-cards_where, filter-cards_where, filter-none, fails-filter_nil}
+use Rattle.card_sets.proofs.Sets.{IsCardSet-cards_where, has_card-cards_where, cards_where-agree, filter-cards_where, filter-none, fails-filter_nil}
 
 -- a word's places are the cards at which it has a one
 pub IsCardSet-places : (n : ℕ) → IsCardSet (places 52 n)
@@ -143,3 +143,20 @@ places-one_below n mask fits is =
     places-masked (n / 2 ^ 1) mask (λ c. same_suit (suit_of c) (suit_of (c + 1))) is
     ∙ ap (filter (λ c. same_suit (suit_of c) (suit_of (c + 1)))) (places-down n fits)
     ∙ filter-cards_where (λ c. same_suit (suit_of c) (suit_of (c + 1))) (λ c. has_card (places 52 n) (c + 1))
+
+-- `mask & (MAX << card)`, for the mask of the cards that pass a test
+pub places-from : (mask card : ℕ) (t : ℕ → Bool) → places 52 mask ≡ cards_where t → card < 52
+    → places 52 (bit_and mask ((2 ^ 64 - 1) * 2 ^ card % 2 ^ 64)) ≡ cards_where (λ c. t c && not (nat_lt c card))
+places-from mask card t is within =
+    places-and 52 mask ((2 ^ 64 - 1) * 2 ^ card % 2 ^ 64)
+    ∙ ap (filter (has_bit ((2 ^ 64 - 1) * 2 ^ card % 2 ^ 64))) is
+    ∙ filter-cards_where (has_bit ((2 ^ 64 - 1) * 2 ^ card % 2 ^ 64)) t
+    ∙ cards_where-agree (λ c. t c && has_bit ((2 ^ 64 - 1) * 2 ^ card % 2 ^ 64) c) (λ c. t c && not (nat_lt c card)) (λ c low. ap (λ b. t c && b) (from c low))
+  where
+    from : (c : ℕ) → c < 52 → has_bit ((2 ^ 64 - 1) * 2 ^ card % 2 ^ 64) c ≡ not (nat_lt c card)
+    from c low =
+        ap (λ m. has_bit m c) (ones_shl 64 card (omega arith))
+        ∙ elim (cases_lt c card) [
+          | inl sooner ↦ ap (λ b. b == 1) (bit_at_mask_below card 64 c sooner) ∙ ap not (sym (lt-ltb c card sooner))
+          | inr later ↦ ap (λ b. b == 1) (bit_at_mask_inside card 64 c later (omega arith)) ∙ ap not (sym (le-ltb c card later))
+        ]

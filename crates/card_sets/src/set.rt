@@ -139,6 +139,17 @@ impl CardSet {
         CardSet { bits: PACK }
     }
 
+    /// The card and all higher ones of its suit.
+    pub fn up_from(card: Card) -> CardSet
+        ensures value { result ≡ cards_where
+            (λ c. same_suit (suit_of c) (suit_of card) && not (nat_lt c card)) }
+        ensures a_set { IsCardSet result }
+    {
+        CardSet {
+            bits: suit_bits(card.suit()) & (u64::MAX << card.number()),
+        }
+    }
+
     /// Whether the card is in the set.
     pub fn has(self, card: Card) -> bool
         ensures value { result ≡ has_card self card }
@@ -290,17 +301,6 @@ impl CardSet {
         ensures a_set { IsCardSet self }
     {
         self.bits & other.bits == 0
-    }
-
-    /// A card and all higher ones of its suit.
-    pub fn up_from(card: Card) -> CardSet
-        ensures value { result
-            ≡ cards_where (λ c. same_suit (suit_of c) (suit_of card) && not (nat_lt c card)) }
-        ensures a_set { IsCardSet result }
-    {
-        CardSet {
-            bits: suit_bits(card.suit()) & (u64::MAX << card.number()),
-        }
     }
 
     /// The cards, with those of a place's suit below it each one place higher.

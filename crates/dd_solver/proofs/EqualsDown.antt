@@ -54,9 +54,6 @@ next_only legal playing card found next within set e h =
 
 -- ---- one of equals
 
-pub spoken-none : (s : State) (kept : List ℕ) → kept ≡ legal_in s → AreSpokenFor s kept
-spoken-none s kept e d h = inl (ap (λ x. has_card x d) e ∙ h)
-
 pub spoken-without : (s : State) (kept new : List ℕ) (card next : ℕ) → AreEqual s card next → new ≡ take_out card kept → AreSpokenFor s kept → AreSpokenFor s new
 spoken-without s kept new card next eq e spoken d h =
     elim (cases_eq d card) as (λ _. (has_card new d ≡ true) ⊎ ((high : ℕ) × AreEqual s d high)) [

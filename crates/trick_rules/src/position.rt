@@ -298,6 +298,7 @@ pub fn play(position: &Position, card: Card) -> Position
 pub fn end_trick(position: &Position, card: Card, place: usize) -> Position
     requires held { CanPlay position.now card }
     requires fourth { length position.now.trick.cards ≡ 3 }
+    requires within { place < 4 }
     requires wins { place
         ≡ winning_place position.now.trump (position.now.trick.cards ++ card ∷ []) }
     ensures value { result ≡ after_card position.now card }

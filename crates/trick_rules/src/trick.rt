@@ -137,16 +137,17 @@ fn is_trump(trump: Trump, card: Card) -> bool
     }
 }
 
-// The seat that many places on, clockwise.
-#[tactic(auto, using(crate::proofs::Turns::seat_after_more))]
+/// The seat that many places on, clockwise: at most once round the table.
 pub(crate) fn seat_after(places: usize, seat: Seat) -> Seat
+    requires { places ≤ 4 }
     ensures { result ≡ seat_that_many_on places seat }
 {
-    let mut there = seat;
-    for _place in 0..places {
-        there = there.next();
+    match places {
+        1 => seat.next(),
+        2 => seat.next().next(),
+        3 => seat.next().next().next(),
+        _ => seat,
     }
-    there
 }
 
 // The place of the card that wins among the cards of a trick so far.
