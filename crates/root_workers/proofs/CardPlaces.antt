@@ -13,8 +13,8 @@ use Rattle.strategy_tree.specs.Bridge.{bridge}
 use Rattle.front_table.specs.Proven.{IsFrontAt}
 use Rattle.alphamu_core.specs.declared.budget.Entered.{Entered}
 use Rattle.root_workers.specs.declared.rounds.Round.{Round}
-use Rattle.root_workers.specs.declared.places.Known.{Known}
-use Rattle.root_workers.specs.declared.places.Known.TheVariants.{Exact}
+use Rattle.root_workers.specs.declared.worker_results.Known.{Known}
+use Rattle.root_workers.specs.declared.worker_results.Known.TheVariants.{Exact}
 use Rattle.root_workers.specs.Rounds.{AreWonAfter, IsKnownAt, IsKnownAfter}
 
 pub drop_first : (xs : List ℕ) (i x : ℕ) (rest : List ℕ) → drop i xs ≡ x ∷ rest → slice_get xs i ≡ Some x

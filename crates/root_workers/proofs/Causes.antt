@@ -1,12 +1,10 @@
 -- The causes of reports.
-use Rattle.std.proofs.Common.{◌≡◌, ◌∙◌, ◌+◌, ◌-◌, ◌<◌, ◌≤◌, ◌↔◌, ◌⊎◌, ℕ, true, false, Some, List, [], ◌∷◌, ◌++◌, map, length, take, slice_get, Contains, inl, inr, refl, sym, ap, subst, arith}
+use Rattle.std.proofs.Common.{◌≡◌, ◌∙◌, ◌+◌, ◌-◌, ◌≤◌, ℕ, Some, List, [], ◌∷◌, ◌++◌, map, length, take, slice_get, Contains, inl, inr, refl, sym, ap, subst, arith}
 use Rattle.std.proofs.lemmas.List.{length-append, length-map, map-append, append_assoc, append-nil}
 use Rattle.std.proofs.lemmas.Option.{slice_get_within}
 use mathlib.Core.List.{IsPrefix}
 use Rattle.trick_rules.specs.Nodes.{NodeValue, choices, child}
-use Rattle.strategy_games.specs.Joins.{WinsByCard}
 use Rattle.strategy_games.proofs.Lists.{Contains-here, Contains-append_first, Contains-append_second}
-use Rattle.strategy_tree.specs.Bridge.{bridge}
 use Rattle.front_table.specs.Entries.{StoredFrontValue, HasKey, stored_front_of}
 use Rattle.front_table.specs.Proven.{ProvenFrontValue, IsFrontAt}
 use Rattle.front_table.specs.declared.store.Put.{Put}
@@ -16,7 +14,7 @@ use Rattle.shared_table.specs.declared.SharedTable.{SharedTable}
 use Rattle.shared_table.specs.declared.Pass.{Pass}
 use Rattle.shared_table.specs.declared.rule.TablePlan.{TablePlan}
 use Rattle.shared_table.specs.declared.rule.TableView.{TableView}
-use Rattle.shared_table.specs.Passes.{PutTells, view_of, list_at, busy_at}
+use Rattle.shared_table.specs.Passes.{PutTells, view_of, list_at}
 use Rattle.shared_table.specs.Stores.{HasGrownAt}
 use Rattle.root_workers.specs.Roots.{AreEnough}
 use Rattle.root_workers.specs.Rounds.{HasSeenMore}

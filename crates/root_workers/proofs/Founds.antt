@@ -1,5 +1,5 @@
 -- What a round found so far of the root cards.
-use Rattle.std.proofs.Common.{◌≡◌, ◌∙◌, ◌+◌, ◌-◌, ◌<◌, ◌≤◌, ◌⊎◌, ℕ, zero, suc, Some, Result, Ok, Err, List, [], ◌∷◌, ◌++◌, length, take, slice_get, Contains, inl, inr, refl, sym, ap, subst, arith}
+use Rattle.std.proofs.Common.{◌≡◌, ◌∙◌, ◌-◌, ◌⊎◌, ℕ, zero, suc, Some, Result, Ok, Err, List, [], ◌∷◌, ◌++◌, length, take, slice_get, inl, inr, refl, sym, ap, subst, arith}
 use Rattle.std.specs.Prelude.{IfOk}
 use Rattle.std.proofs.lemmas.Option.{slice_get_within}
 use Rattle.win_vectors.specs.Fronts.{Vector, IsFrontOf}
@@ -8,7 +8,7 @@ use Rattle.strategy_games.specs.Joins.{WinsByCard}
 use Rattle.strategy_tree.specs.Bridge.{bridge}
 use Rattle.alphamu_core.specs.declared.answers.Found.{Found}
 use Rattle.alphamu_core.specs.declared.answers.Found.TheVariants.{Exact, Below}
-use Rattle.alphamu_core.specs.Findings.{IsFound, IsExact}
+use Rattle.alphamu_core.specs.Findings.{IsFound}
 use Rattle.root_workers.specs.Roots.{AreEnough}
 use Rattle.root_workers.specs.declared.rounds.RoundFront.{RoundFront}
 use Rattle.root_workers.specs.Founds.{IsFoundAfter, IsFoundAt, AreFound}

@@ -1,5 +1,5 @@
 -- What a search tells of a root card.
-use Rattle.std.proofs.Common.{◌≡◌, ◌-◌, ◌≤◌, ℕ, Some, List, Contains, slice_get, take}
+use Rattle.std.proofs.Common.{◌≡◌, ◌-◌, ◌≤◌, ℕ, Some, List, slice_get, take}
 use Rattle.win_vectors.specs.Fronts.{Vector}
 use Rattle.trick_rules.specs.Nodes.{choices, child}
 use Rattle.cut_rules.specs.Rules.{no_cuts}

@@ -7,3 +7,4 @@ pub mod Founds
 pub mod Causes
 pub mod Stopped
 pub mod KnownCards
+pub mod RootEnds

@@ -4,3 +4,4 @@ pub mod Rounds
 pub mod Plain
 pub mod Founds
 pub mod Reports
+pub mod Questions

@@ -17,10 +17,9 @@ use Rattle.shared_table.specs.Passes.{view_of}
 use Rattle.shared_table.specs.Stores.{HasGrownAt}
 use Rattle.root_workers.specs.Roots.{IsCoveredBefore}
 use Rattle.root_workers.specs.declared.rounds.Round.{Round}
-use Rattle.root_workers.specs.declared.places.Known.{Known}
-use Rattle.root_workers.specs.declared.places.Known.TheVariants.{Exact, Below, Spent}
-use Rattle.root_workers.specs.declared.places.Place.{Place}
-use Rattle.root_workers.specs.declared.alpha.Own.{Own}
+use Rattle.root_workers.specs.declared.worker_results.Known.{Known}
+use Rattle.root_workers.specs.declared.worker_results.Known.TheVariants.{Exact, Below, Spent}
+use Rattle.root_workers.specs.declared.alpha.WonSoFar.{WonSoFar}
 
 -- a round at a node where declarer's side is to play, with the front with a move less where it may stop by that
 pub record IsRound (r : Round) : Type 0 where
@@ -29,13 +28,13 @@ pub record IsRound (r : Round) : Type 0 where
   pub some_moves : 1 ≤ r.moves
   pub few_moves : r.moves ≤ most_moves
   pub weights : length r.weights.now ≡ length r.node.now.lefts
-  pub width : r.less.now.width ≡ length r.node.now.lefts
-  pub less : r.rules.stop ≢ Never → IsFront bridge r.node.now (r.moves - 1) r.less.now.vectors
+  pub width : r.previous.now.width ≡ length r.node.now.lefts
+  pub previous : r.rules.stop ≢ Never → IsFront bridge r.node.now (r.moves - 1) r.previous.now.vectors
 
 -- the search has neither cuts nor a table
 pub record IsPlainRound (r : Round) : Type 0 where
   pub cuts : r.rules ≡ no_cuts
-  pub table : r.looks ≡ false
+  pub table : r.uses_table ≡ false
 
 -- how many nodes the tree after a root card has
 abbrev pub size_after : Round → ℕ → ℕ
@@ -62,15 +61,11 @@ pub record IsKnownAt (r : Round) (place : ℕ) (known : Known) : Type 0 where
   pub here : slice_get (choices r.node.now) place ≡ Some card
   pub known_is : IsKnownAfter r (take place (choices r.node.now)) card known
 
--- what is said at each place is so
-abbrev pub IsRight : Round → Place → Type 0
-IsRight r p = IsKnownAt r p.place p.known
-
 -- a pass has seen no less, and counted no less
 abbrev pub HasSeenMore : Pass → Pass → Type 0
 HasSeenMore early late = (i : ℕ) → HasGrownAt i (view_of early) (view_of late)
 
 -- a worker's own cards stand before the place `next`, and win each of the vectors
-pub record IsOwn (r : Round) (own : Own) : Type 0 where
+pub record IsWonSoFar (r : Round) (own : WonSoFar) : Type 0 where
   pub won : AreWonAfter r (take own.next (choices r.node.now)) own.front.vectors
   pub width : own.front.width ≡ length r.node.now.lefts

@@ -7,7 +7,7 @@ ghost use Rattle.strategy_tree.specs.Bridge.{bridge};
 ghost use Rattle.cut_rules.specs.Stops.{IsGreatestWeight};
 ghost use Rattle.front_table.specs.Entries.{most_entry_vectors};
 ghost use Rattle.shared_table.specs.Passes.{IsPassOf};
-ghost use Rattle.root_workers.specs.Rounds.{IsRound, IsOwn, AreWonAfter, HasSeenMore};
+ghost use Rattle.root_workers.specs.Rounds.{IsRound, IsWonSoFar, AreWonAfter, HasSeenMore};
 
 use crate::rounds::Round;
 use card_sets::Card;
@@ -19,7 +19,7 @@ use std::alloc::AllocError;
 
 /// What a worker's own cards win. All of them come before the place `next`.
 #[derive(Drop)]
-pub struct Own {
+pub struct WonSoFar {
     pub front: Front,
     pub next: u64,
 }
@@ -84,20 +84,20 @@ fn add_all_seen(
 }
 
 /// No card of its own yet.
-pub fn no_card(round: &Round) -> Own
+pub fn no_card(round: &Round) -> WonSoFar
     requires { IsRound round.now }
-    ensures { IsOwn round.now result }
+    ensures { IsWonSoFar round.now result }
 {
-    Own {
+    WonSoFar {
         front: Front::new(round.alloc, round.node.width()),
         next: 0,
     }
 }
 
 // What a worker's own cards win, if all of them stand before a place.
-fn own_before(round: &Round, place: u32, own: &Own) -> Result<Front, AllocError>
+fn own_before(round: &Round, place: u32, own: &WonSoFar) -> Result<Front, AllocError>
     requires round { IsRound round.now }
-    requires own { IsOwn round.now own.now }
+    requires own { IsWonSoFar round.now own.now }
     ensures won { IfOk result (λ alpha. AreWonAfter round.now
         (take place (choices round.now.node.now)) alpha.vectors) }
     ensures width { IfOk result (λ alpha. alpha.width ≡ length round.now.node.now.lefts) }
@@ -114,11 +114,11 @@ pub fn known_before(
     round: &Round,
     pass: &mut Pass,
     place: u32,
-    own: &Own,
+    own: &WonSoFar,
 ) -> Result<Front, AllocError>
     requires round { IsRound round.now }
     requires pass { IsPassOf round.now.table.now pass.old }
-    requires own { IsOwn round.now own.now }
+    requires own { IsWonSoFar round.now own.now }
     ensures won { IfOk result (λ alpha. AreWonAfter round.now
         (take place (choices round.now.node.now)) alpha.vectors) }
     ensures width { IfOk result (λ alpha. alpha.width ≡ length round.now.node.now.lefts) }
@@ -129,7 +129,7 @@ pub fn known_before(
         return Ok(Front::new(round.alloc, round.node.width()));
     }
     let mut alpha = own_before(round, place, own)?;
-    if round.looks {
+    if round.uses_table {
         add_all_seen(round, pass, place, &mut alpha)?;
         return Ok(alpha);
     }
@@ -142,16 +142,16 @@ pub fn is_enough_before(round: &Round, alpha: &Front) -> bool
     requires width { alpha.now.width ≡ length round.now.node.now.lefts }
     ensures never { round.now.rules.stop ≡ Stop.Never → result ≡ false }
     ensures front { round.now.rules.stop ≡ Stop.SameFront → IsTrue result
-        → CoversAll alpha.now.vectors round.now.less.now.vectors }
+        → CoversAll alpha.now.vectors round.now.previous.now.vectors }
     ensures weight { round.now.rules.stop ≡ Stop.SameWeight → IsTrue result → (weight : ℕ)
         × IsGreatestWeight round.now.weights.now alpha.now.vectors weight
-        × IsGreatestWeight round.now.weights.now round.now.less.now.vectors weight }
+        × IsGreatestWeight round.now.weights.now round.now.previous.now.vectors weight }
 {
     match round.rules.stop {
         Stop::Never => false,
-        Stop::SameFront => same_front_stop(alpha, round.less),
+        Stop::SameFront => same_front_stop(alpha, round.previous),
         Stop::SameWeight => match greatest_weight(alpha, round.weights) {
-            Some(weight) => same_weight_stop(weight, round.less, round.weights),
+            Some(weight) => same_weight_stop(weight, round.previous, round.weights),
             None => false,
         },
     }

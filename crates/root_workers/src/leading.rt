@@ -57,19 +57,19 @@ pub fn with_card(
 }
 
 /// Whether the cards so far are enough, by the front with a move less.
-pub fn is_enough(stop: Stop, front: &Front, best: u32, less: &Front, weights: &Weights) -> bool
-    requires front { front.now.width ≡ less.now.width }
-    requires weights { length weights.now ≡ less.now.width }
+pub fn is_enough(stop: Stop, front: &Front, best: u32, previous: &Front, weights: &Weights) -> bool
+    requires front { front.now.width ≡ previous.now.width }
+    requires weights { length weights.now ≡ previous.now.width }
     ensures never { stop ≡ Stop.Never → result ≡ false }
     ensures front { stop ≡ Stop.SameFront → IsTrue result
-        → CoversAll front.now.vectors less.now.vectors }
+        → CoversAll front.now.vectors previous.now.vectors }
     ensures weight { stop ≡ Stop.SameWeight → IsTrue result
-        → IsGreatestWeight weights.now less.now.vectors best }
+        → IsGreatestWeight weights.now previous.now.vectors best }
 {
     match stop {
         Stop::Never => false,
-        Stop::SameFront => same_front_stop(front, less),
-        Stop::SameWeight => same_weight_stop(best, less, weights),
+        Stop::SameFront => same_front_stop(front, previous),
+        Stop::SameWeight => same_weight_stop(best, previous, weights),
     }
 }
 

@@ -3,19 +3,20 @@
 //! Its contract promises the definition's front, named card and best weight for any number of workers, every table and with cuts or none, or a root card whose tree is too large.
 #![tactic(auto)]
 
-mod ahead;
 mod alpha;
-mod cards;
+mod best_card;
+mod card_search;
 mod deepening;
 mod leading;
-mod merge;
-mod places;
+mod question;
 mod reports;
 mod root;
+mod round_work;
 mod rounds;
 mod searches;
-mod share;
-mod worker;
+mod shared_cards;
+mod worker_results;
+mod workers;
 
 pub use reports::{CardReport, Outcome, Stored};
 pub use root::{Options, RootCard, RootFront, root_card, root_front};

@@ -8,14 +8,13 @@ ghost use Rattle.root_workers.specs.Rounds.{HasSeenMore};
 ghost use Rattle.root_workers.specs.Founds.{AreFound};
 ghost use Rattle.root_workers.specs.Reports.{stored_of, IsStoredAs, HasCause, AreReports, course_of};
 
-use crate::root::Options;
+use crate::question::Question;
 use alphamu_core::Found;
 use card_sets::Card;
 use front_table::{ProvenFront, Put};
 use pareto_fronts::Front;
-use shared_table::{Pass, SharedTable};
-use std::alloc::{AllocError, Global};
-use trick_rules::Node;
+use shared_table::Pass;
+use std::alloc::AllocError;
 
 /// What became of the front after a root card, once it was found whole.
 #[derive(Clone, Copy, Debug, PartialEq, Eq)]
@@ -52,27 +51,18 @@ pub struct CardReport {
     pub outcome: Outcome,
 }
 
-/// A root whose cards are reported, with `moves` moves.
-#[derive(Drop)]
-pub struct Reported<'a> {
-    pub alloc: Global,
-    pub node: &'a Node,
-    pub moves: u8,
-    pub options: &'a Options,
-    pub table: &'a SharedTable,
-}
-
 // The front after a root card, as an entry of the table.
-fn entry_of(root: &Reported, card: Card, front: &Front) -> Result<ProvenFront, AllocError>
-    requires some_moves { 1 ≤ root.now.moves }
-    requires card { Contains (choices root.now.node.now) card }
-    requires front { IsFrontAt (child root.now.node.now card) (root.now.moves - 1) front.now }
-    ensures node { IfOk result (λ entry. entry.node ≡ child root.now.node.now card) }
-    ensures moves { IfOk result (λ entry. entry.moves ≡ root.now.moves - 1) }
+fn entry_of(question: &Question, card: Card, front: &Front) -> Result<ProvenFront, AllocError>
+    requires some_moves { 1 ≤ question.now.moves }
+    requires card { Contains (choices question.now.node.now) card }
+    requires front { IsFrontAt (child question.now.node.now card) (question.now.moves - 1)
+        front.now }
+    ensures node { IfOk result (λ entry. entry.node ≡ child question.now.node.now card) }
+    ensures moves { IfOk result (λ entry. entry.moves ≡ question.now.moves - 1) }
     ensures front { IfOk result (λ entry. IsFrontAt entry.node entry.moves entry.front) }
 {
-    let (child, _) = root.node.child(root.alloc, card)?;
-    Ok(ProvenFront::new(child, root.moves - 1, front.copy()?))
+    let (child, _) = question.node.child(question.alloc, card)?;
+    Ok(ProvenFront::new(child, question.moves - 1, front.copy()?))
 }
 
 // What became of a front that was put.
@@ -89,72 +79,76 @@ fn stand_of(put: &Put) -> Stored
 }
 
 // Puts the front after a root card into the table, if there is one, and says what became of it.
-fn put_front(root: &Reported, pass: &mut Pass, card: Card, front: &Front) -> Stored
-    requires pass { IsPassOf root.now.table.now pass.old }
-    requires some_moves { 1 ≤ root.now.moves }
-    requires card { Contains (choices root.now.node.now) card }
-    requires front { IsFrontAt (child root.now.node.now card) (root.now.moves - 1) front.now }
-    ensures stored { IsStoredAs (table_plan root.now.table.now) (child root.now.node.now card)
-        (root.now.moves - 1) (view_of pass.old) (view_of pass.new) result }
-    ensures off { (result ≡ Stored.Off) ↔ (root.now.options.now.table ≡ false) }
-    ensures pass { IsPassOf root.now.table.now pass.new }
+fn put_front(question: &Question, pass: &mut Pass, card: Card, front: &Front) -> Stored
+    requires pass { IsPassOf question.now.table.now pass.old }
+    requires some_moves { 1 ≤ question.now.moves }
+    requires card { Contains (choices question.now.node.now) card }
+    requires front { IsFrontAt (child question.now.node.now card) (question.now.moves - 1)
+        front.now }
+    ensures stored { IsStoredAs (table_plan question.now.table.now)
+        (child question.now.node.now card)
+        (question.now.moves - 1) (view_of pass.old) (view_of pass.new) result }
+    ensures off { (result ≡ Stored.Off) ↔ (question.now.options.now.table ≡ false) }
+    ensures pass { IsPassOf question.now.table.now pass.new }
     ensures grown { HasSeenMore pass.old pass.new }
 {
-    if !root.options.table {
+    if !question.options.table {
         return Stored::Off;
     }
-    let Ok(entry) = entry_of(root, card, front) else {
+    let Ok(entry) = entry_of(question, card, front) else {
         return Stored::Memory;
     };
-    stand_of(&root.table.put(pass, entry))
+    stand_of(&question.table.put(pass, entry))
 }
 
 // What became of the root card at a place, by what was found.
 fn outcome_of(
-    root: &Reported,
+    question: &Question,
     pass: &mut Pass,
     founds: &Vec<Found>,
     place: usize,
     card: Card,
 ) -> Outcome
-    requires some_moves { 1 ≤ root.now.moves }
-    requires pass { IsPassOf root.now.table.now pass.old }
-    requires founds { AreFound root.now.node.now root.now.moves
-        (root.now.options.now.cuts ≡ true) founds.now.items }
-    requires card { slice_get (choices root.now.node.now) place ≡ Some card }
-    ensures cause { HasCause (course_of root.now.node.now root.now.moves root.now.options.now
-        root.now.table.now pass.old pass.new) (take place (choices root.now.node.now)) card result }
-    ensures pass { IsPassOf root.now.table.now pass.new }
+    requires some_moves { 1 ≤ question.now.moves }
+    requires pass { IsPassOf question.now.table.now pass.old }
+    requires founds { AreFound question.now.node.now question.now.moves
+        (question.now.options.now.cuts ≡ true) founds.now.items }
+    requires card { slice_get (choices question.now.node.now) place ≡ Some card }
+    ensures cause { HasCause (course_of question.now.node.now question.now.moves
+        question.now.options.now question.now.table.now pass.old pass.new)
+        (take place (choices question.now.node.now)) card result }
+    ensures pass { IsPassOf question.now.table.now pass.new }
     ensures grown { HasSeenMore pass.old pass.new }
 {
     if place >= founds.len() {
         return Outcome::Skipped;
     }
     match &founds[place] {
-        Found::Exact(front) => Outcome::Exact(put_front(root, pass, card, front)),
+        Found::Exact(front) => Outcome::Exact(put_front(question, pass, card, front)),
         Found::Below => Outcome::Below,
     }
 }
 
 /// What became of each root card, in card order, by what the last round found.
 pub fn reports(
-    root: &Reported,
+    question: &Question,
     pass: &mut Pass,
     founds: &Vec<Found>,
 ) -> Result<Vec<CardReport>, AllocError>
-    requires some_moves { 1 ≤ root.now.moves }
-    requires pass { IsPassOf root.now.table.now pass.old }
-    requires founds { AreFound root.now.node.now root.now.moves
-        (root.now.options.now.cuts ≡ true) founds.now.items }
-    ensures reports { IfOk result (λ reports. AreReports (course_of root.now.node.now
-        root.now.moves root.now.options.now root.now.table.now pass.old pass.new) reports.items) }
-    ensures pass { IsPassOf root.now.table.now pass.new }
+    requires some_moves { 1 ≤ question.now.moves }
+    requires pass { IsPassOf question.now.table.now pass.old }
+    requires founds { AreFound question.now.node.now question.now.moves
+        (question.now.options.now.cuts ≡ true) founds.now.items }
+    ensures reports { IfOk result (λ reports. AreReports (course_of question.now.node.now
+        question.now.moves question.now.options.now question.now.table.now pass.old pass.new)
+        reports.items) }
+    ensures pass { IsPassOf question.now.table.now pass.new }
     ensures grown { HasSeenMore pass.old pass.new }
 {
-    let mut reports = Vec::new(root.alloc);
-    let mut cards = root.node.choices();
+    let mut reports = Vec::new(question.alloc);
+    let mut cards = question.node.choices();
     'cards: while let Some(card) = cards.pop_first() {
-        let outcome = outcome_of(root, pass, founds, reports.len(), card);
+        let outcome = outcome_of(question, pass, founds, reports.len(), card);
         reports.push(CardReport { card, outcome })?;
     }
     Ok(reports)

@@ -12,7 +12,8 @@ ghost use Rattle.root_workers.specs.Rounds.{HasSeenMore};
 ghost use Rattle.root_workers.specs.Reports.{AreReports, course_of};
 
 use crate::deepening::rounds;
-use crate::reports::{CardReport, Reported, reports};
+use crate::question::Question;
+use crate::reports::{CardReport, reports};
 use alphamu_core::{Entered, RootFault};
 use am_outside::Gate;
 use card_sets::Card;
@@ -107,17 +108,16 @@ pub fn root_front<R: Threads + Sync, G: Gate>(
     ensures grown { HasSeenMore pass.old pass.new }
 {
     let stop = Stop::SameFront;
-    let found = rounds(
-        rt, alloc, node, moves, weights, options, table, pass, gate, stop,
-    )?;
-    let root = Reported {
+    let question = Question {
         alloc,
         node,
         moves,
+        weights,
         options,
         table,
     };
-    let cards = reports(&root, pass, &found.founds)?;
+    let found = rounds(rt, &question, pass, gate, stop)?;
+    let cards = reports(&question, pass, &found.founds)?;
     Ok(RootFront {
         front: found.front,
         card: found.card,
@@ -163,9 +163,15 @@ pub fn root_card<R: Threads + Sync, G: Gate>(
     ensures grown { HasSeenMore pass.old pass.new }
 {
     let stop = Stop::SameWeight;
-    let found = rounds(
-        rt, alloc, node, moves, weights, options, table, pass, gate, stop,
-    )?;
+    let question = Question {
+        alloc,
+        node,
+        moves,
+        weights,
+        options,
+        table,
+    };
+    let found = rounds(rt, &question, pass, gate, stop)?;
     Ok(RootCard {
         card: found.card,
         weight: found.weight,

@@ -18,13 +18,13 @@ pub struct Round<'a> {
     pub moves: u8,
     pub nodes: u64,
     pub rules: CutRules,
-    pub less: &'a Front,
+    pub previous: &'a Front,
     pub table: &'a SharedTable,
     /// Whether the searches look into the table.
-    pub looks: bool,
+    pub uses_table: bool,
     /// The root cards that workers search side by side, if there are two or more. The others the
     /// calling thread searches, in card order.
-    pub ahead: CardSet,
+    pub shared_cards: CardSet,
 }
 
 /// What a round finds: the front, the card that leads with its weight, what was found after each

@@ -1,36 +1,44 @@
-use Rattle.std.proofs.Common.{◌≡◌, ◌∙◌, ◌-◌, ◌≤◌, Err, arith, ap, sym}
+use Rattle.std.proofs.Common.{◌≡◌, ◌∙◌, true, Err, ap, sym, true≢false}
 use Rattle.std.specs.Prelude.{⊤}
 use Rattle.cut_rules.specs.declared.CutRules.{CutRules}
-use Rattle.cut_rules.specs.Rules.{no_cuts}
+use Rattle.root_workers.specs.Plain.{IsPlain}
 use Rattle.root_workers.proofs.Founds.{found_by}
-use Rattle.alphamu_core.specs.declared.answers.RootFault.TheVariants.{Spent}
+use Rattle.root_workers.proofs.RootEnds.{end_passed, fault_end, spent_end}
 use Rattle.root_workers.proofs.Seen.{seen_more}
-use Rattle.root_workers.proofs.Stops.{passed_on, spent_more}
 use Rattle.root_workers.proofs.deepening.cut_rounds.Goals as goal
 
-pub returns-in_err-less-clause-spent : goal.returns-in_err-less-clause-spent
-returns-in_err-less-clause-spent g c = λ card e.
-    let fault = passed_on c.from_residual.result c.in_err-less.field-0.0 (Spent card) c.from_residual.ensures.1 e in
-    let fewer : c.args.moves - 1 ≤ c.args.moves = omega arith in
-    spent_more c.args.node.now (c.args.moves - 1) c.args.moves c.args.options.now.nodes card fewer (c.in_err-less.ensures.spent card (ap Err fault))
+pub returns-in_err-before-clause-answer : goal.returns-in_err-before-clause-answer
+returns-in_err-before-clause-answer g c =
+    let q = c.args.question.now in
+    let n = q.node.now in
+    end_passed n q.moves q.options.now.nodes q.weights.now _ _ _ c.from_residual.result c.in_err-before.field-0.0 c.from_residual.ensures.1
+    (fault_end n q.moves q.options.now.nodes q.weights.now ⊤ ⊤ (IsPlain q.options.now) c.in_err-before.field-0.0 (λ card is. c.in_err-before.ensures.spent card (ap Err is))
+    (λ plain card is. absurd (true≢false (sym c.requires.cuts ∙ plain.cuts))))
 
 pub returns-clause-grown : goal.returns-clause-grown
 returns-clause-grown g c = seen_more c.args.pass.now c.deepened.new.pass c.run_round.new.pass c.deepened.ensures.grown c.run_round.ensures.grown
 
-pub returns-in_err-last-clause-spent : goal.returns-in_err-last-clause-spent
-returns-in_err-last-clause-spent g c = λ card e.
-    c.in_err-last.ensures.spent card (ap Err (passed_on c.from_residual-in_err-last.result c.in_err-last.field-0.0 (Spent card) c.from_residual-in_err-last.ensures.1 e))
+pub returns-in_err-last-clause-answer : goal.returns-in_err-last-clause-answer
+returns-in_err-last-clause-answer g c =
+    let q = c.args.question.now in
+    let n = q.node.now in
+    end_passed n q.moves q.options.now.nodes q.weights.now _ _ _ c.from_residual-in_err-last.result c.in_err-last.field-0.0 c.from_residual-in_err-last.ensures.1
+    (fault_end n q.moves q.options.now.nodes q.weights.now ⊤ ⊤ (IsPlain q.options.now) c.in_err-last.field-0.0
+    (λ card is. (spent_end n q.moves q.options.now.nodes q.weights.now ⊤ ⊤ _ c.in_err-last.field-0.0 card is c.in_err-last.ensures.end).0)
+    (λ plain card is. absurd (true≢false (sym c.requires.cuts ∙ plain.cuts))))
 
 pub returns-in_err-last-clause-grown : goal.returns-in_err-last-clause-grown
 returns-in_err-last-clause-grown g c = seen_more c.args.pass.now c.deepened.new.pass c.run_round.new.pass c.deepened.ensures.grown c.run_round.ensures.grown
 
-pub returns-clause-front : goal.returns-clause-front
-returns-clause-front g c = λ other. c.in_ok-last.ensures.front (λ e. other (sym (ap (λ (r : CutRules). r.stop) c.all.ensures) ∙ e))
-
-pub returns-clause-within : goal.returns-clause-within
-returns-clause-within g c = c.larger-last.ensures.within c.args.options.now.nodes c.in_ok-last.ensures.within c.in_ok-less.ensures.within
-
-pub returns-clause-founds : goal.returns-clause-founds
-returns-clause-founds g c = λ other.
-    found_by c.args.node.now c.args.moves (c.all.result ≡ no_cuts → ⊥) ⊤ c.in_ok-last.last.founds.items (λ _. tt)
-    (c.in_ok-last.ensures.founds (λ e. other (sym (ap (λ (r : CutRules). r.stop) c.all.ensures) ∙ e)))
+pub returns-clause-answer : goal.returns-clause-answer
+returns-clause-answer g c =
+    let q = c.args.question.now in
+    let end = c.in_ok-last.ensures.end in record {
+      front = λ other. end.front (λ e. other (sym (ap (λ (r : CutRules). r.stop) c.all.ensures) ∙ e));
+      founds = λ other. found_by q.node.now q.moves _ (q.options.now.cuts ≡ true) c.in_ok-last.last.founds.items (λ _. c.requires.cuts)
+          (end.founds (λ e. other (sym (ap (λ (r : CutRules). r.stop) c.all.ensures) ∙ e)));
+      card = end.card;
+      weight = end.weight;
+      within = c.larger-last.ensures.within q.options.now.nodes end.within c.in_ok-before.ensures.within;
+      fits = λ plain. absurd (true≢false (sym c.requires.cuts ∙ plain.cuts));
+    }

@@ -7,8 +7,8 @@ use Rattle.root_workers.proofs.deepening.deepened.Given as goal
 
 abbrev pub invariant-loop-fewer : goal.invariant-loop-fewer
 invariant-loop-fewer g l = record {
-  pass : IsPassOf l.table l.pass;
+  pass : IsPassOf l.question.table.now l.pass;
   grown : HasSeenMore l.fn.pass l.pass;
-  front : IsFrontAt l.node l.fewer l.front;
-  most : IfSome l.most (IsWithin l.options.nodes);
+  front : IsFrontAt l.question.node.now l.fewer l.front;
+  most : IfSome l.most (IsWithin l.question.options.now.nodes);
 }

@@ -1,4 +1,4 @@
-use Rattle.std.proofs.Common.{◌≡◌, ◌<◌, ◌≤◌, length, Some, slice_get, take, true, arith, refl, sym, subst, ◌∙◌}
+use Rattle.std.proofs.Common.{◌≡◌, ◌<◌, ◌≤◌, length, Some, slice_get, take, true, arith, refl, subst}
 use Rattle.std.proofs.lemmas.Option.{slice_get_within, slice_get_read}
 use Rattle.trick_rules.specs.Nodes.{choices}
 use Rattle.alphamu_core.specs.declared.answers.Found.{Found}
@@ -10,7 +10,7 @@ use Rattle.root_workers.proofs.reports.outcome_of.Goals as goal
 
 pub returns-then-place-len-clause-cause : goal.returns-then-place-len-clause-cause
 returns-then-place-len-clause-cause c =
-    let r = c.args.root.now in
+    let r = c.args.question.now in
     let within = slice_get_within (choices r.node.now) c.args.place c.args.card c.requires.card in
     let all : length c.args.founds.now.items ≤ c.args.place = omega arith in
     let few : length c.args.founds.now.items < length (choices r.node.now) = omega (arith, within, all) in
@@ -18,11 +18,11 @@ returns-then-place-len-clause-cause c =
     (enough.1, enough_more r.node.now r.moves r.options.now r.table.now (length c.args.founds.now.items) c.args.place enough.0 all)
 
 pub put_front-requires-clause-card : goal.put_front-requires-clause-card
-put_front-requires-clause-card c = get_in (choices c.args.root.now.node.now) c.args.place c.args.card c.requires.card
+put_front-requires-clause-card c = get_in (choices c.args.question.now.node.now) c.args.place c.args.card c.requires.card
 
 pub put_front-requires-clause-front : goal.put_front-requires-clause-front
 put_front-requires-clause-front c =
-    let r = c.args.root.now in
+    let r = c.args.question.now in
     let inside : c.args.place < length c.args.founds.now.items = omega arith in
     let here : slice_get c.args.founds.now.items c.args.place ≡ Some c.index.result.now = slice_get_read c.args.founds.now.items (length c.args.founds.now.items) c.args.place c.index.result.now refl inside c.index.ensures in
     subst (λ (f : Found). IsFoundAfter r.node.now r.moves (r.options.now.cuts ≡ true) (take c.args.place (choices r.node.now)) c.args.card f) c.in-Exact.is
@@ -30,7 +30,7 @@ put_front-requires-clause-front c =
 
 pub returns-in-Below-clause-cause : goal.returns-in-Below-clause-cause
 returns-in-Below-clause-cause c =
-    let r = c.args.root.now in
+    let r = c.args.question.now in
     let inside : c.args.place < length c.args.founds.now.items = omega arith in
     let here : slice_get c.args.founds.now.items c.args.place ≡ Some c.index.result.now = slice_get_read c.args.founds.now.items (length c.args.founds.now.items) c.args.place c.index.result.now refl inside c.index.ensures in
     let is = subst (λ (f : Found). IsFoundAfter r.node.now r.moves (r.options.now.cuts ≡ true) (take c.args.place (choices r.node.now)) c.args.card f) c.in-Below.is

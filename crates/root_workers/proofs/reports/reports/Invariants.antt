@@ -6,9 +6,9 @@ use Rattle.root_workers.proofs.reports.reports.Given as goal
 
 abbrev pub invariant-cards : goal.invariant-cards
 invariant-cards l = record {
-  pass : IsPassOf l.root.table.now l.pass;
+  pass : IsPassOf l.question.table.now l.pass;
   grown : HasSeenMore l.fn.pass l.pass;
-  so : ReportsSoFar l.root.node.now l.root.moves l.root.options.now l.root.table.now l.fn.pass l.pass l.cards l.reports.items;
+  so : ReportsSoFar l.question.node.now l.question.moves l.question.options.now l.question.table.now l.fn.pass l.pass l.cards l.reports.items;
 }
 
 abbrev pub decreases-cards : goal.decreases-cards

@@ -1,0 +1,49 @@
+-- What a root is asked, and how its search may end.
+use Rattle.std.specs.Prelude.{◌≡◌, ◌≢◌, ◌≤◌, ⊤, ℕ, true, false, List, Result, Ok, Err, length}
+use Rattle.trick_rules.specs.Nodes.{NodeValue, most_moves}
+use Rattle.strategy_games.specs.Choosing.{IsBestWeight, IsNamedByWeight}
+use Rattle.strategy_tree.specs.Bridge.{bridge}
+use Rattle.cut_rules.specs.declared.Stop.TheVariants.{SameWeight}
+use Rattle.cut_rules.specs.Rules.{no_cuts}
+use Rattle.front_table.specs.Proven.{IsFrontAt}
+use Rattle.alphamu_core.specs.Costs.{IsWithin}
+use Rattle.alphamu_core.specs.declared.answers.RootFault.{RootFault}
+use Rattle.alphamu_core.specs.declared.answers.RootFault.TheVariants.{Spent, Memory}
+use Rattle.root_workers.specs.Roots.{IsSpentAt, IsFirstSpentAt, AllFit}
+use Rattle.root_workers.specs.Founds.{AreFound}
+use Rattle.root_workers.specs.Plain.{IsPlain}
+use Rattle.root_workers.specs.Rounds.{IsPlainRound}
+use Rattle.root_workers.specs.declared.question.Question.{Question}
+use Rattle.root_workers.specs.declared.rounds.Round.{Round}
+use Rattle.root_workers.specs.declared.rounds.RoundFront.{RoundFront}
+
+-- declarer's side is to play, the play isn't over, and each layout has a weight
+pub record IsQuestion (q : Question) : Type 0 where
+  pub ours : bridge.is_ours q.node.now ≡ true
+  pub goes_on : bridge.is_over q.node.now ≡ false
+  pub some_moves : 1 ≤ q.moves
+  pub few_moves : q.moves ≤ most_moves
+  pub weights : length q.weights.now ≡ length q.node.now.lefts
+
+-- what is found at a root within so many nodes: the card and the best weight, and the front if it is to be whole
+pub record IsFoundRoot (n : NodeValue) (moves nodes : ℕ) (weights : List ℕ) (whole cuts plain : Type 0) (root : RoundFront) : Type 0 where
+  pub front : whole → IsFrontAt n moves root.front
+  pub founds : whole → AreFound n moves cuts root.founds.items
+  pub card : IsNamedByWeight bridge weights n moves root.card
+  pub weight : IsBestWeight bridge weights n moves root.weight
+  pub within : IsWithin nodes root.most
+  pub fits : plain → AllFit n moves nodes
+
+-- or a root card whose tree is too large, in a plain search the first one
+abbrev pub IsRootEnd : NodeValue → ℕ → ℕ → List ℕ → Type 0 → Type 0 → Type 0 → Result RoundFront RootFault → Type 0
+IsRootEnd n moves nodes weights whole cuts plain (Ok root) = IsFoundRoot n moves nodes weights whole cuts plain root
+IsRootEnd n moves nodes weights whole cuts plain (Err (Spent card)) = IsSpentAt n moves nodes card × (plain → IsFirstSpentAt n moves nodes card)
+IsRootEnd n moves nodes weights whole cuts plain (Err Memory) = ⊤
+
+-- how a round may end
+abbrev pub IsRoundEnd : Round → Result RoundFront RootFault → Type 0
+IsRoundEnd r result = IsRootEnd r.node.now r.moves r.nodes r.weights.now (r.rules.stop ≢ SameWeight) (r.rules ≢ no_cuts) (IsPlainRound r) result
+
+-- how the search of a root may end
+abbrev pub IsAnswer : Question → Type 0 → Result RoundFront RootFault → Type 0
+IsAnswer q whole result = IsRootEnd q.node.now q.moves q.options.now.nodes q.weights.now whole (q.options.now.cuts ≡ true) (IsPlain q.options.now) result

@@ -1,0 +1,31 @@
+//! What workers know of root cards.
+ghost use Rattle.std.specs.Prelude.{◌≡◌};
+ghost use Rattle.root_workers.specs.Rounds.{known_as};
+
+use crate::searches::SearchResult;
+use alphamu_core::{Entered, Found};
+use pareto_fronts::Front;
+
+/// What is known of a root card, and how many nodes its search entered.
+#[derive(Drop)]
+pub enum Known {
+    /// The front after it.
+    Exact(Front, Entered),
+    /// The cards before it cover what is won after it.
+    Below(Entered),
+    /// The tree after it is too large.
+    Spent,
+}
+
+impl Known {
+    /// What a search tells of a card.
+    pub fn of(searched: SearchResult) -> Known
+        ensures { result ≡ known_as searched.found searched.entered }
+    {
+        let entered = searched.entered;
+        match searched.found {
+            Found::Exact(front) => Known::Exact(front, entered),
+            Found::Below => Known::Below(entered),
+        }
+    }
+}
