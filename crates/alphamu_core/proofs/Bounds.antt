@@ -28,8 +28,8 @@ pub front_of_reduced : (Can : Vector → Type 0) (vectors reduced : List Vector)
 front_of_reduced Can vectors reduced f r = subst (λ all. IsFrontOf Can all) (front_unique (Contains vectors) vectors reduced (own_reduced Can vectors f) r) f
 
 -- rules that make a cut are not those of no cut
-pub deepens : (rules : CutRules) → not rules.deepen ≡ false → rules ≡ no_cuts → ⊥
-deepens rules h e = let off : rules.deepen ≡ false = ap (λ (r : CutRules). r.deepen) e in true≢false (sym (ap not off) ∙ h)
+pub deepens : (rules : CutRules) → rules.deepen ≡ true → rules ≡ no_cuts → ⊥
+deepens rules h e = true≢false (sym h ∙ ap (λ (r : CutRules). r.deepen) e)
 
 pub bounds : (rules : CutRules) → rules.bound ≡ true → rules ≡ no_cuts → ⊥
 bounds rules h e = true≢false (sym h ∙ ap (λ (r : CutRules). r.bound) e)
@@ -91,8 +91,8 @@ module _ (n : NodeValue) where
         }
 
     -- what covers the front with a move less covers what is won
-    pub below_less : (moves : ℕ) (less alpha : List Vector) → stops bridge n moves ≡ false → IsFront bridge n (moves - 1) less → CoversAll alpha less → IsBelow bridge n moves alpha
-    below_less moves less alpha goes_on front covered =
+    pub below_previous : (moves : ℕ) (less alpha : List Vector) → stops bridge n moves ≡ false → IsFront bridge n (moves - 1) less → CoversAll alpha less → IsBelow bridge n moves alpha
+    below_previous moves less alpha goes_on front covered =
         subst (λ m. IsBelow bridge n m alpha) (sym (some_moves n moves goes_on)) (cuts.deeper n (moves - 1) less alpha sound front covered)
 
     -- a front with fewer moves covers the front with any number below
@@ -106,8 +106,8 @@ module _ (n : NodeValue) where
   pub upper_results : (moves : ℕ) (front : FrontValue) → stops bridge n moves ≡ false → IsFrontAt n 0 front → IsUpperBound n moves front
   upper_results moves front goes_on found = record { fewer = 0; below = (let more = some_moves n moves goes_on in omega arith); front = found }
 
-  pub upper_less : (moves : ℕ) (front : FrontValue) → stops bridge n moves ≡ false → IsFrontAt n (moves - 1) front → IsUpperBound n moves front
-  upper_less moves front goes_on found = record { fewer = moves - 1; below = (let more = some_moves n moves goes_on in omega arith); front = found }
+  pub upper_previous : (moves : ℕ) (front : FrontValue) → stops bridge n moves ≡ false → IsFrontAt n (moves - 1) front → IsUpperBound n moves front
+  upper_previous moves front goes_on found = record { fewer = moves - 1; below = (let more = some_moves n moves goes_on in omega arith); front = found }
 
 -- an upper bound is as wide as the node
 pub width_of_upper : (n : NodeValue) (moves : ℕ) (upper : Option FrontValue) (width : ℕ) → IfSome upper (IsUpperBound n moves) → width ≡ length n.lefts → IfSome upper (λ upper. upper.width ≡ width)

@@ -10,3 +10,4 @@ pub mod OpenNodes
 pub mod OursSoFar
 pub mod TheirsSoFar
 pub mod Answered
+pub mod SameSearch

@@ -4,3 +4,4 @@ pub mod Costs
 pub mod Limits
 pub mod Judging
 pub mod Kept
+pub mod TreeSearches

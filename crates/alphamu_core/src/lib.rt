@@ -11,6 +11,8 @@ mod limits;
 mod node_search;
 mod offers;
 mod results;
+mod scratch;
+mod tree_search;
 mod walk;
 
 pub use answers::{Found, RootFault, SearchFault};

@@ -8,12 +8,14 @@ ghost use Rattle.front_table.specs.Entries.{most_entry_vectors};
 ghost use Rattle.cut_rules.specs.Rules.{no_cuts};
 ghost use Rattle.alphamu_core.specs.Findings.{IsAnswer};
 ghost use Rattle.alphamu_core.specs.Limits.{IsLimit, IsUnknown, IsUpperBound};
+ghost use Rattle.alphamu_core.specs.TreeSearches.{IsSameSearch};
 
 use crate::answers::Found;
 use crate::results::results;
+use crate::tree_search::TreeSearch;
 use cut_rules::{CutRules, cut};
 use dd_solver::Solver;
-use front_table::{FrontStore, Look};
+use front_table::FrontStore;
 use pareto_fronts::Front;
 use std::alloc::{AllocError, Global};
 use trick_rules::Node;
@@ -28,53 +30,53 @@ pub enum Limit {
     Upper(Option<Front>),
 }
 
-/// The answer from the store, or by an upper bound; or else the upper bound, if the rules ask for
-/// one.
-pub fn limit_of<S: FrontStore>(
-    alloc: Global,
-    store: &mut S,
-    solver: &mut Solver,
-    scratch: &mut Front,
-    node: &Node,
-    moves: u8,
-    alpha: &Front,
-    rules: CutRules,
-) -> Result<Limit, AllocError>
-    requires width { alpha.now.width ≡ length node.now.lefts }
-    requires room { most_entry_vectors ≤ scratch.old.room }
-    requires goes_on { stops bridge node.now moves ≡ false }
-    ensures limit { IfOk result (IsLimit node.now moves alpha.now.vectors rules) }
-    ensures unknown { rules ≡ no_cuts → S.blind ≡ true → IfOk result IsUnknown }
-    ensures room { most_entry_vectors ≤ scratch.new.room }
-    ensures grown { S.grown store.old store.new }
-{
-    if let Some(front) = known(store, scratch, node, moves)? {
-        return Ok(Limit::Settled(Found::Exact(front)));
+impl<S: FrontStore> TreeSearch<'_, S> {
+    /// The answer from the store, or by an upper bound; or else the upper bound, if the rules ask
+    /// for one.
+    pub fn limit(&mut self, node: &Node, moves: u8, alpha: &Front) -> Result<Limit, AllocError>
+        requires width { alpha.now.width ≡ length node.now.lefts }
+        requires goes_on { stops bridge node.now moves ≡ false }
+        ensures limit { IfOk result (IsLimit node.now moves alpha.now.vectors self.old.rules) }
+        ensures unknown { self.old.rules ≡ no_cuts → S.blind ≡ true → IfOk result IsUnknown }
+        ensures unpaid { self.new.budget.now.left ≡ self.old.budget.now.left }
+        ensures same { IsSameSearch S.grown self.old self.new }
+    {
+        if let Some(front) = self.scratch.known(self.store, node, moves)? {
+            return Ok(Limit::Settled(Found::Exact(front)));
+        }
+        match by_double_dummy(self.alloc, self.solver, node, moves, alpha, self.rules)? {
+            Limit::Settled(found) => Ok(Limit::Settled(found)),
+            Limit::Upper(upper) => self.by_previous(node, moves, alpha, upper),
+        }
     }
-    match by_double_dummy(alloc, solver, node, moves, alpha, rules)? {
-        Limit::Settled(found) => Ok(Limit::Settled(found)),
-        Limit::Upper(upper) => { by_fewer_moves(store, scratch, node, moves, alpha, rules, upper) }
-    }
-}
 
-// The front that the store has.
-fn known<S: FrontStore>(
-    store: &mut S,
-    scratch: &mut Front,
-    node: &Node,
-    moves: u8,
-) -> Result<Option<Front>, AllocError>
-    requires { most_entry_vectors ≤ scratch.old.room }
-    ensures a_node { IsNode node.now }
-    ensures front { IfOk result (λ front. IfSome front (IsFrontAt node.now moves)) }
-    ensures blind { S.blind ≡ true → IfOk result (λ front. front ≡ None) }
-    ensures room { most_entry_vectors ≤ scratch.new.room }
-    ensures grown { S.grown store.old store.new }
-{
-    scratch.reset(node.width());
-    match store.look(node, moves, scratch) {
-        Look::Hit => Ok(Some(scratch.copy()?)),
-        Look::Miss | Look::Busy => Ok(None),
+    // By the front with a move less, if the store has it; else the upper bound that there is.
+    fn by_previous(
+        &mut self,
+        node: &Node,
+        moves: u8,
+        alpha: &Front,
+        upper: Option<Front>,
+    ) -> Result<Limit, AllocError>
+        requires width { alpha.now.width ≡ length node.now.lefts }
+        requires goes_on { stops bridge node.now moves ≡ false }
+        requires upper { IsLimit node.now moves alpha.now.vectors self.old.rules
+            (Limit.Upper upper) }
+        ensures limit { IfOk result (IsLimit node.now moves alpha.now.vectors self.old.rules) }
+        ensures unknown { self.old.rules ≡ no_cuts → IfOk result IsUnknown }
+        ensures unpaid { self.new.budget.now.left ≡ self.old.budget.now.left }
+        ensures same { IsSameSearch S.grown self.old self.new }
+    {
+        if !self.rules.deepen {
+            return Ok(Limit::Upper(upper));
+        }
+        let Some(previous) = self.scratch.known(self.store, node, moves - 1)? else {
+            return Ok(Limit::Upper(upper));
+        };
+        if cut(&previous, alpha) {
+            return Ok(Limit::Settled(Found::Below));
+        }
+        Ok(Limit::Upper(Some(previous)))
     }
 }
 
@@ -107,37 +109,6 @@ fn by_double_dummy(
         return Ok(Limit::Settled(Found::Exact(front)));
     }
     Ok(Limit::Upper(Some(front)))
-}
-
-// By the front with a move less, if the store has it; else the upper bound that there is.
-fn by_fewer_moves<S: FrontStore>(
-    store: &mut S,
-    scratch: &mut Front,
-    node: &Node,
-    moves: u8,
-    alpha: &Front,
-    rules: CutRules,
-    upper: Option<Front>,
-) -> Result<Limit, AllocError>
-    requires width { alpha.now.width ≡ length node.now.lefts }
-    requires room { most_entry_vectors ≤ scratch.old.room }
-    requires goes_on { stops bridge node.now moves ≡ false }
-    requires upper { IsLimit node.now moves alpha.now.vectors rules (Limit.Upper upper) }
-    ensures limit { IfOk result (IsLimit node.now moves alpha.now.vectors rules) }
-    ensures unknown { rules ≡ no_cuts → IfOk result IsUnknown }
-    ensures room { most_entry_vectors ≤ scratch.new.room }
-    ensures grown { S.grown store.old store.new }
-{
-    if !rules.deepen {
-        return Ok(Limit::Upper(upper));
-    }
-    let Some(less) = known(store, scratch, node, moves - 1)? else {
-        return Ok(Limit::Upper(upper));
-    };
-    if cut(&less, alpha) {
-        return Ok(Limit::Settled(Found::Below));
-    }
-    Ok(Limit::Upper(Some(less)))
 }
 
 /// Where plans stop: double dummy's results, or below.

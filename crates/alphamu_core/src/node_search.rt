@@ -8,10 +8,11 @@ ghost use Rattle.trick_rules.specs.Nodes.{most_moves};
 
 use crate::answers::{Found, SearchFault};
 use crate::budget::Budget;
-use crate::walk::visit;
+use crate::scratch::Scratch;
+use crate::tree_search::TreeSearch;
 use cut_rules::CutRules;
 use dd_solver::Solver;
-use front_table::{FrontStore, MOST_ENTRY_VECTORS};
+use front_table::FrontStore;
 use pareto_fronts::Front;
 use std::alloc::Global;
 use trick_rules::Node;
@@ -50,18 +51,15 @@ pub fn search<S: FrontStore>(
 
     ensures grown { S.grown store.old store.new }
 {
-    let mut scratch = Front::new(alloc, node.width());
-    scratch.reserve(MOST_ENTRY_VECTORS)?;
+    let mut scratch = Scratch::new(alloc, node)?;
     let node = node.copy(alloc)?;
-    visit(
+    let mut search = TreeSearch {
         alloc,
         store,
         solver,
         budget,
-        &mut scratch,
-        node,
-        moves,
-        alpha,
+        scratch: &mut scratch,
         rules,
-    )
+    };
+    search.visit(node, moves, alpha)
 }

@@ -1,222 +1,144 @@
-// The walk through the tree: fronts from the leaves upward, with cuts.
-ghost use Rattle.std.specs.Prelude.{◌≡◌, ◌+◌, ◌≤◌, false, true, length, IsTrue, IfOk, IfSome, OnOk, Option};
-ghost use Rattle.strategy_games.specs.Plans.{stops, tree_size};
+// The search of αμ: the walk through the tree, fronts from the leaves upward, with cuts.
+ghost use Rattle.std.specs.Prelude.{◌≡◌, false, true, length, IsTrue, IfOk, IfSome, OnOk, Option};
+ghost use Rattle.strategy_games.specs.Plans.{stops};
 ghost use Rattle.strategy_tree.specs.Bridge.{bridge};
-ghost use Rattle.front_table.specs.Entries.{most_entry_vectors};
 ghost use Rattle.cut_rules.specs.Rules.{no_cuts};
-ghost use Rattle.alphamu_core.specs.Costs.{Costs, EntersEach};
 ghost use Rattle.alphamu_core.specs.Findings.{IsAnswer, IsExactOfWidth};
 ghost use Rattle.alphamu_core.specs.Limits.{IsUpperBound, IsUnited, IsReached};
+ghost use Rattle.alphamu_core.specs.TreeSearches.{IsSameSearch, Pays, PaysBelow};
 
 use crate::answers::{Found, SearchFault};
-use crate::budget::Budget;
 use crate::kept::{cards_to_try, take_highest};
-use crate::limits::{Limit, leaf, limit_of};
+use crate::limits::{Limit, leaf};
 use crate::offers::offer;
-use cut_rules::{CutRules, cut};
-use dd_solver::Solver;
+use crate::tree_search::TreeSearch;
+use cut_rules::cut;
 use front_join::Joiner;
 use front_table::FrontStore;
 use pareto_fronts::Front;
-use std::alloc::{AllocError, Global};
+use std::alloc::AllocError;
 use trick_rules::Node;
 
-/// Enters a node, for which the budget pays, and answers for it.
-#[cycle(walk)]
-pub fn visit<S: FrontStore>(
-    alloc: Global,
-    store: &mut S,
-    solver: &mut Solver,
-    budget: &mut Budget,
-    scratch: &mut Front,
-    node: Node,
-    moves: u8,
-    alpha: &Front,
-    rules: CutRules,
-) -> Result<Found, SearchFault>
-    requires width { alpha.now.width ≡ length node.lefts }
-    requires room { most_entry_vectors ≤ scratch.old.room }
-    ensures answer { IfOk result (IsAnswer node moves alpha.now.vectors rules) }
-    ensures costs { Costs (EntersEach rules S.blind) (tree_size bridge node moves)
-        budget.old.left budget.new.left result }
-    ensures nodes { budget.new.nodes ≡ budget.old.nodes }
-    ensures room { most_entry_vectors ≤ scratch.new.room }
-    ensures grown { S.grown store.old store.new }
-{
-    budget.enter()?;
-    if node.stops(moves) {
-        Ok(leaf(alloc, solver, &node, moves, alpha, rules)?)
-    } else {
-        open(
-            alloc, store, solver, budget, scratch, node, moves, alpha, rules,
-        )
-    }
-}
-
-// Answers for a node where play goes on, which is paid for.
-#[cycle(walk)]
-fn open<S: FrontStore>(
-    alloc: Global,
-    store: &mut S,
-    solver: &mut Solver,
-    budget: &mut Budget,
-    scratch: &mut Front,
-    node: Node,
-    moves: u8,
-    alpha: &Front,
-    rules: CutRules,
-) -> Result<Found, SearchFault>
-    requires width { alpha.now.width ≡ length node.lefts }
-    requires room { most_entry_vectors ≤ scratch.old.room }
-    requires goes_on { stops bridge node moves ≡ false }
-    ensures answer { IfOk result (IsAnswer node moves alpha.now.vectors rules) }
-    ensures costs { Costs (EntersEach rules S.blind) (tree_size bridge node moves)
-        (budget.old.left + 1) budget.new.left result }
-    ensures nodes { budget.new.nodes ≡ budget.old.nodes }
-    ensures room { most_entry_vectors ≤ scratch.new.room }
-    ensures grown { S.grown store.old store.new }
-{
-    match limit_of(alloc, store, solver, scratch, &node, moves, alpha, rules)? {
-        Limit::Settled(found) => Ok(found),
-        Limit::Upper(upper) => {
-            let answer = by_cards(
-                alloc, store, solver, budget, scratch, &node, moves, alpha, rules, &upper,
-            );
-            offer(store, node, moves, &answer);
-            answer
+impl<S: FrontStore> TreeSearch<'_, S> {
+    /// Enters a node, for which the budget pays, and answers for it.
+    #[cycle(walk)]
+    pub fn visit(&mut self, node: Node, moves: u8, alpha: &Front) -> Result<Found, SearchFault>
+        requires width { alpha.now.width ≡ length node.lefts }
+        ensures answer { IfOk result (IsAnswer node moves alpha.now.vectors self.old.rules) }
+        ensures costs { Pays S.blind node moves self.old self.new result }
+        ensures same { IsSameSearch S.grown self.old self.new }
+        ensures same_store { self.new.store.ghost_name ≡ self.old.store.ghost_name }
+        ensures same_budget { self.new.budget.ghost_name ≡ self.old.budget.ghost_name }
+    {
+        self.budget.enter()?;
+        if node.stops(moves) {
+            Ok(leaf(self.alloc, self.solver, &node, moves, alpha, self.rules)?)
+        } else {
+            self.open(node, moves, alpha)
         }
     }
-}
 
-// Answers by the fronts after the cards.
-#[cycle(walk)]
-fn by_cards<S: FrontStore>(
-    alloc: Global,
-    store: &mut S,
-    solver: &mut Solver,
-    budget: &mut Budget,
-    scratch: &mut Front,
-    node: &Node,
-    moves: u8,
-    alpha: &Front,
-    rules: CutRules,
-    upper: &Option<Front>,
-) -> Result<Found, SearchFault>
-    requires width { alpha.now.width ≡ length node.now.lefts }
-    requires room { most_entry_vectors ≤ scratch.old.room }
-    requires goes_on { stops bridge node.now moves ≡ false }
-    requires upper { IfSome upper.now (IsUpperBound node.now moves) }
-    requires none { rules ≡ no_cuts → upper.now ≡ None }
-    ensures answer { IfOk result (IsAnswer node.now moves alpha.now.vectors rules) }
-    ensures costs { Costs (EntersEach rules S.blind) (tree_size bridge node.now moves)
-        (budget.old.left + 1) budget.new.left result }
-    ensures nodes { budget.new.nodes ≡ budget.old.nodes }
-    ensures room { most_entry_vectors ≤ scratch.new.room }
-    ensures grown { S.grown store.old store.new }
-{
-    if node.is_ours() {
-        at_declarer(
-            alloc, store, solver, budget, scratch, node, moves, alpha, rules, upper,
-        )
-    } else {
-        at_defender(
-            alloc, store, solver, budget, scratch, node, moves, alpha, rules,
-        )
-    }
-}
-
-// The best of the fronts after each card of declarer's side, each with a move less, until they
-// cover the upper bound. The node itself is paid for.
-#[cycle(walk)]
-fn at_declarer<S: FrontStore>(
-    alloc: Global,
-    store: &mut S,
-    solver: &mut Solver,
-    budget: &mut Budget,
-    scratch: &mut Front,
-    node: &Node,
-    moves: u8,
-    alpha: &Front,
-    rules: CutRules,
-    upper: &Option<Front>,
-) -> Result<Found, SearchFault>
-    requires room { most_entry_vectors ≤ scratch.old.room }
-    requires goes_on { stops bridge node.now moves ≡ false }
-    requires ours { bridge.is_ours node.now ≡ true }
-    requires upper { IfSome upper.now (IsUpperBound node.now moves) }
-    requires none { rules ≡ no_cuts → upper.now ≡ None }
-    ensures answer { IfOk result (IsAnswer node.now moves alpha.now.vectors rules) }
-    ensures costs { Costs (EntersEach rules S.blind) (tree_size bridge node.now moves)
-        (budget.old.left + 1) budget.new.left result }
-    ensures nodes { budget.new.nodes ≡ budget.old.nodes }
-    ensures room { most_entry_vectors ≤ scratch.new.room }
-    ensures grown { S.grown store.old store.new }
-{
-    let mut front = Front::new(alloc, node.width());
-    let mut cards = cards_to_try(node, rules);
-    'cards: while let Some(card) = take_highest(&mut cards) {
-        let (child, _) = node.child(alloc, card)?;
-        let found = visit(
-            alloc,
-            store,
-            solver,
-            budget,
-            scratch,
-            child,
-            moves - 1,
-            &front,
-            rules,
-        )?;
-        unite(&mut front, &found)?;
-        if is_reached(upper, &front) {
-            return Ok(Found::Exact(front));
+    // Answers for a node where play goes on, which is paid for.
+    #[cycle(walk)]
+    fn open(&mut self, node: Node, moves: u8, alpha: &Front) -> Result<Found, SearchFault>
+        requires width { alpha.now.width ≡ length node.lefts }
+        requires goes_on { stops bridge node moves ≡ false }
+        ensures answer { IfOk result (IsAnswer node moves alpha.now.vectors self.old.rules) }
+        ensures costs { PaysBelow S.blind node moves self.old self.new result }
+        ensures same { IsSameSearch S.grown self.old self.new }
+    {
+        match self.limit(&node, moves, alpha)? {
+            Limit::Settled(found) => Ok(found),
+            Limit::Upper(upper) => {
+                let answer = self.by_cards(&node, moves, alpha, &upper);
+                offer(self.store, node, moves, &answer);
+                answer
+            }
         }
     }
-    Ok(Found::Exact(front))
-}
 
-// The best of all meets of what is won after each card of a defender, until alpha covers them. The
-// node itself is paid for.
-#[cycle(walk)]
-fn at_defender<S: FrontStore>(
-    alloc: Global,
-    store: &mut S,
-    solver: &mut Solver,
-    budget: &mut Budget,
-    scratch: &mut Front,
-    node: &Node,
-    moves: u8,
-    alpha: &Front,
-    rules: CutRules,
-) -> Result<Found, SearchFault>
-    requires width { alpha.now.width ≡ length node.now.lefts }
-    requires room { most_entry_vectors ≤ scratch.old.room }
-    requires goes_on { stops bridge node.now moves ≡ false }
-    requires theirs { bridge.is_ours node.now ≡ false }
-    ensures answer { IfOk result (IsAnswer node.now moves alpha.now.vectors rules) }
-    ensures costs { Costs (EntersEach rules S.blind) (tree_size bridge node.now moves)
-        (budget.old.left + 1) budget.new.left result }
-    ensures nodes { budget.new.nodes ≡ budget.old.nodes }
-    ensures room { most_entry_vectors ≤ scratch.new.room }
-    ensures grown { S.grown store.old store.new }
-{
-    let mut joiner = Joiner::new(alloc, node.width());
-    let mut cards = cards_to_try(node, rules);
-    'cards: while let Some(card) = cards.pop_first() {
-        let (child, mask) = node.child(alloc, card)?;
-        let none = Front::new(alloc, child.width());
-        let won = match visit(
-            alloc, store, solver, budget, scratch, child, moves, &none, rules,
-        )? {
-            Found::Exact(won) => won,
-            Found::Below => unreachable!(),
-        };
-        joiner.add(&won, &mask)?;
-        if rules.early && cut(joiner.optimistic(), alpha) {
-            return Ok(Found::Below);
+    // Answers by the fronts after the cards.
+    #[cycle(walk)]
+    fn by_cards(
+        &mut self,
+        node: &Node,
+        moves: u8,
+        alpha: &Front,
+        upper: &Option<Front>,
+    ) -> Result<Found, SearchFault>
+        requires width { alpha.now.width ≡ length node.now.lefts }
+        requires goes_on { stops bridge node.now moves ≡ false }
+        requires upper { IfSome upper.now (IsUpperBound node.now moves) }
+        requires none { self.old.rules ≡ no_cuts → upper.now ≡ None }
+        ensures answer { IfOk result (IsAnswer node.now moves alpha.now.vectors self.old.rules) }
+        ensures costs { PaysBelow S.blind node.now moves self.old self.new result }
+        ensures same { IsSameSearch S.grown self.old self.new }
+    {
+        if node.is_ours() {
+            self.at_declarer(node, moves, alpha, upper)
+        } else {
+            self.at_defender(node, moves, alpha)
         }
     }
-    Ok(Found::Exact(joiner.finish()))
+
+    // The best of the fronts after each card of declarer's side, each with a move less, until they
+    // cover the upper bound. The node itself is paid for.
+    #[cycle(walk)]
+    fn at_declarer(
+        &mut self,
+        node: &Node,
+        moves: u8,
+        alpha: &Front,
+        upper: &Option<Front>,
+    ) -> Result<Found, SearchFault>
+        requires goes_on { stops bridge node.now moves ≡ false }
+        requires ours { bridge.is_ours node.now ≡ true }
+        requires upper { IfSome upper.now (IsUpperBound node.now moves) }
+        requires none { self.old.rules ≡ no_cuts → upper.now ≡ None }
+        ensures answer { IfOk result (IsAnswer node.now moves alpha.now.vectors self.old.rules) }
+        ensures costs { PaysBelow S.blind node.now moves self.old self.new result }
+        ensures same { IsSameSearch S.grown self.old self.new }
+    {
+        let mut front = Front::new(self.alloc, node.width());
+        let mut cards = cards_to_try(node, self.rules);
+        'cards: while let Some(card) = take_highest(&mut cards) {
+            let (child, _) = node.child(self.alloc, card)?;
+            let found = self.visit(child, moves - 1, &front)?;
+            unite(&mut front, &found)?;
+            if is_reached(upper, &front) {
+                return Ok(Found::Exact(front));
+            }
+        }
+        Ok(Found::Exact(front))
+    }
+
+    // The best of all meets of what is won after each card of a defender, until alpha covers them.
+    // The node itself is paid for.
+    #[cycle(walk)]
+    fn at_defender(&mut self, node: &Node, moves: u8, alpha: &Front) -> Result<Found, SearchFault>
+        requires width { alpha.now.width ≡ length node.now.lefts }
+        requires goes_on { stops bridge node.now moves ≡ false }
+        requires theirs { bridge.is_ours node.now ≡ false }
+        ensures answer { IfOk result (IsAnswer node.now moves alpha.now.vectors self.old.rules) }
+        ensures costs { PaysBelow S.blind node.now moves self.old self.new result }
+        ensures same { IsSameSearch S.grown self.old self.new }
+    {
+        let mut joiner = Joiner::new(self.alloc, node.width());
+        let mut cards = cards_to_try(node, self.rules);
+        'cards: while let Some(card) = cards.pop_first() {
+            let (child, mask) = node.child(self.alloc, card)?;
+            let none = Front::new(self.alloc, child.width());
+            let won = match self.visit(child, moves, &none)? {
+                Found::Exact(won) => won,
+                Found::Below => unreachable!(),
+            };
+            joiner.add(&won, &mask)?;
+            if self.rules.early && cut(joiner.optimistic(), alpha) {
+                return Ok(Found::Below);
+            }
+        }
+        Ok(Found::Exact(joiner.finish()))
+    }
 }
 
 // Leaves the best of the vectors so far and of those that were found.

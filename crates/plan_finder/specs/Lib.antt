@@ -1,3 +1,4 @@
+pub mod PlanSearches
 pub mod Targets
 pub mod SpentPlans
 pub mod Choices

@@ -5,15 +5,14 @@ ghost use Rattle.strategy_games.specs.Plans.{stops};
 ghost use Rattle.strategy_tree.specs.Bridge.{bridge};
 ghost use Rattle.alphamu_core.specs.Costs.{IsWithin};
 ghost use Rattle.plan_finder.specs.Choices.{IsFirstChoice, IsChoiceSpentAt};
+ghost use Rattle.plan_finder.specs.PlanSearches.{IsSameSearch};
 ghost use Rattle.plan_finder.specs.Targets.{IsOfFront};
 
-use crate::misses::misses;
-use crate::searches::pick_of;
+use crate::null_window::null_window;
+use crate::searches::PlanSearch;
 use alphamu_core::{Entered, RootFault, SearchFault};
 use card_sets::Card;
-use dd_solver::Solver;
 use front_table::FrontStore;
-use std::alloc::Global;
 use trick_rules::Node;
 use win_vectors::WinVector;
 
@@ -27,60 +26,48 @@ pub struct Choice {
     pub most: Entered,
 }
 
-/// The first card after which some vector of the front dominates this one.
-pub fn first_choice<S: FrontStore>(
-    alloc: Global,
-    store: &mut S,
-    solver: &mut Solver,
-    node: &Node,
-    moves: u8,
-    vector: &WinVector,
-    nodes: u64,
-    cuts: bool,
-) -> Result<Choice, RootFault>
-    requires few_moves { moves ≤ most_moves }
-    requires a_node { IsNode node.now }
-    requires goes_on { stops bridge node.now moves ≡ false }
-    requires ours { bridge.is_ours node.now ≡ true }
-    requires vector { IsOfFront node.now moves vector.now }
-    ensures first { IfOk result (IsFirstChoice node.now moves vector.now) }
-    ensures within { IfOk result (λ choice. IsWithin nodes choice.most) }
-    ensures spent { (card : ℕ) → IsErrOf result (RootFault.Spent card)
-        → IsChoiceSpentAt node.now moves vector.now nodes card }
-    ensures grown { S.grown store.old store.new }
-{
-    let misses = misses(alloc, vector, cuts)?;
-    let mut most = None;
-    let mut cards = node.choices();
-    'cards: while let Some(card) = cards.pop_first() {
-        let (child, _) = node.child(alloc, card)?;
-        match pick_of(
-            alloc,
-            store,
-            solver,
-            &child,
-            moves - 1,
-            vector,
-            nodes,
-            &misses,
-            cuts,
-        ) {
-            Ok(picked) => {
-                let entered = picked.entered.larger(most);
-                most = Some(entered);
-                if let Some(above) = picked.vector {
-                    return Ok(Choice {
-                        card,
-                        child,
-                        vector: above,
-                        most: entered,
-                    });
+impl<S: FrontStore> PlanSearch<'_, S> {
+    /// The first card after which some vector of the front dominates this one.
+    pub fn first_choice(
+        &mut self,
+        node: &Node,
+        moves: u8,
+        vector: &WinVector,
+    ) -> Result<Choice, RootFault>
+        requires few_moves { moves ≤ most_moves }
+        requires a_node { IsNode node.now }
+        requires goes_on { stops bridge node.now moves ≡ false }
+        requires ours { bridge.is_ours node.now ≡ true }
+        requires vector { IsOfFront node.now moves vector.now }
+        ensures first { IfOk result (IsFirstChoice node.now moves vector.now) }
+        ensures within { IfOk result (λ choice. IsWithin self.old.nodes choice.most) }
+        ensures spent { (card : ℕ) → IsErrOf result (RootFault.Spent card)
+            → IsChoiceSpentAt node.now moves vector.now self.old.nodes card }
+        ensures same { IsSameSearch S.grown self.old self.new }
+    {
+        let alpha = null_window(self.alloc, vector, self.rules.bound)?;
+        let mut most = None;
+        let mut cards = node.choices();
+        'cards: while let Some(card) = cards.pop_first() {
+            let (child, _) = node.child(self.alloc, card)?;
+            match self.pick_of(&child, moves - 1, vector, &alpha) {
+                Ok(picked) => {
+                    let entered = picked.entered.larger(most);
+                    most = Some(entered);
+                    if let Some(above) = picked.vector {
+                        return Ok(Choice {
+                            card,
+                            child,
+                            vector: above,
+                            most: entered,
+                        });
+                    }
                 }
+                Err(fault) => return Err(at_card(fault, card)),
             }
-            Err(fault) => return Err(at_card(fault, card)),
         }
+        unreachable!()
     }
-    unreachable!()
 }
 
 /// The fault of a search after a root card.

@@ -6,7 +6,7 @@
 mod choice;
 mod digest;
 mod finder;
-mod misses;
+mod null_window;
 mod plan_lines;
 mod searches;
 mod writer;

@@ -5,10 +5,11 @@ use Rattle.strategy_tree.proofs.CardLists.{has_card-from_Contains}
 use Rattle.alphamu_core.specs.declared.answers.RootFault.TheVariants.{Spent as RootSpent}
 use Rattle.alphamu_core.specs.declared.answers.SearchFault.TheVariants.{Spent}
 use Rattle.plan_finder.specs.SpentPlans.{IsPlanSpentAt}
+use Rattle.plan_finder.proofs.SameSearch.{same_none, same_more, still_within, most_within, still_larger}
 use Rattle.plan_finder.proofs.Picks.{open_at, a_move_left, length-of_front, too_large_first, too_large_below, larger_than, node_after, fewer_after, vector_after, passed_on}
 use Rattle.plan_finder.proofs.Replied.{replied_none, next_reply, node_below, fewer_below, spent_below, mask_width, mask_some, part_width, part_above, above_of, replied_more}
 use Rattle.plan_finder.proofs.WrittenPlans.{stop_written, play_written, hear_written, none_written, so_far, all_written, one_more_written}
-use Rattle.plan_finder.proofs.written.+write.Goals as goal
+use Rattle.plan_finder.proofs.searches.PlanSearch.+write.Goals as goal
 
 -- ---- any node
 
@@ -26,7 +27,7 @@ pub write_remembered-returns-in-Err-clause-spent : goal.write_remembered-returns
 write_remembered-returns-in-Err-clause-spent g t c = λ e.
     let spent : c.without_card.result ≡ Spent = cc in
     let fault = c.without_card.ensures.only spent in
-    larger_than c.args.node.now c.args.moves c.args.vector.now c.args.nodes fault.0 c.requires.a_node c.requires.ours (c.in-Err.ensures.spent fault.0 (ap Err fault.1))
+    larger_than c.args.node.now c.args.moves c.args.vector.now c.args.self.now.nodes fault.0 c.requires.a_node c.requires.ours (c.in-Err.ensures.spent fault.0 (ap Err fault.1))
 
 pub write_below-returns-then-stops-clause-plan : goal.write_below-returns-then-stops-clause-plan
 write_below-returns-then-stops-clause-plan g t c = stop_written c.args.node.now c.args.moves c.args.vector.now _ _ (sym c.stops.ensures ∙ c.if-stops.true) c.in_ok-push_stop.ensures
@@ -56,7 +57,7 @@ pub write_plan-returns-in_err-first-clause-spent : goal.write_plan-returns-in_er
 write_plan-returns-in_err-first-clause-spent g t c = λ card e.
     let goes_on = open_at c.args.node.now c.args.moves c.stops.result c.stops.ensures c.if-stops.false in
     let fault = passed_on c.from_residual-in_err-first.result c.in_err-first.field-0.0 (RootSpent card) c.from_residual-in_err-first.ensures.1 e in
-    too_large_first c.args.node.now c.args.moves c.args.target.now c.args.nodes card goes_on c.requires.target (c.in_err-first.ensures.spent card (ap Err fault))
+    too_large_first c.args.node.now c.args.moves c.args.target.now c.args.self.now.nodes card goes_on c.requires.target (c.in_err-first.ensures.spent card (ap Err fault))
 
 pub write_plan-write_below-requires : goal.write_plan-write_below-requires
 write_plan-write_below-requires g t c κs within =
@@ -75,21 +76,21 @@ write_plan-returns-clause-spent g t c = λ card e.
     let goes_on = open_at c.args.node.now c.args.moves c.stops.result c.stops.ensures c.if-stops.false in
     let named : c.at_card.result ≡ RootSpent card = cc in
     let fault = c.at_card.ensures.only card named in
-    subst (λ card. IsPlanSpentAt c.args.node.now c.args.moves c.args.target.now c.args.nodes card) (sym fault.0)
-    (too_large_below c.args.node.now c.args.moves c.args.target.now c.args.nodes c.in_ok-first.first goes_on c.requires.target c.in_ok-first.ensures.first (c.in-Err.ensures.spent (ap Err fault.1)))
+    subst (λ card. IsPlanSpentAt c.args.node.now c.args.moves c.args.target.now c.args.self.now.nodes card) (sym fault.0)
+    (too_large_below c.args.node.now c.args.moves c.args.target.now c.args.self.now.nodes c.in_ok-first.first goes_on c.requires.target c.in_ok-first.ensures.first (still_larger c.in_ok-first.ensures.same _ (c.in-Err.ensures.spent (ap Err fault.1))))
 
-pub write_plan-returns-clause-grown : goal.write_plan-returns-clause-grown
-write_plan-returns-clause-grown g t c = g.met.S.FrontStore.grown_more c.args.store.now c.first_choice.new.store c.write_below.new.store c.in_ok-first.ensures.grown c.in-Err.ensures.grown
+pub write_plan-returns-clause-same : goal.write_plan-returns-clause-same
+write_plan-returns-clause-same g t c = same_more g.met.S.FrontStore.grown_more c.in_ok-first.ensures.same c.in-Err.ensures.same
 
-pub write_plan-returns-in-Ok-clause-grown : goal.write_plan-returns-in-Ok-clause-grown
-write_plan-returns-in-Ok-clause-grown g t c = g.met.S.FrontStore.grown_more c.args.store.now c.first_choice.new.store c.write_below.new.store c.in_ok-first.ensures.grown c.in-Ok.ensures.grown
+pub write_plan-returns-in-Ok-clause-same : goal.write_plan-returns-in-Ok-clause-same
+write_plan-returns-in-Ok-clause-same g t c = same_more g.met.S.FrontStore.grown_more c.in_ok-first.ensures.same c.in-Ok.ensures.same
 
 -- ---- a defender
 
 pub write_replies-cards-init : goal.write_replies-cards-init
 write_replies-cards-init g t c = record {
   written = none_written c.args.node.now c.args.moves c.args.vector.now c.choices-cards.result c.args.out.now (replied_none c.args.node.now c.args.moves c.args.vector.now c.choices-cards.result c.choices-cards.ensures);
-  grown = g.met.S.FrontStore.grown_none c.args.store.now;
+  same = same_none g.met.S.FrontStore.grown_none c.args.self.now;
   most = tt;
 }
 
@@ -99,7 +100,7 @@ write_replies-child-requires g t c = has_card-from_Contains _ _ (next_reply c.ar
 pub write_replies-returns-in_err-whole-clause-spent : goal.write_replies-returns-in_err-whole-clause-spent
 write_replies-returns-in_err-whole-clause-spent g t c = λ e.
     let fault = passed_on c.from_residual-in_err-whole.result c.in_err-whole.field-0.0 Spent c.from_residual-in_err-whole.ensures.1 e in
-    spent_below c.args.node.now c.args.moves c.args.vector.now (so_far c.args.node.now c.args.moves c.args.vector.now c.cards.invariant.written) c.in-Some.ensures.value c.in_ok-child.ensures.node c.args.nodes c.requires.a_node c.requires.goes_on c.requires.theirs (c.in_err-whole.ensures.spent (ap Err fault))
+    spent_below c.args.node.now c.args.moves c.args.vector.now (so_far c.args.node.now c.args.moves c.args.vector.now c.cards.invariant.written) c.in-Some.ensures.value c.in_ok-child.ensures.node c.args.self.now.nodes c.requires.a_node c.requires.goes_on c.requires.theirs (still_larger c.cards.invariant.same _ (c.in_err-whole.ensures.spent (ap Err fault)))
 
 pub write_replies-restrict-part-requires-clause-same_width : goal.write_replies-restrict-part-requires-clause-same_width
 write_replies-restrict-part-requires-clause-same_width g t c =
@@ -131,30 +132,31 @@ write_replies-write_below-requires g t c κs within =
 pub write_replies-returns-in_err-below-clause-spent : goal.write_replies-returns-in_err-below-clause-spent
 write_replies-returns-in_err-below-clause-spent g t c = λ e.
     let fault = passed_on c.from_residual-in_err-below.result c.in_err-below.field-0.0 Spent c.from_residual-in_err-below.ensures.1 e in
-    spent_below c.args.node.now c.args.moves c.args.vector.now (so_far c.args.node.now c.args.moves c.args.vector.now c.cards.invariant.written) c.in-Some.ensures.value c.in_ok-child.ensures.node c.args.nodes c.requires.a_node c.requires.goes_on c.requires.theirs (c.in_err-below.ensures.spent (ap Err fault))
+    spent_below c.args.node.now c.args.moves c.args.vector.now (so_far c.args.node.now c.args.moves c.args.vector.now c.cards.invariant.written) c.in-Some.ensures.value c.in_ok-child.ensures.node c.args.self.now.nodes c.requires.a_node c.requires.goes_on c.requires.theirs (still_larger (same_more g.met.S.FrontStore.grown_more c.cards.invariant.same c.in_ok-whole.ensures.same) _ (c.in_err-below.ensures.spent (ap Err fault)))
 
-pub write_replies-returns-in_err-whole-clause-grown : goal.write_replies-returns-in_err-whole-clause-grown
-write_replies-returns-in_err-whole-clause-grown g t c = g.met.S.FrontStore.grown_more c.args.store.now c.cards.store c.whole_front.new.store c.cards.invariant.grown c.in_err-whole.ensures.grown
+pub write_replies-returns-in_err-whole-clause-same : goal.write_replies-returns-in_err-whole-clause-same
+write_replies-returns-in_err-whole-clause-same g t c = same_more g.met.S.FrontStore.grown_more c.cards.invariant.same c.in_err-whole.ensures.same
 
-pub write_replies-returns-in_err-push_on-clause-grown : goal.write_replies-returns-in_err-push_on-clause-grown
-write_replies-returns-in_err-push_on-clause-grown g t c = g.met.S.FrontStore.grown_more c.args.store.now c.cards.store c.whole_front.new.store c.cards.invariant.grown c.in_ok-whole.ensures.grown
+pub write_replies-returns-in_err-push_on-clause-same : goal.write_replies-returns-in_err-push_on-clause-same
+write_replies-returns-in_err-push_on-clause-same g t c = same_more g.met.S.FrontStore.grown_more c.cards.invariant.same c.in_ok-whole.ensures.same
 
-pub write_replies-returns-in_err-below-clause-grown : goal.write_replies-returns-in_err-below-clause-grown
-write_replies-returns-in_err-below-clause-grown g t c =
-    let grown = g.met.S.FrontStore.grown_more in
-    grown c.args.store.now c.whole_front.new.store c.write_below.new.store (grown c.args.store.now c.cards.store c.whole_front.new.store c.cards.invariant.grown c.in_ok-whole.ensures.grown) c.in_err-below.ensures.grown
+pub write_replies-returns-in_err-below-clause-same : goal.write_replies-returns-in_err-below-clause-same
+write_replies-returns-in_err-below-clause-same g t c =
+    let more = g.met.S.FrontStore.grown_more in
+    same_more more (same_more more c.cards.invariant.same c.in_ok-whole.ensures.same) c.in_err-below.ensures.same
 
 pub write_replies-cards-preserved : goal.write_replies-cards-preserved
 write_replies-cards-preserved g t c =
     let first = subst (λ (o : Option Vector). IfSome o (IsFirstAbove c.in_ok-whole.whole.front.vectors c.restrict-part.result)) c.unwrap-above.ensures c.pick.ensures.first in
-    let grown = g.met.S.FrontStore.grown_more in
+    let more = g.met.S.FrontStore.grown_more in
+    let same = same_more more c.cards.invariant.same c.in_ok-whole.ensures.same in
     let so = so_far c.args.node.now c.args.moves c.args.vector.now c.cards.invariant.written in
     let plan = c.in_ok-below.ensures.plan in
     record {
       written = one_more_written c.args.node.now c.args.moves c.args.vector.now c.cards.invariant.written _ c.push_on.new.out c.write_below.new.out _ _ _ c.in_ok-push_on.ensures plan
           (replied_more c.args.node.now c.args.moves c.args.vector.now so c.in-Some.ensures.value c.in_ok-child.ensures.node _ c.in_ok-child.ensures.mask c.in_ok-whole.whole.front c.in_ok-whole.ensures.front c.restrict-part.ensures first plan.plan plan.chosen);
-      grown = grown c.args.store.now c.whole_front.new.store c.write_below.new.store (grown c.args.store.now c.cards.store c.whole_front.new.store c.cards.invariant.grown c.in_ok-whole.ensures.grown) c.in_ok-below.ensures.grown;
-      most = c.larger-in-Some.ensures.within c.args.nodes (c.larger.ensures.within c.args.nodes c.in_ok-whole.ensures.within c.cards.invariant.most) c.in_ok-below.ensures.within;
+      same = same_more more same c.in_ok-below.ensures.same;
+      most = c.larger-in-Some.ensures.within c.args.self.now.nodes (c.larger.ensures.within c.args.self.now.nodes (still_within c.cards.invariant.same _ c.in_ok-whole.ensures.within) c.cards.invariant.most) (most_within same _ c.in_ok-below.ensures.within);
     }
 
 pub write_replies-returns-clause-replies : goal.write_replies-returns-clause-replies

@@ -1,11 +1,11 @@
-use Rattle.std.proofs.Common.{◌≡◌, ◌+◌, ◌-◌, ◌*◌, ◌≤◌, length}
+use Rattle.std.proofs.Common.{◌+◌, ◌-◌, ◌*◌, length}
 use Rattle.trick_rules.specs.Play.{cards_left}
-use Rattle.front_table.specs.Entries.{most_entry_vectors}
 use Rattle.alphamu_core.specs.Costs.{EntersEach}
+use Rattle.alphamu_core.specs.TreeSearches.{IsSameSearch}
 use Rattle.alphamu_core.proofs.Paid.{HasPaid}
 use Rattle.alphamu_core.proofs.OursSoFar.{OursSoFar}
 use Rattle.alphamu_core.proofs.TheirsSoFar.{TheirsSoFar}
-use Rattle.alphamu_core.proofs.walk.+walk.Given as goal
+use Rattle.alphamu_core.proofs.tree_search.TreeSearch.+walk.Given as goal
 
 -- each card is one fewer to play
 abbrev pub decreases-visit : goal.decreases-visit
@@ -26,10 +26,8 @@ decreases-at_defender g l = 4 * cards_left l.node.now.position
 abbrev pub invariant-at_declarer-cards : goal.invariant-at_declarer-cards
 invariant-at_declarer-cards g l = record {
   so : OursSoFar l.node (l.moves - 1) l.cards l.front;
-  paid : HasPaid (EntersEach l.rules g.S.FrontStore.blind) l.node (l.moves - 1) l.cards l.fn.budget.left l.budget.left;
-  nodes : l.budget.nodes ≡ l.fn.budget.nodes;
-  room : most_entry_vectors ≤ l.scratch.room;
-  grown : g.S.FrontStore.grown l.fn.store l.store;
+  paid : HasPaid (EntersEach l.fn.self.rules g.S.FrontStore.blind) l.node (l.moves - 1) l.cards l.fn.self.budget.now.left l.self.budget.now.left;
+  same : IsSameSearch g.S.FrontStore.grown l.fn.self l.self;
 }
 
 abbrev pub decreases-at_declarer-cards : goal.decreases-at_declarer-cards
@@ -38,10 +36,8 @@ decreases-at_declarer-cards g l = length l.cards
 abbrev pub invariant-at_defender-cards : goal.invariant-at_defender-cards
 invariant-at_defender-cards g l = record {
   so : TheirsSoFar l.node l.moves l.cards l.joiner;
-  paid : HasPaid (EntersEach l.rules g.S.FrontStore.blind) l.node l.moves l.cards l.fn.budget.left l.budget.left;
-  nodes : l.budget.nodes ≡ l.fn.budget.nodes;
-  room : most_entry_vectors ≤ l.scratch.room;
-  grown : g.S.FrontStore.grown l.fn.store l.store;
+  paid : HasPaid (EntersEach l.fn.self.rules g.S.FrontStore.blind) l.node l.moves l.cards l.fn.self.budget.now.left l.self.budget.now.left;
+  same : IsSameSearch g.S.FrontStore.grown l.fn.self l.self;
 }
 
 abbrev pub decreases-at_defender-cards : goal.decreases-at_defender-cards

@@ -3,16 +3,17 @@ use Rattle.alphamu_core.specs.declared.answers.RootFault.TheVariants.{Spent}
 use Rattle.strategy_games.specs.Choosing.{IsPick}
 use Rattle.strategy_tree.specs.Bridge.{bridge}
 use Rattle.plan_finder.specs.Choices.{IsChoiceSpentAt}
+use Rattle.plan_finder.proofs.SameSearch.{same_more, still_within, still_larger}
 use Rattle.plan_finder.proofs.Passed.{some_keeps, spent_here, same_width, first_found, none_more}
-use Rattle.plan_finder.proofs.choice.first_choice.Goals as goal
+use Rattle.plan_finder.proofs.searches.PlanSearch.first_choice.Goals as goal
 
 pub returns-in-Err-clause-spent : goal.returns-in-Err-clause-spent
 returns-in-Err-clause-spent g c = λ card e.
     let named : c.at_card.result ≡ Spent card = cc in
     let fault = c.at_card.ensures.only card named in
     let larger = c.in-Err.ensures.spent (ap Err fault.1) in
-    subst (λ card. IsChoiceSpentAt c.args.node.now c.args.moves c.args.vector.now c.args.nodes card) (sym fault.0)
-    (spent_here c.args.node.now c.args.moves c.args.vector.now c.cards.invariant.so c.in-Some.ensures.value c.in_ok-child.ensures.node c.args.nodes c.in-Some.ensures.a_set larger)
+    subst (λ card. IsChoiceSpentAt c.args.node.now c.args.moves c.args.vector.now c.args.self.now.nodes card) (sym fault.0)
+    (spent_here c.args.node.now c.args.moves c.args.vector.now c.cards.invariant.so c.in-Some.ensures.value c.in_ok-child.ensures.node c.args.self.now.nodes c.in-Some.ensures.a_set (still_larger c.cards.invariant.same _ larger))
 
 pub pick_of-requires-clause-width : goal.pick_of-requires-clause-width
 pick_of-requires-clause-width g c =
@@ -20,7 +21,7 @@ pick_of-requires-clause-width g c =
 
 pub pick_of-requires-clause-alpha_width : goal.pick_of-requires-clause-alpha_width
 pick_of-requires-clause-alpha_width g c =
-    c.in_ok-misses.ensures.width
+    c.in_ok-alpha.ensures.width
     ∙ same_width c.args.node.now c.args.moves c.args.vector.now c.cards.invariant.so c.in-Some.ensures.value c.in_ok-child.ensures.node c.requires.ours c.requires.vector
 
 pub returns-in-Some-vector-clause-first : goal.returns-in-Some-vector-clause-first
@@ -29,18 +30,17 @@ returns-in-Some-vector-clause-first g c =
     let found = first_found c.args.node.now c.args.moves c.args.vector.now c.cards.invariant.so c.in-Some.ensures.value c.in_ok-child.ensures.node c.in-Some-vector.above pick in
     record { first = found.0; after = c.in_ok-child.ensures.node; goes_on_with = found.1 }
 
-pub returns-in-Some-vector-clause-grown : goal.returns-in-Some-vector-clause-grown
-returns-in-Some-vector-clause-grown g c =
-    g.met.S.FrontStore.grown_more c.args.store.now c.cards.store c.pick_of.new.store c.cards.invariant.grown c.pick_of.ensures.grown
+pub returns-in-Some-vector-clause-same : goal.returns-in-Some-vector-clause-same
+returns-in-Some-vector-clause-same g c = same_more g.met.S.FrontStore.grown_more c.cards.invariant.same c.pick_of.ensures.same
 
 pub returns-in-Some-vector-clause-within : goal.returns-in-Some-vector-clause-within
-returns-in-Some-vector-clause-within g c = c.larger-entered.ensures.within c.args.nodes c.in-Ok.ensures.within c.cards.invariant.most
+returns-in-Some-vector-clause-within g c = c.larger-entered.ensures.within c.args.self.now.nodes (still_within c.cards.invariant.same _ c.in-Ok.ensures.within) c.cards.invariant.most
 
 pub cards-preserved : goal.cards-preserved
 cards-preserved g c = record {
   so = none_more c.args.node.now c.args.moves c.args.vector.now c.cards.invariant.so c.in-Some.ensures.value c.in_ok-child.ensures.node (c.in-Ok.ensures.none c.in_default-vector.is);
-  grown = g.met.S.FrontStore.grown_more c.args.store.now c.cards.store c.pick_of.new.store c.cards.invariant.grown c.pick_of.ensures.grown;
-  most = c.larger-entered.ensures.within c.args.nodes c.in-Ok.ensures.within c.cards.invariant.most;
+  same = same_more g.met.S.FrontStore.grown_more c.cards.invariant.same c.pick_of.ensures.same;
+  most = c.larger-entered.ensures.within c.args.self.now.nodes (still_within c.cards.invariant.same _ c.in-Ok.ensures.within) c.cards.invariant.most;
 }
 
 pub unreachable-requires : goal.unreachable-requires

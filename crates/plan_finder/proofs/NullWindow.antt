@@ -1,4 +1,4 @@
--- What a list of vectors, none of which dominates a vector, says of a node.
+-- What a search with the null window of a vector tells.
 use Rattle.std.proofs.Common.{◌≡◌, ◌↔◌, ℕ, zero, suc, true, false, Option, Some, None, Result, Ok, Err, List, [], ◌∷◌, Contains, replicate, IfSome, IsSome, sym, subst, ⊎_elim}
 use Rattle.std.specs.Prelude.{OnOk, slice_get, slice_set}
 use Rattle.win_vectors.specs.Fronts.{Vector, Dominates, Covers, IsFirstAbove, IsReduced}
@@ -11,7 +11,7 @@ use Rattle.strategy_games.proofs.Lists.{Contains-cons}
 use Rattle.strategy_games.proofs.Vectors.{Dominates-trans}
 use Rattle.strategy_tree.specs.Bridge.{bridge}
 use Rattle.front_table.specs.Proven.{IsFrontAt}
-use Rattle.plan_finder.specs.Choices.{AreMisses, KeepsNone}
+use Rattle.plan_finder.specs.Choices.{IsNullWindow, KeepsNone}
 
 -- ---- the vectors that miss a layout
 
@@ -26,25 +26,25 @@ miss_not_above (suc width) zero (false ∷ bits) is above = absurd cc
 miss_not_above (suc width) (suc place) (bit ∷ bits) is above = miss_not_above width place bits is above.1
 
 -- one more
-pub misses_more : (vector more : Vector) (before now : List Vector) → AreMisses vector before → (Dominates more vector → ⊥) → IsReduced (more ∷ before) now → AreMisses vector now
-misses_more vector more before now so not_above union = λ above inside dominates.
+pub window_more : (vector more : Vector) (before now : List Vector) → IsNullWindow vector before → (Dominates more vector → ⊥) → IsReduced (more ∷ before) now → IsNullWindow vector now
+window_more vector more before now so not_above union = λ above inside dominates.
     ⊎_elim
     (λ (same : more ≡ above). not_above (subst (λ v. Dominates v vector) (sym same) dominates))
     (λ (old : Contains before above). so above old dominates)
     (Contains-cons more before above (union.reached above inside))
 
-pub misses_on_ok : {T E : Type 0} (result : Result T E) (vector more : Vector) (before now : List Vector) → AreMisses vector before → (Dominates more vector → ⊥) → OnOk result (IsReduced (more ∷ before) now) → OnOk result (AreMisses vector now)
-misses_on_ok (Ok done) vector more before now so not_above union = misses_more vector more before now so not_above union
-misses_on_ok (Err refusal) vector more before now so not_above union = tt
+pub window_on_ok : {T E : Type 0} (result : Result T E) (vector more : Vector) (before now : List Vector) → IsNullWindow vector before → (Dominates more vector → ⊥) → OnOk result (IsReduced (more ∷ before) now) → OnOk result (IsNullWindow vector now)
+window_on_ok (Ok done) vector more before now so not_above union = window_more vector more before now so not_above union
+window_on_ok (Err refusal) vector more before now so not_above union = tt
 
 -- ---- what a search finds
 
 module _ (n : NodeValue) (moves : ℕ) (vector : Vector) where
   -- where they cover what every strategy wins, no strategy wins a vector above
-  pub below_keeps_none : (misses : List Vector) → AreMisses vector misses → IsBelow bridge n moves misses → KeepsNone n moves vector
-  below_keeps_none misses none below = λ front is (above, inside, dominates).
+  pub below_keeps_none : (alpha : List Vector) → IsNullWindow vector alpha → IsBelow bridge n moves alpha → KeepsNone n moves vector
+  below_keeps_none alpha none below = λ front is (above, inside, dominates).
       let can : CanWin bridge n moves above = is.reached above inside in
-      let covered : Covers misses above = subst (λ v. Covers misses v) can.2 (below can.0 can.1) in
+      let covered : Covers alpha above = subst (λ v. Covers alpha v) can.2 (below can.0 can.1) in
       none covered.0 covered.1 (Dominates-trans covered.0 above vector covered.2 dominates)
 
   module _ (found : FrontValue) (front : IsFrontAt n moves found) where
