@@ -13,4 +13,5 @@ pub mod Summing
 pub mod TopTrumps
 pub mod StoppedSuit
 pub mod Stoppers
+pub mod LastTwo
 pub mod AllTricks
