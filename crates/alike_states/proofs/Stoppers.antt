@@ -1,5 +1,5 @@
 -- Stoppers that count are stoppers in each alike state, and answer for it.
-use Rattle.std.proofs.Common.{◌≡◌, ◌⊎◌, ℕ, ◌≤◌, Bool, true, false, ◌&&◌, max, cond, List, [], length, filter, refl, sym, ap, ap₂, subst, ◌∙◌, inl, inr, arith}
+use Rattle.std.proofs.Common.{◌≡◌, ◌⊎◌, ℕ, ◌+◌, ◌≤◌, Bool, true, false, ◌&&◌, max, cond, List, [], length, filter, refl, sym, ap, ap₂, subst, ◌∙◌, inl, inr, arith}
 use Rattle.std.proofs.lemmas.Bool.{cases_Bool}
 use Rattle.card_sets.specs.declared.card.Suit.{Suit}
 use Rattle.card_sets.specs.declared.card.Suit.TheVariants.{Spades, Hearts, Diamonds, Clubs}
@@ -51,7 +51,10 @@ module _ (counting : List ℕ) (s t : State) (x : Seat) (stoppers : List ℕ) (c
       | inr out ↦ (let less = below_counting counting closed card other (within card stops) out (sym suit) (has_card-below (hand_of t seat) other (hand_set t ok' seat) held) in omega arith)
     ];
     lasting = let few = are.lasting in omega (arith, few, same_rounds, alike_tricks counting s t a);
-    kept = λ seat. let room = are.kept seat in omega (arith, room, same_rounds, alike_tricks counting s t a, ap (length {A = ℕ}) (same_ones seat));
+    kept = λ seat. elim (are.kept seat) as (λ _. (length (filter (has_card stoppers) (hand_of t seat)) ≤ 2) ⊎ (length (filter (has_card stoppers) (hand_of t seat)) + rounds t x stoppers ≤ tricks_left t.position)) [
+      | inl few ↦ inl (omega (arith, few, ap (length {A = ℕ}) (same_ones seat)))
+      | inr room ↦ inr (omega (arith, room, same_rounds, alike_tricks counting s t a, ap (length {A = ℕ}) (same_ones seat)))
+    ];
   }
 
 module _ (counting : List ℕ) (s : State) (stoppers : List ℕ) (closed : IsClosedUp counting) (within : IsSubset stoppers counting) (ok : IsState s)

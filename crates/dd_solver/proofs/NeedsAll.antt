@@ -22,7 +22,7 @@ use Rattle.alike_states.specs.Alike.{IsClosedUp, HasAnswer}
 use Rattle.alike_states.proofs.Stoppers.{our_failure_answers, their_failure_answers}
 use Rattle.dd_solver.specs.declared.hands.Hands.{Hands}
 use Rattle.dd_solver.specs.Closed.{up_from}
-use Rattle.dd_solver.specs.NeedsAll.{longer_of, rounds_in, AreHighest, DoOutlast}
+use Rattle.dd_solver.specs.NeedsAll.{longer_of, rounds_in, AreHighest, CanKeep, DoOutlast}
 
 -- ---- suits that are stopped
 
@@ -212,8 +212,19 @@ module _ (s : State) (ok : IsState s) (x : Seat) (hands : Hands) (own : hands.ow
       high' card other (part card h) (in_two hands.next hands.last theirs other others (has_card-below (hand_of s seat) other (hand_set s ok seat) mine)
       (among other (subst (λ (l : List ℕ). has_card l other ≡ true) (sym is) mine))) same
 
+  abbrev CanKeepIt : Seat → Type 0
+  CanKeepIt seat = (length (filter (has_card stoppers) (hand_of s seat)) ≤ 2) ⊎ (length (filter (has_card stoppers) (hand_of s seat)) + rounds s x stoppers ≤ tricks_left s.position)
+
+  can_keep : (seat : Seat) (hand : List ℕ) → hand ≡ hand_of s seat → CanKeep hands stoppers (tricks_left s.position) hand → CanKeepIt seat
+  can_keep seat hand is keeps =
+      let same = ap (λ (l : List ℕ). length (filter (has_card stoppers) l)) is in
+      elim keeps as (λ _. CanKeepIt seat) [
+        | inl few ↦ inl (omega (arith, few, same))
+        | inr room ↦ inr (omega (arith, room, same, same_rounds))
+      ]
+
   -- a hand of the side has none
-  none_of_ours : (seat : Seat) → seat ≢ seat_after 1 x → seat ≢ seat_after 3 x → length (filter (has_card stoppers) (hand_of s seat)) + rounds s x stoppers ≤ tricks_left s.position
+  none_of_ours : (seat : Seat) → seat ≢ seat_after 1 x → seat ≢ seat_after 3 x → CanKeepIt seat
   none_of_ours seat first third =
       let none : filter (has_card stoppers) (hand_of s seat) ≡ [] = filter-none (has_card stoppers) (hand_of s seat) (λ c h. elim (cases_Bool (has_card stoppers c)) as (λ _. has_card stoppers c ≡ false) [
         | inl e ↦ absurd (elim (holder c e) as (λ _. ⊥) [
@@ -223,8 +234,7 @@ module _ (s : State) (ok : IsState s) (x : Seat) (hands : Hands) (own : hands.ow
         | inr e ↦ e
       ]) in
       let empty = ap (length {A = ℕ}) none in
-      let few = outlast.lasting in
-      omega (arith, empty, few, same_rounds)
+      inl (omega (arith, empty))
 
   pub are_stoppers : AreStoppers s x stoppers
   are_stoppers = record {
@@ -233,11 +243,11 @@ module _ (s : State) (ok : IsState s) (x : Seat) (hands : Hands) (own : hands.ow
         (in_ours x hands.own own (λ c h. inl h) card other) (in_theirs (seat_after 1 x) hands.next next (λ c h. inl h) card other)
         (in_ours (seat_after 2 x) hands.partner partner (λ c h. inr h) card other) (in_theirs (seat_after 3 x) hands.last last (λ c h. inr h) card other) seat;
     lasting = let few = outlast.lasting in omega (arith, few, same_rounds);
-    kept = at_place (λ y. length (filter (has_card stoppers) (hand_of s y)) + rounds s x stoppers ≤ tricks_left s.position)
+    kept = at_place CanKeepIt
         (none_of_ours x (seats_differ 0 1 x (omega arith) (omega arith) (λ e. omega arith)) (seats_differ 0 3 x (omega arith) (omega arith) (λ e. omega arith)))
-        (let room = outlast.next in let same = ap (λ (l : List ℕ). length (filter (has_card stoppers) l)) next in omega (arith, room, same, same_rounds))
+        (can_keep (seat_after 1 x) hands.next next outlast.next)
         (none_of_ours (seat_after 2 x) (seats_differ 2 1 x (omega arith) (omega arith) (λ e. omega arith)) (seats_differ 2 3 x (omega arith) (omega arith) (λ e. omega arith)))
-        (let room = outlast.last in let same = ap (λ (l : List ℕ). length (filter (has_card stoppers) l)) last in omega (arith, room, same, same_rounds));
+        (can_keep (seat_after 3 x) hands.last last outlast.last);
   }
 
 pub failure_answers : (counting : List ℕ) (s : State) (stoppers : List ℕ) → IsClosedUp counting → IsSubset stoppers counting → IsState s → s.position.trick.cards ≡ [] → s.position.trump ≡ NoTrump

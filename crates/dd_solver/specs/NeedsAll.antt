@@ -1,5 +1,5 @@
 -- Stoppers among four hands, as one seat sees them.
-use Rattle.std.specs.Prelude.{◌≡◌, ℕ, ◌+◌, ◌<◌, ◌≤◌, true, List, length, filter, max, if◌then◌else◌}
+use Rattle.std.specs.Prelude.{◌≡◌, ◌⊎◌, ℕ, ◌+◌, ◌<◌, ◌≤◌, true, List, length, filter, max, if◌then◌else◌}
 use Rattle.card_sets.specs.declared.card.Suit.{Suit}
 use Rattle.card_sets.specs.declared.card.Suit.TheVariants.{Spades, Hearts, Diamonds, Clubs}
 use Rattle.card_sets.specs.Cards.{suit_of}
@@ -25,8 +25,13 @@ rounds_in hands stoppers = longer_of hands.own hands.partner stoppers Spades
     + longer_of hands.own hands.partner stoppers Diamonds
     + longer_of hands.own hands.partner stoppers Clubs
 
+-- this hand can keep its stoppers until the other suits are used up: it has two at most, or room for them
+abbrev pub CanKeep : Hands → List ℕ → ℕ → List ℕ → Type 0
+CanKeep hands stoppers tricks hand = (length (filter (has_card stoppers) hand) ≤ 2)
+    ⊎ (length (filter (has_card stoppers) hand) + rounds_in hands stoppers ≤ tricks)
+
 -- these stoppers are there when the other suits are used up: both opponents can keep theirs
 pub record DoOutlast (hands : Hands) (stoppers : List ℕ) (tricks : ℕ) : Type 0 where
   pub lasting : rounds_in hands stoppers < tricks
-  pub next : length (filter (has_card stoppers) hands.next) + rounds_in hands stoppers ≤ tricks
-  pub last : length (filter (has_card stoppers) hands.last) + rounds_in hands stoppers ≤ tricks
+  pub next : CanKeep hands stoppers tricks hands.next
+  pub last : CanKeep hands stoppers tricks hands.last

@@ -104,7 +104,8 @@ impl Hands {
         }
         let next = self.next.both(stoppers).count();
         let last = self.last.both(stoppers).count();
-        next.max(last) <= tricks - rounds
+        // A hand with two can keep the right one to the end.
+        next.max(last) <= 2.max(tricks - rounds)
     }
 
     // Of these stoppers, some that outlast the other suits too: fewer cards that count make an

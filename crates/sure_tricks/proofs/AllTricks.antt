@@ -1,9 +1,8 @@
 -- A side that needs all the tricks at no trump fails if its opponents' stoppers outlast its other suits: trick after trick.
-use Rattle.std.proofs.Common.{◌≡◌, ◌≢◌, ◌⊎◌, ℕ, zero, suc, ◌<◌, ◌≤◌, Bool, true, false, not, max, List, [], length, refl, sym, ap, ◌∙◌, subst, inl, inr, arith}
-use Rattle.std.proofs.lemmas.Bool.{cases_eq, cases_lt, false≢true}
+use Rattle.std.proofs.Common.{◌≡◌, ◌≢◌, ◌⊎◌, ℕ, zero, suc, ◌<◌, ◌≤◌, Bool, true, false, not, max, List, [], length, filter, refl, sym, ap, ◌∙◌, subst, inl, inr, arith}
+use Rattle.std.proofs.lemmas.Bool.{cases_lt, false≢true}
 use Rattle.card_sets.specs.declared.card.Suit.{Suit}
 use Rattle.card_sets.specs.declared.seat.Seat.{Seat}
-use Rattle.card_sets.specs.declared.seat.Seat.TheVariants.{Declarer, Left, Dummy, Right}
 use Rattle.card_sets.specs.Cards.{suit_of, rank_of, card_of}
 use Rattle.card_sets.specs.SetWords.{has_card}
 use Rattle.card_sets.proofs.Sets.{has_card-below}
@@ -14,10 +13,11 @@ use Rattle.trick_rules.specs.Play.{of_suit, after, hand_of, legal_in, is_declare
 use Rattle.trick_rules.proofs.States.{legal_can_play, legal_cards-low, cards_left-after}
 use Rattle.trick_rules.proofs.PlayLaws.{hands_are_apart}
 use Rattle.sure_tricks.specs.Stoppers.{rounds_of, AreStoppers}
-use Rattle.sure_tricks.proofs.Hands.{hand_set, next_three, seat_cases, by_card, by_each, Suffices}
+use Rattle.sure_tricks.proofs.Hands.{hand_set, by_card, by_each, Suffices}
 use Rattle.sure_tricks.proofs.Cash.{going}
 use Rattle.sure_tricks.proofs.TopTrumps.{sides, two_sides}
-use Rattle.sure_tricks.proofs.Stoppers.{IsRunning, IsOn, side_card, throws, led_card, next_card}
+use Rattle.sure_tricks.proofs.Stoppers.{IsRunning, IsOn, throw_from, side_card, led_card, next_card}
+use Rattle.sure_tricks.proofs.LastTwo.{opponent, of_the_side, last_two}
 
 -- ---- card after card
 
@@ -34,10 +34,13 @@ runs (suc n) b stoppers rounds s r at few h = elim at as (λ _. makes s ≡ not 
     | inl own ↦ by_each s (not b) r.ok (going s.position on) (λ c legal.
         next_card b stoppers rounds s r c legal (side_card b stoppers rounds s r (to_play s.position) own c (held_by_player c legal)) v on_v h
         (λ rounds' r' at' h'. runs n b stoppers rounds' (after s c) r' at' (fewer_left c legal) h'))
-    | inr theirs ↦ (let choice = throws b stoppers rounds s r v on_v in
-        by_card s (not b) choice.0 r.ok (going s.position on) theirs choice.1
-        (next_card b stoppers rounds s r choice.0 choice.1 choice.2 v on_v h
-        (λ rounds' r' at' h'. runs n b stoppers rounds' (after s choice.0) r' at' (fewer_left choice.0 choice.1) h')))
+    | inr theirs ↦ elim (cases_lt (length (filter (has_card stoppers) (hand_of s (to_play s.position)))) (length (hand_of s (to_play s.position)))) as (λ _. makes s ≡ not b) [
+      | inl more ↦ (let choice = throw_from s stoppers v on_v.some on_v.led on_v.plain more in
+          by_card s (not b) choice.0 r.ok (going s.position on) theirs choice.1
+          (next_card b stoppers rounds s r choice.0 choice.1 choice.2 v on_v h
+          (λ rounds' r' at' h'. runs n b stoppers rounds' (after s choice.0) r' at' (fewer_left choice.0 choice.1) h')))
+      | inr all ↦ last_two b stoppers rounds s r v on_v all h
+    ]
   ]
 ]
   where
@@ -51,42 +54,6 @@ runs (suc n) b stoppers rounds s r at few h = elim at as (λ _. makes s ≡ not 
     fewer_left c legal = let left = cards_left-after s.position c r.ok.sound (legal_can_play s r.ok c legal) in omega (arith, left, few)
 
 -- ---- between two tricks
-
-opponent : (x : Seat) (i : ℕ) → (i ≡ 1) ⊎ (i ≡ 3) → is_declarers (seat_after i x) ≡ not (is_declarers x)
-opponent x i at = elim at as (λ _. is_declarers (seat_after i x) ≡ not (is_declarers x)) [
-  | inl e ↦ ap (λ j. is_declarers (seat_after j x)) e ∙ next x
-  | inr e ↦ ap (λ j. is_declarers (seat_after j x)) e ∙ last x
-]
-  where
-    next : (y : Seat) → is_declarers (seat_after 1 y) ≡ not (is_declarers y)
-    next Declarer = refl
-    next Left = refl
-    next Dummy = refl
-    next Right = refl
-
-    last : (y : Seat) → is_declarers (seat_after 3 y) ≡ not (is_declarers y)
-    last Declarer = refl
-    last Left = refl
-    last Dummy = refl
-    last Right = refl
-
--- a seat of the side is the seat itself or its partner
-of_the_side : (x seat : Seat) → is_declarers seat ≡ is_declarers x → (seat ≡ x) ⊎ (seat ≡ seat_after 2 x)
-of_the_side x seat side = elim (seat_cases seat x) as (λ _. (seat ≡ x) ⊎ (seat ≡ seat_after 2 x)) [
-  | inl e ↦ inl e
-  | inr differ ↦ (let at = next_three x seat differ in
-      elim (cases_eq at.0 2) as (λ _. (seat ≡ x) ⊎ (seat ≡ seat_after 2 x)) [
-        | inl two ↦ inr (sym at.3 ∙ ap (λ i. seat_after i x) two)
-        | inr odd ↦ absurd (two_sides (is_declarers seat) (is_declarers x) side
-            (ap is_declarers (sym at.3) ∙ opponent x at.0 (one_or_three at.0 at.1 at.2 odd)))
-      ])
-]
-  where
-    one_or_three : (i : ℕ) → 1 ≤ i → i < 4 → i ≢ 2 → (i ≡ 1) ⊎ (i ≡ 3)
-    one_or_three i some low odd = elim (cases_lt i 2) as (λ _. (i ≡ 1) ⊎ (i ≡ 3)) [
-      | inl less ↦ inl (omega arith)
-      | inr more ↦ inr (omega (arith, some, low, odd, more))
-    ]
 
 ranked : (c d : ℕ) → c < 52 → d < 52 → suit_of c ≡ suit_of d → c < d → rank_of c < rank_of d
 ranked c d low_c low_d suit less =

@@ -17,17 +17,20 @@ use Rattle.trick_rules.proofs.TrickLemmas.{IsHighest, winner_from_highest}
 use Rattle.trick_rules.proofs.States.{after-IsState, after_card-trump, legal_can_play, legal_cards-low, cards_more}
 use Rattle.trick_rules.proofs.Soundness.{after_short}
 use Rattle.sure_tricks.proofs.Holding.{suit_test}
-use Rattle.sure_tricks.proofs.Hands.{hand_after, hand_stays, seats_differ, by_card, by_each, Suffices, settled, tricks_within, suffices_within, suffices_after}
+use Rattle.sure_tricks.proofs.Hands.{hand_after, hand_stays, seats_differ, next_three, by_card, by_each, Suffices, settled, tricks_within, suffices_within, suffices_after}
 use Rattle.sure_tricks.proofs.Cash.{going}
 use Rattle.sure_tricks.proofs.Crossing.{follows_legally}
-use Rattle.sure_tricks.proofs.TopTrumps.{highest_in, sides}
+use Rattle.sure_tricks.proofs.TopTrumps.{highest_in, sides, two_sides}
 
 -- ---- the winner of a trick
 
--- the cards of a side in a trick are lower than a card, as far as they are of its suit
+-- the cards of some seats in a trick are lower than a card, as far as they are of its suit
+abbrev pub AreLowerAt : (Seat → Type 0) → ℕ → Seat → List ℕ → Type 0
+AreLowerAt P w leader cards = (i : ℕ) → i < length cards → P (seat_after i leader) → suit_of (get_or cards i 0) ≡ suit_of w → rank_of (get_or cards i 0) < rank_of w
+
+-- those of a side
 abbrev pub AreLowerIn : Bool → ℕ → Seat → List ℕ → Type 0
-AreLowerIn b w leader cards = (i : ℕ) → i < length cards → is_declarers (seat_after i leader) ≡ b
-    → suit_of (get_or cards i 0) ≡ suit_of w → rank_of (get_or cards i 0) < rank_of w
+AreLowerIn b w leader cards = AreLowerAt (λ seat. is_declarers seat ≡ b) w leader cards
 
 suit_strength : (led : Suit) (c : ℕ) → suit_of c ≡ led → strength NoTrump led c ≡ rank_of c
 suit_strength led c e = rw (suit_test c led e) refl
@@ -35,17 +38,16 @@ suit_strength led c e = rw (suit_test c led e) refl
 other_strength : (led : Suit) (c : ℕ) → same_suit (suit_of c) led ≡ false → strength NoTrump led c ≡ 0
 other_strength led c e = rw e refl
 
-not_beaten : (b : Bool) (leader : Seat) (d : ℕ) (rest : List ℕ) (p h : ℕ) → p < length (d ∷ rest) → suit_of d ≡ suit_of (get_or (d ∷ rest) p 0)
-    → AreLowerIn b (get_or (d ∷ rest) p 0) leader (d ∷ rest) → IsHighest (map (strength NoTrump (suit_of d)) (d ∷ rest)) (length (d ∷ rest)) h
-    → is_declarers (seat_after h leader) ≡ b → ⊥
-not_beaten b leader d rest p h low suit lower high side =
+not_beaten : (P : Seat → Type 0) (leader : Seat) (d : ℕ) (rest : List ℕ) (p h : ℕ) → p < length (d ∷ rest) → suit_of d ≡ suit_of (get_or (d ∷ rest) p 0)
+    → AreLowerAt P (get_or (d ∷ rest) p 0) leader (d ∷ rest) → IsHighest (map (strength NoTrump (suit_of d)) (d ∷ rest)) (length (d ∷ rest)) h → P (seat_after h leader) → ⊥
+not_beaten P leader d rest p h low suit lower high among =
     let most = high.most p low in
     let at_p = get_or-map (strength NoTrump (suit_of d)) (d ∷ rest) p 0 0 low in
     let at_h = get_or-map (strength NoTrump (suit_of d)) (d ∷ rest) h 0 0 high.within in
     let own = suit_strength (suit_of d) (get_or (d ∷ rest) p 0) (sym suit) in
     elim (cases_Bool (same_suit (suit_of (get_or (d ∷ rest) h 0)) (suit_of d))) as (λ _. ⊥) [
       | inl e ↦ (let same : suit_of (get_or (d ∷ rest) h 0) ≡ suit_of d = same_suit-true (suit_of (get_or (d ∷ rest) h 0)) (suit_of d) e in
-          let less = lower h high.within side (same ∙ suit) in
+          let less = lower h high.within among (same ∙ suit) in
           let theirs = suit_strength (suit_of d) (get_or (d ∷ rest) h 0) same in
           omega arith)
       | inr e ↦ (let theirs = other_strength (suit_of d) (get_or (d ∷ rest) h 0) e in
@@ -53,16 +55,20 @@ not_beaten b leader d rest p h low suit lower high side =
           omega arith)
     ]
 
--- the other side wins a trick with a card of the suit led that is higher than those of the side
+-- none of these seats wins a trick in which another card of the suit led is higher than theirs
+pub not_won_by : (P : Seat → Type 0) (leader : Seat) (cards : List ℕ) (p : ℕ) → p < length cards → suit_of (get_or cards 0 0) ≡ suit_of (get_or cards p 0)
+    → AreLowerAt P (get_or cards p 0) leader cards → P (winner_of NoTrump (record { leader = leader; cards = cards })) → ⊥
+not_won_by P leader [] p low suit lower won = absurd (omega arith)
+not_won_by P leader (d ∷ rest) p low suit lower won =
+    let best : (h : ℕ) × IsHighest (map (strength NoTrump (suit_of d)) (d ∷ rest)) (length (d ∷ rest)) h = highest_in (map (strength NoTrump (suit_of d)) (d ∷ rest)) (length rest) in
+    not_beaten P leader d rest p best.0 low suit lower best.1 (subst P (winner_from_highest NoTrump leader (d ∷ rest) best.0 (omega arith) best.1) won)
+
 other_side_wins : (b : Bool) (leader : Seat) (cards : List ℕ) (p : ℕ) → p < length cards → suit_of (get_or cards 0 0) ≡ suit_of (get_or cards p 0)
     → AreLowerIn b (get_or cards p 0) leader cards → is_declarers (winner_of NoTrump (record { leader = leader; cards = cards })) ≡ not b
-other_side_wins b leader [] p low suit lower = absurd (omega arith)
-other_side_wins b leader (d ∷ rest) p low suit lower =
-    let best : (h : ℕ) × IsHighest (map (strength NoTrump (suit_of d)) (d ∷ rest)) (length (d ∷ rest)) h = highest_in (map (strength NoTrump (suit_of d)) (d ∷ rest)) (length rest) in
-    let won = ap is_declarers (winner_from_highest NoTrump leader (d ∷ rest) best.0 (omega arith) best.1) in
-    elim (sides (is_declarers (seat_after best.0 leader)) b) as (λ _. is_declarers (winner_of NoTrump (record { leader = leader; cards = d ∷ rest })) ≡ not b) [
-      | inl e ↦ absurd (not_beaten b leader d rest p best.0 low suit lower best.1 e)
-      | inr e ↦ won ∙ e
+other_side_wins b leader cards p low suit lower =
+    elim (sides (is_declarers (winner_of NoTrump (record { leader = leader; cards = cards }))) b) as (λ _. is_declarers (winner_of NoTrump (record { leader = leader; cards = cards })) ≡ not b) [
+      | inl e ↦ absurd (not_won_by (λ seat. is_declarers seat ≡ b) leader cards p low suit lower e)
+      | inr e ↦ e
     ]
 
 -- ---- while the cards are played
@@ -202,3 +208,64 @@ stopped (suc n) b w s st few h = elim st.there as (λ _. makes s ≡ not b) [
         (λ short st' h'. stopped n b w (after s c) st' (omega (arith, few, more_there b w s st c legal short)) h'))
   ]
 ]
+
+-- a card led to a suit that the other side heads
+pub stop_led : (b : Bool) (w : ℕ) (s : State) → IsState s → 1 ≤ tricks_left s.position → s.position.trump ≡ NoTrump → s.position.trick.cards ≡ [] → is_declarers s.position.trick.leader ≡ b
+    → (seat : Seat) × (is_declarers seat ≡ not b) × (has_card (hand_of s seat) w ≡ true)
+    → ((seat : Seat) → is_declarers seat ≡ b → (c : ℕ) → has_card (hand_of s seat) c ≡ true → suit_of c ≡ suit_of w → rank_of c < rank_of w)
+    → (c : ℕ) → has_card (legal_in s) c ≡ true → suit_of c ≡ suit_of w → Suffices (not b) s.position 1 → makes (after s c) ≡ not b
+stop_led b w s ok on trumps none side holder highest c legal suit h =
+    stopped 3 b w (after s c) is_stopped (omega (arith, more)) (suffices_within (not b) s.position c 1 ok.sound can short h)
+  where
+    empty : length s.position.trick.cards ≡ 0
+    empty = ap (length {A = ℕ}) none
+
+    short : length s.position.trick.cards < 3
+    short = omega (arith, empty)
+
+    can : CanPlay s.position c
+    can = legal_can_play s ok c legal
+
+    in_hand : has_card (hand_of s (to_play s.position)) c ≡ true
+    in_hand = legal_cards-low s.position.trick.cards (hand_of s (to_play s.position)) c legal
+
+    own : is_declarers (to_play s.position) ≡ b
+    own = ap (λ (l : List ℕ). is_declarers (seat_after (length l) s.position.trick.leader)) none ∙ side
+
+    first : get_or (s.position.trick.cards ++ c ∷ []) 0 0 ≡ c
+    first = ap (λ (l : List ℕ). get_or (l ++ c ∷ []) 0 0) none
+
+    is : (after s c).position.trick ≡ record { leader = s.position.trick.leader; cards = s.position.trick.cards ++ c ∷ [] }
+    is = ap (λ (u : PositionValue). u.trick) (after_short s.position c short)
+
+    more : length (after s c).position.trick.cards ≡ 1
+    more = ap (λ (t : TrickValue). length t.cards) is ∙ ap (λ (l : List ℕ). length (l ++ c ∷ [])) none
+
+    lower : AreLowerIn b w s.position.trick.leader (s.position.trick.cards ++ c ∷ [])
+    lower i low among same =
+        let count = cards_more s.position c in
+        let zeroth : i ≡ 0 = omega (arith, low, count, empty) in
+        subst (λ d. rank_of d < rank_of w) (sym (ap (λ j. get_or (s.position.trick.cards ++ c ∷ []) j 0) zeroth ∙ first)) (highest (to_play s.position) own c in_hand suit)
+
+    is_stopped : IsStopped b w (after s c)
+    is_stopped =
+        let place = next_three s.position.trick.leader holder.0 (λ e. two_sides (is_declarers holder.0) b (ap is_declarers e ∙ side) holder.1) in
+        let tricks = tricks_within s.position c ok.sound can short in
+        record {
+          ok = after-IsState s ok c legal;
+          on = omega (arith, tricks, on);
+          trumps = after_card-trump s.position c ∙ trumps;
+          some = omega (arith, more);
+          led = subst (λ (t : TrickValue). suit_of (get_or t.cards 0 0) ≡ suit_of w) (sym is) (ap suit_of first ∙ suit);
+          trick = subst (λ (t : TrickValue). AreLowerIn b w t.leader t.cards) (sym is) lower;
+          hands = λ seat among d held same. highest seat among d (take_out-low c (hand_of s seat) d (sym (ap (λ (l : List ℕ). has_card l d) (hand_after s c seat)) ∙ held)) same;
+          place = place.0;
+          low = place.2;
+          others = subst (λ (t : TrickValue). is_declarers (seat_after place.0 t.leader) ≡ not b) (sym is) (ap is_declarers place.3 ∙ holder.1);
+          there = inr (
+            (let later = place.1 in omega (arith, later, more)),
+            subst (λ (t : TrickValue). has_card (hand_of (after s c) (seat_after place.0 t.leader)) w ≡ true) (sym is)
+                (subst (λ y. has_card (hand_of (after s c) y) w ≡ true) (sym place.3)
+                (ap (λ (l : List ℕ). has_card l w) (hand_stays s c holder.0 ok in_hand (λ e. two_sides (is_declarers holder.0) b (ap is_declarers e ∙ own) holder.1)) ∙ holder.2)),
+          );
+        }

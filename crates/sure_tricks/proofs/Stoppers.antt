@@ -24,7 +24,7 @@ use Rattle.sure_tricks.proofs.Holding.{may_follow, suit_test}
 use Rattle.sure_tricks.proofs.Hands.{hand_after, hand_set, next_three, seat_cases, Suffices, settled, tricks_within, tricks_last, suffices_within, suffices_after}
 use Rattle.sure_tricks.proofs.Crossing.{follows_legally}
 use Rattle.sure_tricks.proofs.TopTrumps.{sides, two_sides}
-use Rattle.sure_tricks.proofs.StoppedSuit.{AreLowerIn, IsStopped, stopped}
+use Rattle.sure_tricks.proofs.StoppedSuit.{stop_led}
 
 -- ---- suits that are stopped
 
@@ -37,7 +37,7 @@ card_had cards suit h =
     (found.0, found.1, same_suit-true (suit_of found.0) suit found.2)
 
 -- a hand with more cards than stoppers
-spare : (p : ℕ → Bool) (hand : List ℕ) → length (filter p hand) < length hand → (c : ℕ) × (has_card hand c ≡ true) × (p c ≡ false)
+pub spare : (p : ℕ → Bool) (hand : List ℕ) → length (filter p hand) < length hand → (c : ℕ) × (has_card hand c ≡ true) × (p c ≡ false)
 spare p [] few = absurd (omega arith)
 spare p (x ∷ xs) few = go (p x) refl few (λ less. spare p xs less)
   where
@@ -45,6 +45,31 @@ spare p (x ∷ xs) few = go (p x) refl few (λ less. spare p xs less)
         → (length (filter p xs) < length xs → (c : ℕ) × (has_card xs c ≡ true) × (p c ≡ false)) → (c : ℕ) × (has_card (x ∷ xs) c ≡ true) × (p c ≡ false)
     go false e h rest = (x, first_has x xs, e)
     go true e h rest = let found = rest (omega arith) in (found.0, rw found.1 (or_true (eqb x found.0)), found.2)
+
+-- a card of the suit led, or else one that isn't among these
+pub throw_from : (s : State) (kept : List ℕ) (v : Suit) → 1 ≤ length s.position.trick.cards → suit_of (get_or s.position.trick.cards 0 0) ≡ v → has_suit kept v ≡ false
+    → length (filter (has_card kept) (hand_of s (to_play s.position))) < length (hand_of s (to_play s.position)) → (c : ℕ) × (has_card (legal_in s) c ≡ true) × (has_card kept c ≡ false)
+throw_from s kept v some led plain few = go s.position.trick.cards some led
+  where
+    hand : List ℕ
+    hand = hand_of s (to_play s.position)
+
+    not_kept : (c : ℕ) → suit_of c ≡ v → has_card kept c ≡ false
+    not_kept c suit = elim (cases_Bool (has_card kept c)) as (λ _. has_card kept c ≡ false) [
+      | inl e ↦ absurd (false≢true (sym plain ∙ subst (λ u. has_suit kept u ≡ true) suit (suit_had kept c e)))
+      | inr e ↦ e
+    ]
+
+    go : (cards : List ℕ) → 1 ≤ length cards → suit_of (get_or cards 0 0) ≡ v → (c : ℕ) × (has_card (legal_cards cards hand) c ≡ true) × (has_card kept c ≡ false)
+    go [] some led = absurd (omega arith)
+    go (d ∷ ds) some led = elim (cases_lt 0 (length (of_suit (suit_of d) hand))) as (λ _. (c : ℕ) × (has_card (legal_cards (d ∷ ds) hand) c ≡ true) × (has_card kept c ≡ false)) [
+      | inl has ↦ (let found = some_card (of_suit (suit_of d) hand) has in
+          let both = and_parts (has_card hand found.0) (same_suit (suit_of found.0) (suit_of d)) (sym (has_card-filter (λ c. same_suit (suit_of c) (suit_of d)) hand found.0) ∙ found.1) in
+          let suit : suit_of found.0 ≡ suit_of d = same_suit-true (suit_of found.0) (suit_of d) both.1 in
+          (found.0, follows_legally d ds hand found.0 both.0 suit, not_kept found.0 (suit ∙ led)))
+      | inr none ↦ (let other = spare (has_card kept) hand few in
+          (other.0, ap (λ (l : List ℕ). has_card (or_whole l hand) other.0) (nil_from_length (of_suit (suit_of d) hand) (omega arith)) ∙ other.1, other.2))
+    ]
 
 -- ---- rounds
 
@@ -55,13 +80,13 @@ total rounds = rounds Spades + rounds Hearts + rounds Diamonds + rounds Clubs
 abbrev pub fewer : (Suit → ℕ) → Suit → Suit → ℕ
 fewer rounds v suit = cond (same_suit suit v) (rounds suit - 1) (rounds suit)
 
-one_fewer : (rounds : Suit → ℕ) (v : Suit) → 1 ≤ rounds v → total (fewer rounds v) + 1 ≡ total rounds
+pub one_fewer : (rounds : Suit → ℕ) (v : Suit) → 1 ≤ rounds v → total (fewer rounds v) + 1 ≡ total rounds
 one_fewer rounds Spades some = omega arith
 one_fewer rounds Hearts some = omega arith
 one_fewer rounds Diamonds some = omega arith
 one_fewer rounds Clubs some = omega arith
 
-one_of_total : (rounds : Suit → ℕ) (v : Suit) → 1 ≤ rounds v → 1 ≤ total rounds
+pub one_of_total : (rounds : Suit → ℕ) (v : Suit) → 1 ≤ rounds v → 1 ≤ total rounds
 one_of_total rounds v some = let fall = one_fewer rounds v some in omega arith
 
 -- ---- while the side takes tricks
@@ -75,7 +100,7 @@ pub record IsRunning (b : Bool) (stoppers : List ℕ) (rounds : Suit → ℕ) (s
   pub highest : (w : ℕ) → has_card stoppers w ≡ true → (seat : Seat) → is_declarers seat ≡ b → (c : ℕ) → has_card (hand_of s seat) c ≡ true → suit_of c ≡ suit_of w → rank_of c < rank_of w
   pub bound : (seat : Seat) → is_declarers seat ≡ b → (suit : Suit) → has_suit stoppers suit ≡ false → length (of_suit suit (hand_of s seat)) ≤ rounds suit
   pub few : total rounds < tricks_left s.position
-  pub room : (seat : Seat) → length (filter (has_card stoppers) (hand_of s seat)) + total rounds ≤ tricks_left s.position
+  pub room : (seat : Seat) → (length (filter (has_card stoppers) (hand_of s seat)) ≤ 2) ⊎ (length (filter (has_card stoppers) (hand_of s seat)) + total rounds ≤ tricks_left s.position)
 
 -- within a trick to which a suit that isn't stopped was led: the hands of the side that have played have fewer cards of it
 pub record IsOn (b : Bool) (stoppers : List ℕ) (rounds : Suit → ℕ) (v : Suit) (s : State) : Type 0 where
@@ -96,36 +121,10 @@ module _ (b : Bool) (stoppers : List ℕ) (rounds : Suit → ℕ) (s : State) (r
   ]
 
   -- the seat to play has a card for each trick
-  full : length (hand_of s (to_play s.position)) ≡ tricks_left s.position
+  pub full : length (hand_of s (to_play s.position)) ≡ tricks_left s.position
   full =
       let turn : played_count s.position (to_play s.position) ≡ 0 = count_in-turn (length s.position.trick.cards) s.position.trick.leader r.ok.sound.trick_short in
       omega (arith, hand_length s r.ok (to_play s.position), turn)
-
-  -- what the opponents play: a card of the suit led, or else one that is no stopper
-  pub throws : (v : Suit) → IsOn b stoppers rounds v s → (c : ℕ) × (has_card (legal_in s) c ≡ true) × (has_card stoppers c ≡ false)
-  throws v at = go s.position.trick.cards at.some at.led
-    where
-      hand : List ℕ
-      hand = hand_of s (to_play s.position)
-
-      go : (cards : List ℕ) → 1 ≤ length cards → suit_of (get_or cards 0 0) ≡ v → (c : ℕ) × (has_card (legal_cards cards hand) c ≡ true) × (has_card stoppers c ≡ false)
-      go [] some led = absurd (omega arith)
-      go (d ∷ ds) some led = elim (cases_lt 0 (length (of_suit (suit_of d) hand))) as (λ _. (c : ℕ) × (has_card (legal_cards (d ∷ ds) hand) c ≡ true) × (has_card stoppers c ≡ false)) [
-        | inl has ↦ (let found = some_card (of_suit (suit_of d) hand) has in
-            let both = and_parts (has_card hand found.0) (same_suit (suit_of found.0) (suit_of d)) (sym (has_card-filter (λ c. same_suit (suit_of c) (suit_of d)) hand found.0) ∙ found.1) in
-            let suit : suit_of found.0 ≡ suit_of d = same_suit-true (suit_of found.0) (suit_of d) both.1 in
-            (found.0, follows_legally d ds hand found.0 both.0 suit, not_kept found.0 (suit ∙ led)))
-        | inr none ↦ (let room = r.room (to_play s.position) in
-            let one = one_of_total rounds v at.one in
-            let other = spare (has_card stoppers) hand (omega (arith, room, one, full)) in
-            (other.0, ap (λ (l : List ℕ). has_card (or_whole l hand) other.0) (nil_from_length (of_suit (suit_of d) hand) (omega arith)) ∙ other.1, other.2))
-      ]
-        where
-          not_kept : (c : ℕ) → suit_of c ≡ v → has_card stoppers c ≡ false
-          not_kept c suit = elim (cases_Bool (has_card stoppers c)) as (λ _. has_card stoppers c ≡ false) [
-            | inl e ↦ absurd (false≢true (sym at.plain ∙ subst (λ u. has_suit stoppers u ≡ true) suit (suit_had stoppers c e)))
-            | inr e ↦ e
-          ]
 
   -- ---- after a card that is no stopper
 
@@ -145,6 +144,15 @@ module _ (b : Bool) (stoppers : List ℕ) (rounds : Suit → ℕ) (s : State) (r
     no_more : (p : ℕ → Bool) (seat : Seat) → length (filter p (hand_of (after s c) seat)) ≤ length (filter p (hand_of s seat))
     no_more p seat = subst (λ (l : List ℕ). length (filter p l) ≤ length (filter p (hand_of s seat))) (sym (hand_after s c seat)) (count_less p (hand_of s seat) c)
 
+    less_room : (seat : Seat) (tricks left : ℕ) → tricks_left s.position + left ≤ tricks + total rounds
+        → (length (filter (has_card stoppers) (hand_of (after s c) seat)) ≤ 2) ⊎ (length (filter (has_card stoppers) (hand_of (after s c) seat)) + left ≤ tricks)
+    less_room seat tricks left fall =
+        let less = no_more (has_card stoppers) seat in
+        elim (r.room seat) as (λ _. (length (filter (has_card stoppers) (hand_of (after s c) seat)) ≤ 2) ⊎ (length (filter (has_card stoppers) (hand_of (after s c) seat)) + left ≤ tricks)) [
+          | inl few ↦ inl (omega (arith, few, less))
+          | inr room ↦ inr (omega (arith, room, less, fall))
+        ]
+
     held_after : (w : ℕ) → has_card stoppers w ≡ true → (seat : Seat) × (is_declarers seat ≡ not b) × (has_card (hand_of (after s c) seat) w ≡ true)
     held_after w stops =
         let theirs = r.held w stops in
@@ -163,7 +171,7 @@ module _ (b : Bool) (stoppers : List ℕ) (rounds : Suit → ℕ) (s : State) (r
           highest = λ w stops seat side d h suit. r.highest w stops seat side d (was seat d h) suit;
           bound = λ seat side suit plain. let one = no_more (λ d. same_suit (suit_of d) suit) seat in let most = r.bound seat side suit plain in omega arith;
           few = let few = r.few in omega arith;
-          room = λ seat. let one = no_more (has_card stoppers) seat in let room = r.room seat in omega arith;
+          room = λ seat. less_room seat (tricks_left (after s c).position) (total rounds) (omega (arith, tricks));
         }
 
     -- the hand that played has fewer cards of the suit led
@@ -222,7 +230,7 @@ module _ (b : Bool) (stoppers : List ℕ) (rounds : Suit → ℕ) (s : State) (r
             highest = λ w stops seat side d h suit. r.highest w stops seat side d (was seat d h) suit;
             bound = bound_next;
             few = let few = r.few in omega arith;
-            room = λ seat. let less = no_more (has_card stoppers) seat in let room = r.room seat in omega arith;
+            room = λ seat. less_room seat (tricks_left (after s c).position) (total (fewer rounds v)) (omega (arith, tricks, fall));
           }
         where
           place_of : (seat : Seat) → (i : ℕ) × (i < 4) × (seat_after i s.position.trick.leader ≡ seat)
@@ -259,9 +267,12 @@ module _ (b : Bool) (stoppers : List ℕ) (rounds : Suit → ℕ) (s : State) (r
     -- a card led: its suit is stopped, or a trick goes on
     pub led_card : s.position.trick.cards ≡ [] → Suffices (not b) s.position 1 → IsAnswered → makes (after s c) ≡ not b
     led_card none h again = elim (cases_Bool (has_suit stoppers (suit_of c))) as (λ _. makes (after s c) ≡ not b) [
-      | inl stops ↦ stopped 3 b (stopper stops).0 (after s c) (is_stopped stops) (omega (arith, more)) one_still
+      | inl stops ↦ (let w = card_had stoppers (suit_of c) stops in
+          let few = r.few in
+          stop_led b w.0 s r.ok (omega (arith, few)) r.trumps none r.side (r.held w.0 w.1) (r.highest w.0 w.1) c legal (sym w.2) h)
       | inr plain ↦ again rounds (running_on short)
-          (inr (suit_of c, on_more (suit_of c) plain (some plain) (inl refl) short (ap suit_of first) (λ i low. absurd (omega (arith, low, empty))))) one_still
+          (inr (suit_of c, on_more (suit_of c) plain (some plain) (inl refl) short (ap suit_of first) (λ i low. absurd (omega (arith, low, empty)))))
+          (suffices_within (not b) s.position c 1 r.ok.sound can short h)
     ]
       where
         empty : length s.position.trick.cards ≡ 0
@@ -276,55 +287,11 @@ module _ (b : Bool) (stoppers : List ℕ) (rounds : Suit → ℕ) (s : State) (r
         first : get_or (s.position.trick.cards ++ c ∷ []) 0 0 ≡ c
         first = ap (λ (l : List ℕ). get_or (l ++ c ∷ []) 0 0) none
 
-        is : (after s c).position.trick ≡ record { leader = s.position.trick.leader; cards = s.position.trick.cards ++ c ∷ [] }
-        is = ap (λ (u : PositionValue). u.trick) (after_short s.position c short)
-
-        more : length (after s c).position.trick.cards ≡ 1
-        more = ap (λ (t : TrickValue). length t.cards) is ∙ ap (λ (l : List ℕ). length (l ++ c ∷ [])) none
-
-        one_still : Suffices (not b) (after s c).position 1
-        one_still = suffices_within (not b) s.position c 1 r.ok.sound can short h
-
         some : has_suit stoppers (suit_of c) ≡ false → 1 ≤ rounds (suit_of c)
         some plain =
             let most = r.bound (to_play s.position) own (suit_of c) plain in
             let has = one_of (λ d. same_suit (suit_of d) (suit_of c)) (hand_of s (to_play s.position)) c in_hand (same_suit-refl (suit_of c)) in
             omega arith
-
-        stopper : has_suit stoppers (suit_of c) ≡ true → (w : ℕ) × (has_card stoppers w ≡ true) × (suit_of w ≡ suit_of c)
-        stopper stops = card_had stoppers (suit_of c) stops
-
-        is_stopped : (stops : has_suit stoppers (suit_of c) ≡ true) → IsStopped b (stopper stops).0 (after s c)
-        is_stopped stops =
-            let w = stopper stops in
-            let holder = held_after w.0 w.1 in
-            let place = next_three s.position.trick.leader holder.0 (λ e. two_sides (is_declarers holder.0) b (ap is_declarers e ∙ r.side) holder.1) in
-            let tricks = tricks_within s.position c r.ok.sound can short in
-            let few = r.few in
-            record {
-              ok = after-IsState s r.ok c legal;
-              on = omega (arith, tricks, few);
-              trumps = after_card-trump s.position c ∙ r.trumps;
-              some = omega (arith, more);
-              led = subst (λ (t : TrickValue). suit_of (get_or t.cards 0 0) ≡ suit_of w.0) (sym is) (ap suit_of first ∙ sym w.2);
-              trick = subst (λ (t : TrickValue). AreLowerIn b w.0 t.leader t.cards) (sym is) (lower w.0 w.1 w.2);
-              hands = λ seat side d h suit. r.highest w.0 w.1 seat side d (was seat d h) suit;
-              place = place.0;
-              low = place.2;
-              others = subst (λ (t : TrickValue). is_declarers (seat_after place.0 t.leader) ≡ not b) (sym is) (ap is_declarers place.3 ∙ holder.1);
-              there = inr (
-                (let later = place.1 in omega (arith, later, more)),
-                subst (λ (t : TrickValue). has_card (hand_of (after s c) (seat_after place.0 t.leader)) w.0 ≡ true) (sym is)
-                    (subst (λ y. has_card (hand_of (after s c) y) w.0 ≡ true) (sym place.3) holder.2),
-              );
-            }
-          where
-            lower : (w : ℕ) → has_card stoppers w ≡ true → suit_of w ≡ suit_of c → AreLowerIn b w s.position.trick.leader (s.position.trick.cards ++ c ∷ [])
-            lower w stopping same i low side suit =
-                let count = cards_more s.position c in
-                let zeroth : i ≡ 0 = omega (arith, low, count, empty) in
-                subst (λ d. rank_of d < rank_of w) (sym (ap (λ j. get_or (s.position.trick.cards ++ c ∷ []) j 0) zeroth ∙ first))
-                (r.highest w stopping (to_play s.position) own c in_hand (sym same))
 
     -- a card played to a suit that isn't stopped
     pub next_card : (v : Suit) → IsOn b stoppers rounds v s → Suffices (not b) s.position 1 → IsAnswered → makes (after s c) ≡ not b

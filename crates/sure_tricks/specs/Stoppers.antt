@@ -33,5 +33,6 @@ pub record AreStoppers (s : State) (x : Seat) (stoppers : List ℕ) : Type 0 whe
   pub highest : (card other : ℕ) (seat : Seat) → has_card stoppers card ≡ true
       → has_card (hand_of s seat) other ≡ true → suit_of other ≡ suit_of card → other ≤ card
   pub lasting : rounds s x stoppers < tricks_left s.position
-  pub kept : (seat : Seat) → length (filter (has_card stoppers) (hand_of s seat))
-      + rounds s x stoppers ≤ tricks_left s.position
+  pub kept : (seat : Seat) → (length (filter (has_card stoppers) (hand_of s seat)) ≤ 2)
+      ⊎ (length (filter (has_card stoppers) (hand_of s seat)) + rounds s x stoppers
+      ≤ tricks_left s.position)
