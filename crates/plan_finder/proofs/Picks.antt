@@ -1,5 +1,5 @@
 -- The vector that a plan goes on with.
-use Rattle.std.proofs.Common.{◌≡◌, ◌∙◌, ◌-◌, ◌+◌, ◌*◌, ◌<◌, ◌≤◌, ℕ, zero, suc, Bool, true, false, Result, Ok, Err, IsErrAnd, IsErrOf, Contains, length, sym, subst, inl, true≢false, arith}
+use Rattle.std.proofs.Common.{◌≡◌, ◌∙◌, ◌-◌, ◌+◌, ◌*◌, ◌<◌, ℕ, zero, suc, Bool, true, false, Result, Ok, Err, IsErrAnd, IsErrOf, Contains, length, sym, subst, inl, true≢false, arith}
 use Rattle.win_vectors.specs.Fronts.{Vector, IsFirstAbove}
 use Rattle.win_vectors.proofs.Orders.{Dominates-refl}
 use Rattle.pareto_fronts.specs.FrontValue.{FrontValue}
@@ -16,7 +16,7 @@ use Rattle.strategy_tree.proofs.CardLists.{has_card-from_Contains}
 use Rattle.strategy_tree.proofs.BridgeLaws.{one_front, sizes}
 use Rattle.strategy_tree.proofs.BridgeNodes.{length-states, stops-bridge}
 use Rattle.front_table.specs.Proven.{IsFrontAt}
-use Rattle.alphamu_core.proofs.OpenNodes.{some_moves, fewer_cards}
+use Rattle.alphamu_core.proofs.OpenNodes.{fewer_cards}
 use Rattle.plan_finder.specs.Targets.{IsOfFront}
 use Rattle.plan_finder.specs.SpentPlans.{IsPlanSpentAt}
 use Rattle.plan_finder.specs.Choices.{IsFirstChoice, IsChoiceSpentAt}
@@ -113,9 +113,6 @@ larger_than n (suc m) t nodes card sound ours large =
 
 pub open_at : (n : NodeValue) (moves : ℕ) (stop : Bool) → stop ≡ nodes.stops n moves → stop ≡ false → stops bridge n moves ≡ false
 open_at n moves stop e off = stops-bridge n moves ∙ sym e ∙ off
-
-pub a_move_left : (n : NodeValue) (moves : ℕ) → stops bridge n moves ≡ false → 1 ≤ moves
-a_move_left n moves goes_on = let some = some_moves n moves goes_on in omega arith
 
 -- the node after the first choice, and what the plan goes on with there
 module _ (n : NodeValue) (moves : ℕ) (t : Vector) (choice : Choice) (first : IsFirstChoice n moves t choice) where

@@ -71,7 +71,7 @@ impl Model for PlanWriter {
     ghost invariant = { λ writer. AllStand writer.text.items writer.slots.items };
 }
 
-// So many slots with nothing in them.
+// This many slots with nothing in them.
 fn empty_slots(alloc: Global, count: usize) -> Result<Vec<Option<WrittenPlan>>, AllocError>
     ensures { IfOk result (λ slots. All (λ slot. slot ≡ None) slots.items) }
 {

@@ -53,13 +53,14 @@ impl PlanWriter {
             nodes,
             rules: rules_of(cuts),
         };
-        search.write_plan(self, node, moves, target)
+        search.write_root(self, node, moves, target)
     }
 }
 
 impl<S: FrontStore> PlanSearch<'_, S> {
-    #[cycle(write)]
-    fn write_plan(
+    // The plan for a vector of the root's front. If a search is spent, the fault names the root card
+    // that it came after.
+    fn write_root(
         &mut self,
         out: &mut PlanWriter,
         node: &Node,
@@ -129,10 +130,10 @@ impl<S: FrontStore> PlanSearch<'_, S> {
         moves: u8,
         vector: &WinVector,
     ) -> Result<Option<Entered>, SearchFault>
-        requires ours { bridge.is_ours node.now ≡ true }
-        requires a_move { 1 ≤ moves }
         requires few_moves { moves ≤ most_moves }
         requires a_node { IsNode node.now }
+        requires goes_on { stops bridge node.now moves ≡ false }
+        requires ours { bridge.is_ours node.now ≡ true }
         requires vector { IsOfFront node.now moves vector.now }
         ensures plan { OnOk result (IsPlanWritten node.now moves vector.now out.old out.new) }
         ensures within { IfOk result (λ most. IfSome most (IsWithin self.old.nodes)) }
@@ -144,13 +145,38 @@ impl<S: FrontStore> PlanSearch<'_, S> {
             return Ok(None);
         }
         let start = out.len();
-        match self.write_plan(out, node, moves, vector) {
-            Ok(most) => {
-                out.remember(node, moves, vector, start)?;
-                Ok(most)
-            }
-            Err(fault) => Err(without_card(fault)),
-        }
+        let most = self.write_play(out, node, moves, vector)?;
+        out.remember(node, moves, vector, start)?;
+        Ok(most)
+    }
+
+    // The first card that keeps the vector, and the plan after it.
+    #[cycle(write)]
+    fn write_play(
+        &mut self,
+        out: &mut PlanWriter,
+        node: &Node,
+        moves: u8,
+        vector: &WinVector,
+    ) -> Result<Option<Entered>, SearchFault>
+        requires few_moves { moves ≤ most_moves }
+        requires a_node { IsNode node.now }
+        requires goes_on { stops bridge node.now moves ≡ false }
+        requires ours { bridge.is_ours node.now ≡ true }
+        requires vector { IsOfFront node.now moves vector.now }
+        ensures plan { OnOk result (IsPlanWritten node.now moves vector.now out.old out.new) }
+        ensures within { IfOk result (λ most. IfSome most (IsWithin self.old.nodes)) }
+        ensures spent { IsErrOf result SearchFault.Spent
+            → self.old.nodes < tree_size bridge node.now moves }
+        ensures same { IsSameSearch S.grown self.old self.new }
+    {
+        let first = match self.first_choice(node, moves, vector) {
+            Ok(first) => first,
+            Err(fault) => return Err(without_card(fault)),
+        };
+        push_play(out, first.card)?;
+        let below = self.write_below(out, &first.child, moves - 1, &first.vector)?;
+        Ok(Some(first.most.larger(below)))
     }
 
     // A plan for each card of a defender, behind the line of the card.

@@ -2,11 +2,9 @@ use Rattle.std.proofs.Common.{◌≡◌, ◌∙◌, ℕ, List, Option, IfSome, l
 use Rattle.std.proofs.lemmas.Result.{on_ok_weaker}
 use Rattle.win_vectors.specs.Fronts.{Vector, Covers, IsFirstAbove}
 use Rattle.strategy_tree.proofs.CardLists.{has_card-from_Contains}
-use Rattle.alphamu_core.specs.declared.answers.RootFault.TheVariants.{Spent as RootSpent}
 use Rattle.alphamu_core.specs.declared.answers.SearchFault.TheVariants.{Spent}
-use Rattle.plan_finder.specs.SpentPlans.{IsPlanSpentAt}
 use Rattle.plan_finder.proofs.SameSearch.{same_none, same_more, still_within, most_within, still_larger}
-use Rattle.plan_finder.proofs.Picks.{open_at, a_move_left, length-of_front, too_large_first, too_large_below, larger_than, node_after, fewer_after, vector_after, passed_on}
+use Rattle.plan_finder.proofs.Picks.{open_at, too_large_first, too_large_below, larger_than, node_after, fewer_after, vector_after, passed_on}
 use Rattle.plan_finder.proofs.Replied.{replied_none, next_reply, node_below, fewer_below, spent_below, mask_width, mask_some, part_width, part_above, above_of, replied_more}
 use Rattle.plan_finder.proofs.WrittenPlans.{stop_written, play_written, hear_written, none_written, so_far, all_written, one_more_written}
 use Rattle.plan_finder.proofs.searches.PlanSearch.+write.Goals as goal
@@ -16,18 +14,12 @@ use Rattle.plan_finder.proofs.searches.PlanSearch.+write.Goals as goal
 pub write_below-write_remembered-requires : goal.write_below-write_remembered-requires
 write_below-write_remembered-requires g t c κs within =
     let goes_on = open_at c.args.node.now c.args.moves c.stops.result c.stops.ensures c.if-stops.false in
-    (omega arith, (within, (sym c.is_ours.ensures ∙ c.if-is_ours.true, (a_move_left c.args.node.now c.args.moves goes_on, (c.requires.few_moves, (c.requires.a_node, c.requires.vector))))))
+    (omega arith, (within, (c.requires.few_moves, (c.requires.a_node, (goes_on, (sym c.is_ours.ensures ∙ c.if-is_ours.true, c.requires.vector))))))
 
 pub write_below-write_replies-requires : goal.write_below-write_replies-requires
 write_below-write_replies-requires g t c κs within =
     let goes_on = open_at c.args.node.now c.args.moves c.stops.result c.stops.ensures c.if-stops.false in
     (omega arith, (within, (c.requires.few_moves, (c.requires.a_node, (goes_on, (sym c.is_ours.ensures ∙ c.if-is_ours.false, c.requires.vector))))))
-
-pub write_remembered-returns-in-Err-clause-spent : goal.write_remembered-returns-in-Err-clause-spent
-write_remembered-returns-in-Err-clause-spent g t c = λ e.
-    let spent : c.without_card.result ≡ Spent = cc in
-    let fault = c.without_card.ensures.only spent in
-    larger_than c.args.node.now c.args.moves c.args.vector.now c.args.self.now.nodes fault.0 c.requires.a_node c.requires.ours (c.in-Err.ensures.spent fault.0 (ap Err fault.1))
 
 pub write_below-returns-then-stops-clause-plan : goal.write_below-returns-then-stops-clause-plan
 write_below-returns-then-stops-clause-plan g t c = stop_written c.args.node.now c.args.moves c.args.vector.now _ _ (sym c.stops.ensures ∙ c.if-stops.true) c.in_ok-push_stop.ensures
@@ -42,48 +34,35 @@ write_below-returns-clause-plan g t c =
 
 -- ---- declarer's side
 
-pub write_plan-returns-then-stops-clause-plan : goal.write_plan-returns-then-stops-clause-plan
-write_plan-returns-then-stops-clause-plan g t c = stop_written c.args.node.now c.args.moves c.args.target.now _ _ (sym c.stops.ensures ∙ c.if-stops.true) c.in_ok-push_stop.ensures
+pub write_play-returns-in-Err-clause-spent : goal.write_play-returns-in-Err-clause-spent
+write_play-returns-in-Err-clause-spent g t c = λ e.
+    let spent : c.without_card.result ≡ Spent = cc in
+    let fault = c.without_card.ensures.only spent in
+    larger_than c.args.node.now c.args.moves c.args.vector.now c.args.self.now.nodes fault.0 c.requires.a_node c.requires.ours
+    (too_large_first c.args.node.now c.args.moves c.args.vector.now c.args.self.now.nodes fault.0 c.requires.goes_on c.requires.vector (c.in-Err.ensures.spent fault.0 (ap Err fault.1)))
 
-pub write_plan-prove-unreachable-requires : goal.write_plan-prove-unreachable-requires
-write_plan-prove-unreachable-requires g t c =
-    let same = length-of_front c.args.node.now c.args.moves c.args.target.now c.requires.target in
-    c.if-prove.true (c.width.ensures.value ∙ same ∙ sym c.width-2.ensures.value)
+pub write_play-write_below-requires : goal.write_play-write_below-requires
+write_play-write_below-requires g t c κs within =
+    let first = c.in-Ok.ensures.first in
+    let less = fewer_after c.args.node.now c.args.moves c.args.vector.now c.in-Ok.first first c.requires.a_node in
+    (omega arith, (within, (omega (arith, c.requires.few_moves), (node_after c.args.node.now c.args.moves c.args.vector.now c.in-Ok.first first c.requires.a_node, vector_after c.args.node.now c.args.moves c.args.vector.now c.in-Ok.first first))))
 
-pub write_plan-first_choice-requires-clause-goes_on : goal.write_plan-first_choice-requires-clause-goes_on
-write_plan-first_choice-requires-clause-goes_on g t c = open_at c.args.node.now c.args.moves c.stops.result c.stops.ensures c.if-stops.false
+pub write_play-returns-clause-plan : goal.write_play-returns-clause-plan
+write_play-returns-clause-plan g t c =
+    play_written c.args.node.now c.args.moves c.args.vector.now c.in-Ok.first _ _ _ c.requires.goes_on c.requires.ours c.requires.vector c.in-Ok.ensures.first c.in_ok-push_play.ensures c.in_ok-below.ensures.plan
 
-pub write_plan-returns-in_err-first-clause-spent : goal.write_plan-returns-in_err-first-clause-spent
-write_plan-returns-in_err-first-clause-spent g t c = λ card e.
-    let goes_on = open_at c.args.node.now c.args.moves c.stops.result c.stops.ensures c.if-stops.false in
-    let fault = passed_on c.from_residual-in_err-first.result c.in_err-first.field-0.0 (RootSpent card) c.from_residual-in_err-first.ensures.1 e in
-    too_large_first c.args.node.now c.args.moves c.args.target.now c.args.self.now.nodes card goes_on c.requires.target (c.in_err-first.ensures.spent card (ap Err fault))
+pub write_play-returns-in_err-below-clause-spent : goal.write_play-returns-in_err-below-clause-spent
+write_play-returns-in_err-below-clause-spent g t c = λ e.
+    let fault = passed_on c.from_residual-in_err-below.result c.in_err-below.field-0.0 Spent c.from_residual-in_err-below.ensures.1 e in
+    let larger = still_larger c.in-Ok.ensures.same _ (c.in_err-below.ensures.spent (ap Err fault)) in
+    larger_than c.args.node.now c.args.moves c.args.vector.now c.args.self.now.nodes c.in-Ok.first.card c.requires.a_node c.requires.ours
+    (too_large_below c.args.node.now c.args.moves c.args.vector.now c.args.self.now.nodes c.in-Ok.first c.requires.goes_on c.requires.vector c.in-Ok.ensures.first larger)
 
-pub write_plan-write_below-requires : goal.write_plan-write_below-requires
-write_plan-write_below-requires g t c κs within =
-    let sound = c.width-2.ensures.a_node in
-    let first = c.in_ok-first.ensures.first in
-    let less = fewer_after c.args.node.now c.args.moves c.args.target.now c.in_ok-first.first first sound in
-    (omega arith, (within, (omega arith, (node_after c.args.node.now c.args.moves c.args.target.now c.in_ok-first.first first sound, vector_after c.args.node.now c.args.moves c.args.target.now c.in_ok-first.first first))))
+pub write_play-returns-clause-same : goal.write_play-returns-clause-same
+write_play-returns-clause-same g t c = same_more g.met.S.FrontStore.grown_more c.in-Ok.ensures.same c.in_ok-below.ensures.same
 
-pub write_plan-returns-in-Ok-clause-plan : goal.write_plan-returns-in-Ok-clause-plan
-write_plan-returns-in-Ok-clause-plan g t c =
-    let goes_on = open_at c.args.node.now c.args.moves c.stops.result c.stops.ensures c.if-stops.false in
-    play_written c.args.node.now c.args.moves c.args.target.now c.in_ok-first.first _ _ _ goes_on c.requires.ours c.requires.target c.in_ok-first.ensures.first c.in_ok-push_play.ensures c.in-Ok.ensures.plan
-
-pub write_plan-returns-clause-spent : goal.write_plan-returns-clause-spent
-write_plan-returns-clause-spent g t c = λ card e.
-    let goes_on = open_at c.args.node.now c.args.moves c.stops.result c.stops.ensures c.if-stops.false in
-    let named : c.at_card.result ≡ RootSpent card = cc in
-    let fault = c.at_card.ensures.only card named in
-    subst (λ card. IsPlanSpentAt c.args.node.now c.args.moves c.args.target.now c.args.self.now.nodes card) (sym fault.0)
-    (too_large_below c.args.node.now c.args.moves c.args.target.now c.args.self.now.nodes c.in_ok-first.first goes_on c.requires.target c.in_ok-first.ensures.first (still_larger c.in_ok-first.ensures.same _ (c.in-Err.ensures.spent (ap Err fault.1))))
-
-pub write_plan-returns-clause-same : goal.write_plan-returns-clause-same
-write_plan-returns-clause-same g t c = same_more g.met.S.FrontStore.grown_more c.in_ok-first.ensures.same c.in-Err.ensures.same
-
-pub write_plan-returns-in-Ok-clause-same : goal.write_plan-returns-in-Ok-clause-same
-write_plan-returns-in-Ok-clause-same g t c = same_more g.met.S.FrontStore.grown_more c.in_ok-first.ensures.same c.in-Ok.ensures.same
+pub write_play-returns-in_err-below-clause-same : goal.write_play-returns-in_err-below-clause-same
+write_play-returns-in_err-below-clause-same g t c = same_more g.met.S.FrontStore.grown_more c.in-Ok.ensures.same c.in_err-below.ensures.same
 
 -- ---- a defender
 

@@ -6,8 +6,8 @@ use Rattle.plan_finder.specs.Written.{AreRepliesWritten}
 use Rattle.plan_finder.proofs.searches.PlanSearch.+write.Given as goal
 
 -- each card is one fewer to play
-abbrev pub decreases-write_plan : goal.decreases-write_plan
-decreases-write_plan g l = 3 * cards_left l.node.now.position
+abbrev pub decreases-write_play : goal.decreases-write_play
+decreases-write_play g l = 3 * cards_left l.node.now.position
 
 abbrev pub decreases-write_remembered : goal.decreases-write_remembered
 decreases-write_remembered g l = 3 * cards_left l.node.now.position + 1
