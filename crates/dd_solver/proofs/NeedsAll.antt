@@ -1,12 +1,13 @@
 -- Stoppers found by looking at the hands, and what they answer where they count.
-use Rattle.std.proofs.Common.{◌≡◌, ◌≢◌, ◌⊎◌, ℕ, zero, suc, ◌+◌, ◌-◌, ◌*◌, ◌<◌, ◌≤◌, Bool, true, false, not, ◌&&◌, ◌||◌, max, eqb, nat_lt, List, [], ◌∷◌, length, filter, refl, sym, ap, ap₂, ◌∙◌, subst, inl, inr, arith}
-use Rattle.std.proofs.lemmas.Bool.{cases_Bool, cases_eq, ne_eqb, le-ltb, false≢true, eqb-true}
+use Rattle.std.proofs.Common.{◌≡◌, ◌≢◌, ◌⊎◌, ℕ, zero, suc, ◌+◌, ◌-◌, ◌*◌, ◌<◌, ◌≤◌, Bool, true, false, not, ◌&&◌, ◌||◌, max, eqb, nat_lt, Option, None, Some, List, [], ◌∷◌, length, filter, refl, sym, ap, ap₂, ◌∙◌, subst, inl, inr, arith}
+use Rattle.std.specs.Prelude.{MatchOption, IfSome}
+use Rattle.std.proofs.lemmas.Bool.{and_parts, cases_Bool, cases_eq, ne_eqb, le-ltb, false≢true, eqb-true}
 use Rattle.card_sets.specs.declared.card.Suit.{Suit}
 use Rattle.card_sets.specs.declared.card.Suit.TheVariants.{Spades, Hearts, Diamonds, Clubs}
-use Rattle.card_sets.specs.Cards.{suit_of, rank_of, same_suit, suit_place, card_of}
-use Rattle.card_sets.specs.SetWords.{has_card, cards_where, IsCardSet, IsSubset}
+use Rattle.card_sets.specs.Cards.{suit_of, same_suit}
+use Rattle.card_sets.specs.SetWords.{has_card, cards_where, IsCardSet, IsSubset, IsLast}
 use Rattle.card_sets.proofs.Sets.{has_card-filter, has_card-below, has_card-cards_where, IsCardSet-cards_where, filter-none}
-use Rattle.card_sets.proofs.Suits.{same_suit-refl, suit_of-card_of, card_of-suit_of}
+use Rattle.card_sets.proofs.Suits.{same_suit-true, same_suit-refl}
 use Rattle.card_sets.specs.declared.seat.Seat.{Seat}
 use Rattle.trick_rules.specs.declared.trump.Trump.TheVariants.{NoTrump}
 use Rattle.trick_rules.specs.Positions.{State, seat_after, to_play, tricks_left, IsState}
@@ -22,7 +23,7 @@ use Rattle.alike_states.specs.Alike.{IsClosedUp, HasAnswer}
 use Rattle.alike_states.proofs.Stoppers.{our_failure_answers, their_failure_answers}
 use Rattle.dd_solver.specs.declared.hands.Hands.{Hands}
 use Rattle.dd_solver.specs.Closed.{up_from}
-use Rattle.dd_solver.specs.NeedsAll.{longer_of, rounds_in, AreHighest, CanKeep, DoOutlast}
+use Rattle.dd_solver.specs.NeedsAll.{longer_of, rounds_in, IsHighestIn, AreHighest, CanKeep, DoOutlast}
 
 -- ---- suits that are stopped
 
@@ -52,51 +53,21 @@ longer_stopped own partner stoppers suit some = rw (some_stopped stoppers suit s
 
 -- ---- the highest card of a suit
 
--- the suit's cards of a set aren't above a place of the suit
-pub record IsAtMost (set : List ℕ) (suit : Suit) (lowest place : ℕ) : Type 0 where
-  pub first : lowest ≡ 13 * suit_place suit
-  pub low : lowest ≤ place
-  pub high : place ≤ lowest + 12
-  pub highest : (other : ℕ) → has_card set other ≡ true → suit_of other ≡ suit → other ≤ place
+in_suit : (set : List ℕ) (suit : Suit) (c : ℕ) → has_card set c ≡ true → suit_of c ≡ suit → has_card (of_suit suit set) c ≡ true
+in_suit set suit c held e = has_card-filter (λ d. same_suit (suit_of d) suit) set c ∙ rw (held, suit_test c suit e) refl
 
-in_suit : (other : ℕ) (suit : Suit) → other < 52 → suit_of other ≡ suit → other ≤ 13 * suit_place suit + 12
-in_suit other suit low e =
-    let is : card_of suit (rank_of other) ≡ other = ap (λ u. card_of u (rank_of other)) (sym e) ∙ card_of-suit_of other low in
-    omega (arith, is)
-
-suit_at : (suit : Suit) (place : ℕ) → 13 * suit_place suit ≤ place → place ≤ 13 * suit_place suit + 12 → suit_of place ≡ suit
-suit_at suit place low high =
-    let is : card_of suit (place - 13 * suit_place suit + 2) ≡ place = omega arith in
-    ap suit_of (sym is) ∙ suit_of-card_of suit (place - 13 * suit_place suit + 2) (omega arith) (omega arith)
-
--- a card of a suit in a set
 low_in : (set cards : List ℕ) (suit : Suit) (c : ℕ) → cards ≡ of_suit suit set → IsCardSet cards → has_card set c ≡ true → suit_of c ≡ suit → c < 52
-low_in set cards suit c is fits held e =
-    has_card-below cards c fits (ap (λ (l : List ℕ). has_card l c) is ∙ has_card-filter (λ d. same_suit (suit_of d) suit) set c ∙ rw (held, suit_test c suit e) refl)
+low_in set cards suit c is fits held e = has_card-below cards c fits (ap (λ (l : List ℕ). has_card l c) is ∙ in_suit set suit c held e)
 
-pub most-start : (set cards : List ℕ) (suit : Suit) → cards ≡ of_suit suit set → IsCardSet cards → IsAtMost set suit (13 * suit_place suit + 12 - 12) (13 * suit_place suit + 12)
-most-start set cards suit is fits = record {
-  first = omega arith;
-  low = omega arith;
-  high = omega arith;
-  highest = λ other held e. in_suit other suit (low_in set cards suit other is fits held e) e;
-}
-
-pub most-lower : (set cards : List ℕ) (suit : Suit) (lowest place : ℕ) → cards ≡ of_suit suit set → IsAtMost set suit lowest place → lowest < place → has_card cards place ≡ false
-    → IsAtMost set suit lowest (place - 1)
-most-lower set cards suit lowest place is most more out = record {
-  first = most.first;
-  low = omega arith;
-  high = let high = most.high in omega arith;
-  highest = λ other held e.
-      let less = most.highest other held e in
-      let differ : other ≢ place = λ i. false≢true (sym out ∙ subst (λ d. has_card cards d ≡ true) i
-      (ap (λ (l : List ℕ). has_card l other) is ∙ has_card-filter (λ c. same_suit (suit_of c) suit) set other ∙ rw (held, suit_test other suit e) refl)) in
-      omega (arith, less, differ);
-}
-
-pub most-suit : (set : List ℕ) (suit : Suit) (lowest place : ℕ) → IsAtMost set suit lowest place → suit_of place ≡ suit
-most-suit set suit lowest place most = suit_at suit place (omega (arith, most.first, most.low)) (omega (arith, most.first, most.high))
+pub highest_is : (set cards : List ℕ) (suit : Suit) (o : Option ℕ) → cards ≡ of_suit suit set → MatchOption o (cards ≡ []) (λ card. IsLast card cards) → IfSome o (IsHighestIn set suit)
+highest_is set cards suit None is h = _
+highest_is set cards suit (Some card) is h =
+    let parts = and_parts (has_card set card) (same_suit (suit_of card) suit) (sym (has_card-filter (λ d. same_suit (suit_of d) suit) set card) ∙ ap (λ (l : List ℕ). has_card l card) (sym is) ∙ h.held) in
+    record {
+      held = parts.0;
+      same = same_suit-true (suit_of card) suit parts.1;
+      highest = λ other held e. h.last other (ap (λ (l : List ℕ). has_card l other) is ∙ in_suit set suit other held e);
+    }
 
 -- ---- sets of stoppers
 

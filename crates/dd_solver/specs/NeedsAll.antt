@@ -8,6 +8,12 @@ use Rattle.trick_rules.specs.Play.{of_suit}
 use Rattle.sure_tricks.specs.Stoppers.{has_suit}
 use Rattle.dd_solver.specs.declared.hands.Hands.{Hands}
 
+-- the highest card of a suit in a set
+pub record IsHighestIn (set : List ℕ) (suit : Suit) (card : ℕ) : Type 0 where
+  pub held : has_card set card ≡ true
+  pub same : suit_of card ≡ suit
+  pub highest : (other : ℕ) → has_card set other ≡ true → suit_of other ≡ suit → other ≤ card
+
 -- no card of a set is higher than one of these of its suit
 abbrev pub AreHighest : List ℕ → List ℕ → Type 0
 AreHighest cards set = (card other : ℕ) → has_card cards card ≡ true → has_card set other ≡ true

@@ -7,10 +7,10 @@ ghost use Rattle.trick_rules.specs.Positions.{to_play, tricks_left, FitsLeft};
 ghost use Rattle.trick_rules.specs.Play.{is_declarers};
 ghost use Rattle.trick_rules.specs.declared.trump.Trump.TheVariants.{NoTrump};
 ghost use Rattle.alike_states.specs.Alike.{IsClosedUp};
-ghost use Rattle.dd_solver.specs.NeedsAll.{longer_of, rounds_in, AreHighest, DoOutlast};
+ghost use Rattle.dd_solver.specs.NeedsAll.{longer_of, rounds_in, IsHighestIn, AreHighest, DoOutlast};
 ghost use Rattle.dd_solver.specs.Answers.{IsAnswer};
 
-use crate::answer::{Answer, last_of, with_up};
+use crate::answer::{Answer, with_up};
 use crate::hands::Hands;
 use card_sets::{Card, CardSet, Suit};
 use trick_rules::{Position, Trump};
@@ -33,19 +33,11 @@ fn needs_all(position: &Position) -> bool
     }
 }
 
-// The highest card of the suit in the set, or the suit's lowest card if it has none.
-fn head_of(set: CardSet, suit: Suit) -> Card
-    ensures suit { suit_of result ≡ suit }
-    ensures highest { (other : ℕ) → has_card set other ≡ true → suit_of other ≡ suit
-        → other ≤ result }
+// The highest card of a suit in the set.
+fn highest_in(set: CardSet, suit: Suit) -> Option<Card>
+    ensures { IfSome result (λ card. IsHighestIn set suit card) }
 {
-    let cards = set.of_suit(suit);
-    let mut place = last_of(suit);
-    let lowest = place - 12;
-    while place > lowest && !cards.has(Card::from_number(place)) {
-        place -= 1;
-    }
-    Card::from_number(place)
+    set.of_suit(suit).last()
 }
 
 // The highest card in play of a suit that the side has, if its opponents hold that card.
@@ -57,11 +49,9 @@ fn stopper_in(ours: CardSet, theirs: CardSet, suit: Suit) -> CardSet
     if ours.of_suit(suit).is_empty() {
         return CardSet::empty();
     }
-    let head = head_of(ours.either(theirs), suit);
-    if theirs.has(head) {
-        CardSet::empty().with(head)
-    } else {
-        CardSet::empty()
+    match highest_in(ours.either(theirs), suit) {
+        Some(card) if theirs.has(card) => CardSet::empty().with(card),
+        _ => CardSet::empty(),
     }
 }
 
