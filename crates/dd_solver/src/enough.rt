@@ -1,4 +1,5 @@
-//! Of equal cards only the highest is tried, and after a card that fails none that is like it.
+//! Equal cards, which DDS calls a sequence: only the highest is tried. After a card that fails,
+//! none that is like it.
 ghost use Rattle.std.specs.Prelude.{◌≡◌, ℕ, ◌+◌, ◌<◌, ◌≤◌, Some, true, false, IfSome, length};
 ghost use Rattle.card_sets.specs.Cards.{suit_of};
 ghost use Rattle.card_sets.specs.SetWords.{has_card, IsCardSet, IsSubset};

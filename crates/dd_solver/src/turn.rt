@@ -1,4 +1,4 @@
-//! A turn of a trick, with what stays the same from one turn to the next.
+//! A turn of a trick: its position, and what stays the same until the trick ends.
 ghost use Rattle.std.specs.Prelude.{◌≡◌, ◌≢◌, true, length};
 ghost use Rattle.card_sets.specs.SetWords.{has_card};
 ghost use Rattle.trick_rules.specs.Positions.{IsState};
