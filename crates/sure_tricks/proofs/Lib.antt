@@ -13,5 +13,6 @@ pub mod Summing
 pub mod TopTrumps
 pub mod StoppedSuit
 pub mod Stoppers
+pub mod LastButOne
 pub mod LastTwo
 pub mod AllTricks
