@@ -17,7 +17,8 @@ use Rattle.sure_tricks.proofs.Hands.{hand_set, by_card, by_each, Suffices}
 use Rattle.sure_tricks.proofs.Cash.{going}
 use Rattle.sure_tricks.proofs.TopTrumps.{sides, two_sides}
 use Rattle.sure_tricks.proofs.Stoppers.{IsRunning, IsOn, throw_from, side_card, led_card, next_card}
-use Rattle.sure_tricks.proofs.LastTwo.{opponent, of_the_side, last_two}
+use Rattle.sure_tricks.proofs.LastButOne.{opponent, of_the_side}
+use Rattle.sure_tricks.proofs.LastTwo.{last_two}
 
 -- ---- card after card
 

@@ -13,6 +13,7 @@ pub mod Summing
 pub mod TopTrumps
 pub mod StoppedSuit
 pub mod Stoppers
+pub mod LastButOne
 pub mod LastTwo
 pub mod AllTricks
 pub mod Headed
