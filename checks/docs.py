@@ -29,7 +29,7 @@ TOP = pathlib.Path(__file__).resolve().parent.parent
 PAGES = ("README.md", "CHANGELOG.md", "CONTRIBUTING.md", "docs/**/*.md", "examples/**/README.md", "crates/*/README.md",
          "cases/README.md")
 FOR_USERS = ("docs/USING.md", "docs/REFUSALS.md")
-SCRIPTS = ("alphamu", "build", ".ci/run", "bench/*.py", "checks/*", "examples/**/*.py", "examples/**/*.sbatch")
+SCRIPTS = ("alphamu", "build", "package/*", ".ci/run", "bench/*.py", "checks/*", "examples/**/*.py", "examples/**/*.sbatch")
 SOURCES = ("crates/*/src/**/*.rt", "crates/*/specs/**/*.antt", "crates/*/proofs/**/*.antt")
 # Options of other programs that the pages name: of rt, GNU parallel, Slurm, git and valgrind.
 OTHER_OPTIONS = frozenset("""--help --version --only --test --jobs --start --allow-holes --fail-alloc --anew --resume
@@ -39,8 +39,9 @@ OTHER_OPTIONS = frozenset("""--help --version --only --test --jobs --start --all
 OTHER_STATUSES = frozenset((64, 70, 124, 129, 130, 131, 137, 143, 255))
 # Names of other programs: of Slurm, ssh and rt.
 OTHER_NAMES = frozenset("JobID ExitCode ServerAliveInterval ServerAliveCountMax start_lib".split())
-# A file that FIRST-CHANGE has its reader write and remove again.
-OTHER_FILES = frozenset(("crates/card_letters/must-fail/jack_read_as_ten.edit",))
+# A file that FIRST-CHANGE has its reader write and remove again; the packages, and what lies in them.
+OTHER_FILES = frozenset("""crates/card_letters/must-fail/jack_read_as_ten.edit out/alphamu-VERSION-linux-x86_64.tar.gz
+    out/alphamu_VERSION_amd64.deb lib/alphamu/alphamu share/doc/alphamu share/doc/alphamu/BUILD""".split())
 ENDINGS = (".md", ".py", ".rt", ".antt", ".cpp", ".edit", ".sbatch")
 NAME = re.compile(r"(?:[A-Za-z]\w*::)*[A-Za-z]\w*")
 

@@ -1,0 +1,186 @@
+#!/usr/bin/env python3
+"""package.py install --prefix DIR | package [--out DIR]
+
+Puts what people use under a prefix, or into a .tar.gz and a Debian package: the proved program with its launcher, the man page,
+the pages for users, the examples, and BUILD with the version, the kit that proved it, and a checksum of each other file. It
+builds nothing: ./build calls it once the proved program is there. If something fails, a line on standard error says what, the
+status is 70, and what has been written so far stays, except that no package is left incomplete.
+"""
+import argparse
+import gzip
+import hashlib
+import io
+import os
+import pathlib
+import re
+import shutil
+import subprocess
+import sys
+import tarfile
+import tempfile
+
+sys.dont_write_bytecode = True
+TOP = pathlib.Path(__file__).resolve().parent.parent
+sys.path[:0] = [str(TOP / "package"), str(TOP / "checks")]
+import jobs
+import man
+
+PROGRAM = TOP / "crates" / "alphamu" / "out" / "alphamu"
+DOCS = "share/doc/alphamu"
+# What people read, with the folders that come whole.
+PAGES = ("README.md", "CHANGELOG.md", "docs/USING.md", "docs/REFUSALS.md", "docs/PROGRAMS.md", "docs/SCALING.md", "docs/PROVED.md",
+         "docs/TESTED.md", "docs/SPEED.md", "docs/definitions", "examples")
+LINK = re.compile(r"(?<!!)\[([^]]*)\]\(([^)#\s]*)(#[^)\s]*)?\)")
+COMMAND = re.compile(r"^(    (?:timeout \d+ )?)\./alphamu ", re.M)
+SUMMARY = "which card should declarer play, with a proof behind its answers"
+
+
+def text_of(name):
+    return (TOP / name).read_text(encoding="utf-8")
+
+
+def version():
+    return text_of("VERSION").strip()
+
+
+def kit():
+    """The line of the toolchain that proved the program."""
+    return subprocess.run(["rt", "version"], stdout=subprocess.PIPE, text=True, check=True).stdout.strip()
+
+
+def page_names():
+    """The names of the files that people read."""
+    for name in PAGES:
+        path = TOP / name
+        for it in sorted(path.rglob("*")) if path.is_dir() else [path]:
+            if it.is_file() and it.suffix != ".pyc":
+                yield str(it.relative_to(TOP))
+
+
+def for_package(name, text, names):
+    """A page in which a link that leads out of the package is its text alone, and the commands call the installed program."""
+    def kept(link):
+        target = os.path.normpath(os.path.join(os.path.dirname(name), link[2])) if link[2] else name
+        is_there = "://" in link[2] or target in names or any(it.startswith(target + "/") for it in names)
+        return link[0] if is_there else link[1]
+    return COMMAND.sub(r"\1alphamu ", LINK.sub(kept, text))
+
+
+def contents():
+    """What the package holds: for each name under the prefix its bytes and its mode."""
+    names = set(page_names())
+    found = {
+        "bin/alphamu": ((TOP / "package" / "alphamu").read_bytes(), 0o755),
+        "lib/alphamu/alphamu": (PROGRAM.read_bytes(), 0o755),
+        "share/man/man1/alphamu.1.gz": (gzip.compress(man_page().encode(), mtime=0), 0o644),
+    }
+    for name in sorted(names):
+        path = TOP / name
+        data, mode = path.read_bytes(), 0o755 if os.access(path, os.X_OK) else 0o644
+        if name.endswith(".md"):
+            data = for_package(name, data.decode(), names).encode()
+        found[f"{DOCS}/{name}"] = (data, mode)
+    found[f"{DOCS}/BUILD"] = (record_of(found).encode(), 0o644)
+    return found
+
+
+def man_page():
+    return man.page(text_of("README.md"), text_of("docs/REFUSALS.md"), text_of("docs/USING.md"), jobs, version())
+
+
+def record_of(found):
+    """The version, the kit, and the checksum of each file, as `sha256sum --check` reads it."""
+    sums = [f"{hashlib.sha256(data).hexdigest()}  {name}\n" for name, (data, _) in sorted(found.items())]
+    return f"# alphamu {version()}\n# proved with {kit()}\n" + "".join(sums)
+
+
+def put(found, prefix):
+    """Writes the files under a folder. A file that is replaced keeps its old bytes for whoever runs it."""
+    for name, (data, mode) in found.items():
+        path = prefix / name
+        path.parent.mkdir(parents=True, exist_ok=True)
+        part = path.with_name(path.name + ".part")
+        part.write_bytes(data)
+        part.chmod(mode)
+        part.replace(path)
+
+
+def date():
+    """The date of all files in a package, so that the same sources make the same bytes."""
+    if it := os.environ.get("SOURCE_DATE_EPOCH"):
+        return int(it)
+    return int(max((TOP / it).stat().st_mtime for it in ("VERSION", "CHANGELOG.md")))
+
+
+def write_tar(found, path):
+    """A .tar.gz with one folder, named for the version."""
+    with open(path, "wb") as file, gzip.GzipFile("", "wb", fileobj=file, mtime=date()) as packed, tarfile.open(fileobj=packed, mode="w") as tar:
+        for name, (data, mode) in sorted(found.items()):
+            it = tarfile.TarInfo(f"alphamu-{version()}/{name}")
+            it.size, it.mode, it.mtime, it.uname, it.gname = len(data), mode, date(), "root", "root"
+            tar.addfile(it, io.BytesIO(data))
+
+
+def control(found):
+    """What Debian's tools ask of a package."""
+    size = sum(len(data) for data, _ in found.values()) // 1024 + 1
+    return (f"Package: alphamu\nVersion: {version()}\nArchitecture: amd64\nMaintainer: the authors of alphamu\nSection: games\n"
+            f"Priority: optional\nInstalled-Size: {size}\nDescription: {SUMMARY}\n"
+            " alphamu reads a deal of bridge with the play so far, and the ways in which the\n"
+            " defenders' cards may lie. It names the card of the line of play that makes the\n"
+            " contract in the most of them, and can write every such line.\n")
+
+
+def write_deb(found, path):
+    """A Debian package of the same files under /usr. False if dpkg-deb isn't there."""
+    if shutil.which("dpkg-deb") is None:
+        return False
+    with tempfile.TemporaryDirectory() as folder:
+        root = pathlib.Path(folder) / "root"
+        root.mkdir(mode=0o755)
+        put(found, root / "usr")
+        sums = "".join(f"{hashlib.md5(data).hexdigest()}  usr/{name}\n" for name, (data, _) in sorted(found.items()))
+        (root / "DEBIAN").mkdir(mode=0o755)
+        (root / "DEBIAN" / "control").write_text(control(found))
+        (root / "DEBIAN" / "md5sums").write_text(sums)
+        env = {**os.environ, "SOURCE_DATE_EPOCH": str(date())}
+        subprocess.run(["dpkg-deb", "--root-owner-group", "--build", root, path], env=env, check=True, stdout=subprocess.DEVNULL)
+    return True
+
+
+def write_packages(folder):
+    """Both packages. The names of those that were written."""
+    found = contents()
+    folder.mkdir(parents=True, exist_ok=True)
+    made = []
+    for name, write in ((f"alphamu-{version()}-linux-x86_64.tar.gz", write_tar), (f"alphamu_{version()}_amd64.deb", write_deb)):
+        part = folder / (name + ".part")
+        try:
+            if write(found, part) is not False:
+                part.replace(folder / name)
+                made.append(folder / name)
+        finally:
+            part.unlink(missing_ok=True)
+    return made
+
+
+def main():
+    parser = argparse.ArgumentParser(description=__doc__, formatter_class=argparse.RawDescriptionHelpFormatter)
+    commands = parser.add_subparsers(dest="command", required=True)
+    commands.add_parser("install").add_argument("--prefix", required=True, type=pathlib.Path)
+    commands.add_parser("package").add_argument("--out", default=TOP / "out", type=pathlib.Path)
+    words = parser.parse_args()
+    try:
+        if words.command == "install":
+            put(contents(), words.prefix)
+            print(f"build: installed alphamu {version()} under {words.prefix}", file=sys.stderr)
+        else:
+            for path in write_packages(words.out):
+                print(f"build: {path}", file=sys.stderr)
+    except (OSError, subprocess.CalledProcessError) as fault:
+        print(f"build: {fault}", file=sys.stderr)
+        sys.exit(70)
+
+
+if __name__ == "__main__":
+    main()
