@@ -27,6 +27,7 @@ none_taken may_ruff own theirs none = go may_ruff
           let all : top_count own theirs ≡ length own = rw empty (ap (length {A = ℕ}) (filter-all (λ c. true) own (λ c h. refl))) in
           rw (none, le-ltb 0 (length theirs) few) (sym all ∙ none)
     ]
+
     go : (b : Bool) → taken_from b own theirs ≡ 0
     go true = rw high (omega arith)
     go false = high
@@ -55,12 +56,14 @@ none_above own next partner last all parts none = elim (cases_lt 0 (top_count ow
   where
     under : (theirs : List ℕ) (x m d : ℕ) → list_all (λ e. nat_lt e x) theirs ≡ true → x ≤ m → has_card theirs d ≡ true → nat_lt d m ≡ true
     under theirs x m d over less held = let low = ltb-true d x (cards_from_list_all (λ e. nat_lt e x) theirs over d held) in lt-ltb d m (omega arith)
+
     greatest : (x y z m : ℕ) → has_card own m ≡ true → x ≤ m → y ≤ m → z ≤ m → list_all (λ d. nat_lt d x) next ≡ true → list_all (λ d. nat_lt d y) partner ≡ true → list_all (λ d. nat_lt d z) last ≡ true → ⊥
     greatest x y z m held xm ym zm over_next over_partner over_last = false≢true (sym (fails-filter_nil (λ c. list_all (λ d. nat_lt d c) all) own m none held)
         ∙ list_all-from_cards (λ d. nat_lt d m) all (λ d k. elim (parts d k) as (λ _. nat_lt d m ≡ true) [
           | inl i ↦ under next x m d over_next xm i
-          | inr o ↦ elim o as (λ _. nat_lt d m ≡ true) [ | inl i ↦ under partner y m d over_partner ym i | inr i ↦ under last z m d over_last zm i ]
+          | inr o ↦ elim o as (λ _. nat_lt d m ≡ true) [ inl i ↦ under partner y m d over_partner ym i | inr i ↦ under last z m d over_last zm i ]
         ]))
+
     three : (x : ℕ) × (has_card own x ≡ true) × (list_all (λ d. nat_lt d x) next ≡ true) → (y : ℕ) × (has_card own y ≡ true) × (list_all (λ d. nat_lt d y) partner ≡ true)
         → (z : ℕ) × (has_card own z ≡ true) × (list_all (λ d. nat_lt d z) last ≡ true) → ⊥
     three (x, hx, ox) (y, hy, oy) (z, hz, oz) = elim (cases_lt x y) [
@@ -104,11 +107,14 @@ in_one_of suit next partner last d held =
   where
     ours : List ℕ
     ours = cards_where (λ e. has_card next e || has_card partner e)
+
     others : List ℕ
     others = cards_where (λ c. has_card ours c || has_card last c)
+
     either_of : (these those : List ℕ) (c : ℕ) → has_card (cards_where (λ e. has_card these e || has_card those e)) c ≡ true → (has_card these c ≡ true) ⊎ (has_card those c ≡ true)
     either_of these those c k =
         let within = has_card-below (cards_where (λ e. has_card these e || has_card those e)) c (IsCardSet-cards_where (λ e. has_card these e || has_card those e)) k in
         or_cases (has_card these c) (has_card those c) (sym (has_card-cards_where (λ e. has_card these e || has_card those e) c within) ∙ k)
+
     here : (hand : List ℕ) → same_suit (suit_of d) suit ≡ true → has_card hand d ≡ true → has_card (of_suit suit hand) d ≡ true
     here hand same k = has_card-filter (λ c. same_suit (suit_of c) suit) hand d ∙ and_from (has_card hand d) (same_suit (suit_of d) suit) k same
