@@ -46,10 +46,10 @@ impl Entry {
 
     // Whether it answers all that the other one does.
     fn covers(&self, other: &Entry) -> bool {
-        self.answer.made == other.answer.made
+        self.key.is_like(self.answer.counting, &other.key)
+            && self.answer.made == other.answer.made
             && self.settles_need_of(&other.key)
             && self.answer.counting.is_subset(other.answer.counting)
-            && self.key.is_like(self.answer.counting, &other.key)
     }
 
     // Whether the answer settles the need of a key.
@@ -80,25 +80,36 @@ fn slot_of(number: u64, slots: usize) -> usize
     (number & (slots / WAYS - 1) as u64) as usize * WAYS
 }
 
-// Of the slots from this one on, the first whose answers the entry gives too; else the first that is
-// empty, or one with the fewest tricks left, in turn.
-fn place_in(slots: &[Option<Entry>], first: usize, turn: usize, entry: &Entry) -> usize
+// Of the slots from this one on, the first that is empty or whose answers the entry gives too.
+fn free_place(slots: &[Option<Entry>], first: usize, entry: &Entry) -> Option<usize>
+    requires { first + 32 ≤ length slots.now }
+    ensures { IfSome result (λ place. place < length slots.now) }
+{
+    for step in 0..WAYS {
+        let Some(there) = &slots[first + step] else {
+            return Some(first + step);
+        };
+        if entry.covers(there) {
+            return Some(first + step);
+        }
+    }
+    None
+}
+
+// Of the slots from this one on, one with the fewest tricks left, in turn.
+fn shortest_place(slots: &[Option<Entry>], first: usize, turn: usize) -> usize
     requires { first + 32 ≤ length slots.now }
     ensures { result < length slots.now }
 {
     let mut best = first;
     let mut least = usize::MAX;
     for step in 0..WAYS {
-        let Some(there) = &slots[first + step] else {
-            return first + step;
-        };
-        if entry.covers(there) {
-            return first + step;
-        }
-        let weight = usize::from(there.key.tricks) * WAYS + step.wrapping_sub(turn) % WAYS;
-        if weight < least {
-            best = first + step;
-            least = weight;
+        if let Some(there) = &slots[first + step] {
+            let weight = usize::from(there.key.tricks) * WAYS + step.wrapping_sub(turn) % WAYS;
+            if weight < least {
+                best = first + step;
+                least = weight;
+            }
         }
     }
     best
@@ -108,7 +119,10 @@ fn place_in(slots: &[Option<Entry>], first: usize, turn: usize, entry: &Entry) -
 fn put(slots: &mut [Option<Entry>], turn: usize, entry: Entry) {
     if slots.len() >= WAYS {
         let first = slot_of(entry.key.code(), slots.len());
-        let place = place_in(slots, first, turn, &entry);
+        let place = match free_place(slots, first, &entry) {
+            Some(place) => place,
+            None => shortest_place(slots, first, turn),
+        };
         slots[place] = Some(entry);
     }
 }
