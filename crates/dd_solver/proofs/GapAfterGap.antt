@@ -10,6 +10,7 @@ use Rattle.trick_rules.proofs.CardLists.{first_has}
 use Rattle.double_dummy.specs.Equals.{in_play}
 use Rattle.alike_states.specs.Alike.{IsClosedUp, HasAnswer}
 use Rattle.dd_solver.specs.declared.key.Key.{Key}
+use Rattle.dd_solver.specs.declared.shape.Shape.{Shape}
 use Rattle.dd_solver.specs.Keys.{key_state, HasShape}
 use Rattle.dd_solver.specs.RelativeRanks.{with_gap_closed, IsGapClosed, AreGapsClosed}
 use Rattle.dd_solver.proofs.Gaps.{IsStill, still-same, still-on, closed-still, later-free}
@@ -95,7 +96,7 @@ closing-step first old new gaps more rest left gap r e pushed shape is = record 
 pub closing-shape : (first key : Key) (gaps rest : List ℕ) → IsState (key_state first) → HasShape first → AreClosing first gaps rest key → HasShape key
 closing-shape first key gaps rest ok shape r =
     let still = gaps-still gaps (key_state first) (key_state key) ok r.closed in
-    r.shape ∙ shape ∙ rw (still.declarer, still.dummy, still.unseen, still.left) refl
+    ap (λ (w : Shape). w.lengths) r.shape ∙ shape ∙ rw (still.declarer, still.dummy, still.unseen, still.left) refl
 
 -- ---- back
 
