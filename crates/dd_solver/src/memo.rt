@@ -217,7 +217,7 @@ impl Memo {
         requires known { IsAnswer (key_state key.now) answer.now }
         ensures { self.new.most ≡ self.old.most }
     {
-        if self.stored >= self.slots.len() / 2 && self.slots.len() < self.most {
+        if self.stored >= self.slots.len() / 4 && self.slots.len() < self.most {
             self.grow();
         }
         let entry = Entry {
