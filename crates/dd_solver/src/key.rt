@@ -81,13 +81,12 @@ impl Key {
         }
     }
 
-    // Whether the two have one shape, leader and trumps.
+    // Whether the two have one leader and trumps.
     fn has_table_of(&self, other: &Key) -> bool
-        ensures shape { IsTrue result → self.now.shape ≡ other.now.shape }
         ensures leader { IsTrue result → self.now.leader ≡ other.now.leader }
         ensures trump { IsTrue result → self.now.trump ≡ other.now.trump }
     {
-        self.shape.equals(&other.shape) && self.leader == other.leader && self.trump == other.trump
+        self.leader == other.leader && self.trump == other.trump
     }
 
     // Whether two keys' hands have the same of the cards that count.
@@ -108,7 +107,10 @@ impl Key {
     pub(crate) fn is_like(&self, counting: CardSet, other: &Key) -> bool
         ensures { IsTrue result → AreLikeKeys counting self.now other.now }
     {
-        self.has_table_of(other) && self.has_same(counting, other)
+        // Most entries of a row differ in their shape, and most others in a hand.
+        self.shape.equals(&other.shape)
+            && self.has_same(counting, other)
+            && self.has_table_of(other)
     }
 
     /// A number that differs between most keys that are not alike, and is the same for alike ones.

@@ -116,21 +116,21 @@ fn shortest_place(slots: &[Option<Entry>], first: usize, turn: usize) -> usize
 }
 
 // Puts the entry in one of its slots, in turn.
-fn put(slots: &mut [Option<Entry>], turn: usize, entry: Entry) {
+fn put(slots: &mut [Option<Entry>], turn: usize, entry: &Entry) {
     if slots.len() >= WAYS {
         let first = slot_of(entry.key.code(), slots.len());
-        let place = match free_place(slots, first, &entry) {
+        let place = match free_place(slots, first, entry) {
             Some(place) => place,
             None => shortest_place(slots, first, turn),
         };
-        slots[place] = Some(entry);
+        slots[place] = Some(*entry);
     }
 }
 
 // Puts all entries of another table in.
 fn put_all(slots: &mut [Option<Entry>], others: &[Option<Entry>]) {
     for (turn, entry) in others.iter().flatten().enumerate() {
-        put(slots, turn, *entry);
+        put(slots, turn, entry);
     }
 }
 
@@ -224,7 +224,7 @@ impl Memo {
             key: *key,
             answer: *answer,
         };
-        put(self.slots.as_mut_slice(), self.stored, entry);
+        put(self.slots.as_mut_slice(), self.stored, &entry);
         self.stored = self.stored.saturating_add(1);
     }
 
