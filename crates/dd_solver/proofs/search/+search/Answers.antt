@@ -30,7 +30,7 @@ search-search_key-answer-requires t c =
     let ranks = c.of-ranks.result in
     let ok : IsState s = record { sound = subst IsSound c.position.view_is c.position.invariant; fits = c.requires.fits } in
     let here : IsState (key_state key) = subst IsState (sym c.of-2.ensures.state) ok in
-    let still = gaps-still ranks.gaps.items (key_state key) (key_state ranks.key) here c.of-ranks.ensures.closed in (
+    let still = gaps-still ranks.gaps (key_state key) (key_state ranks.key) here c.of-ranks.ensures.closed in (
       omega (arith, still.cards, ap (λ (x : State). cards_left x.position) c.of-2.ensures.state, c.decreases),
       (c.of-ranks.ensures.state, (c.of-ranks.ensures.shape, still.decided ∙ ap (λ (x : State). decided x.position) c.of-2.ensures.state ∙ sym c.decided.ensures ∙ c.in_default.is)),
     )
