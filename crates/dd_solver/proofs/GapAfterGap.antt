@@ -1,15 +1,17 @@
 -- Gap after gap closed, and what is known then carried back.
-use Rattle.std.proofs.Common.{◌≡◌, ℕ, ◌+◌, ◌≤◌, Bool, true, false, ◌||◌, eqb, List, [], ◌∷◌, ◌++◌, length, refl, sym, ap, subst, ◌∙◌, inl, inr, arith}
-use Rattle.std.proofs.lemmas.Bool.{or_right, or_parts, or_cases}
+use Rattle.std.proofs.Common.{◌≡◌, ℕ, ◌+◌, ◌≤◌, Bool, true, false, not, ◌<◌, ◌||◌, eqb, cond, List, [], ◌∷◌, ◌++◌, length, refl, sym, ap, subst, ◌∙◌, inl, inr, arith}
+use Rattle.std.proofs.lemmas.Bool.{false≢true, eqb-true, eq-eqb, ne_eqb, or_right, or_parts, or_cases}
 use Rattle.std.proofs.lemmas.List.{length_push}
-use Rattle.card_sets.specs.SetWords.{has_card, cards_where, IsCardSet}
+use Rattle.card_sets.specs.SetWords.{has_card, cards_where, IsCardSet, IsLast}
 use Rattle.card_sets.proofs.Sets.{has_card-below, has_card-cards_where, tail-after, IsCardSet-tail}
 use Rattle.card_sets.proofs.SetCounts.{length-le_52}
 use Rattle.trick_rules.specs.Positions.{State, IsState}
+use Rattle.trick_rules.specs.Play.{take_out}
 use Rattle.trick_rules.proofs.CardLists.{first_has}
 use Rattle.double_dummy.specs.Equals.{in_play}
 use Rattle.alike_states.specs.Alike.{IsClosedUp, HasAnswer}
 use Rattle.dd_solver.specs.declared.key.Key.{Key}
+use Rattle.dd_solver.specs.declared.shape.Shape.{Shape}
 use Rattle.dd_solver.specs.Keys.{key_state, HasShape}
 use Rattle.dd_solver.specs.RelativeRanks.{with_gap_closed, IsGapClosed, AreGapsClosed}
 use Rattle.dd_solver.proofs.Gaps.{IsStill, still-same, still-on, closed-still, later-free}
@@ -95,9 +97,28 @@ closing-step first old new gaps more rest left gap r e pushed shape is = record 
 pub closing-shape : (first key : Key) (gaps rest : List ℕ) → IsState (key_state first) → HasShape first → AreClosing first gaps rest key → HasShape key
 closing-shape first key gaps rest ok shape r =
     let still = gaps-still gaps (key_state first) (key_state key) ok r.closed in
-    r.shape ∙ shape ∙ rw (still.declarer, still.dummy, still.unseen, still.left) refl
+    ap (λ (w : Shape). w.lengths) r.shape ∙ shape ∙ rw (still.declarer, still.dummy, still.unseen, still.left) refl
 
 -- ---- back
+
+-- the last card of a set comes after the others
+pub last_apart : (xs : List ℕ) (c : ℕ) → IsCardSet xs → IsLast c xs → xs ≡ take_out c xs ++ c ∷ []
+last_apart [] c set last = absurd (false≢true last.held)
+last_apart (x ∷ []) c set last =
+    let same : x ≡ c = eqb-true x c (or_none (eqb x c) last.held) in
+    ap (λ z. z ∷ []) same ∙ sym (ap (λ b. cond (not b) (x ∷ []) [] ++ c ∷ []) (eq-eqb x c same))
+  where
+    or_none : (b : Bool) → (b || false) ≡ true → b ≡ true
+    or_none true h = refl
+    or_none false h = h
+last_apart (x ∷ y ∷ ys) c set last =
+    let later : x < c = omega (arith, tail-after x (y ∷ ys) set y (first_has y ys), last.last y (or_right (eqb x y) (has_card (y ∷ ys) y) (first_has y ys))) in
+    let other : eqb x c ≡ false = ne_eqb x c (λ e. absurd (omega (arith, e))) in
+    ap (λ (l : List ℕ). x ∷ l) (last_apart (y ∷ ys) c (IsCardSet-tail x (y ∷ ys) set) (record {
+      held = ap (λ b. b || has_card (y ∷ ys) c) (sym other) ∙ last.held;
+      last = λ d h. last.last d (or_right (eqb x d) (has_card (y ∷ ys) d) h);
+    }))
+    ∙ sym (ap (λ b. cond (not b) (x ∷ take_out c (y ∷ ys)) (take_out c (y ∷ ys)) ++ c ∷ []) other)
 
 -- what is known after all gaps are closed is known after the first ones, by other cards that count
 pub record AreCarriedBack (gaps rest : List ℕ) (start counting : List ℕ) : Type 0 where

@@ -17,7 +17,7 @@ use Rattle.sure_tricks.proofs.Holding.{suit_test}
 use Rattle.alike_states.specs.Alike.{IsClosedUp, HasAnswer}
 use Rattle.alike_states.proofs.Answers.{more_cards_answer}
 use Rattle.dd_solver.specs.Closed.{up_from}
-use Rattle.dd_solver.specs.Keys.{lengths_of}
+use Rattle.dd_solver.specs.Shapes.{lengths_of}
 use Rattle.dd_solver.specs.RelativeRanks.{IsGapClosed}
 use Rattle.dd_solver.proofs.Winner.{up_parts}
 use Rattle.dd_solver.proofs.MovedUp.{move_card, with_moved, IsMovedUp, up-IsCardSet, up-renamed, suit-renamed, parts, nobody, in_play-moved}

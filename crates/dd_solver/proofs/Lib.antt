@@ -3,6 +3,7 @@ pub mod Winner
 pub mod EqualsDown
 pub mod NeedsAll
 pub mod Tried
+pub mod Shapes
 pub mod Keyed
 pub mod Highest
 pub mod MovedUp

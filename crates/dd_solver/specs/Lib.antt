@@ -1,5 +1,6 @@
 pub mod Closed
 pub mod Sure
+pub mod Shapes
 pub mod Keys
 pub mod NeedsAll
 pub mod Answers

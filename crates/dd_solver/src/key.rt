@@ -2,41 +2,12 @@
 ghost use Rattle.std.specs.Prelude.{◌≡◌, [], IsTrue};
 ghost use Rattle.trick_rules.specs.Positions.{IsState};
 ghost use Rattle.dd_solver.specs.RelativeRanks.{with_gap_closed};
-ghost use Rattle.dd_solver.specs.Keys.{key_state, lengths_of, HasShape, AreSame, AreLikeKeys};
+ghost use Rattle.dd_solver.specs.Keys.{key_state, HasShape, AreSame, AreLikeKeys};
+ghost use Rattle.dd_solver.specs.Shapes.{IsShapeOf};
 
-use card_sets::{Card, CardSet, Seat, Suit};
+use crate::shape::Shape;
+use card_sets::{Card, CardSet, Seat};
 use trick_rules::{Position, Trick, Trump};
-
-/// How many cards of each suit each of four hands has, a word for each hand: six bits for a suit.
-#[derive(Clone, Copy, Debug)]
-pub(crate) struct Shape {
-    declarer: u32,
-    dummy: u32,
-    unseen: u32,
-    left: u32,
-}
-
-impl Shape {
-    fn equals(&self, other: &Shape) -> bool
-        ensures { IsTrue result → self.now ≡ other.now }
-    {
-        self.declarer == other.declarer
-            && self.dummy == other.dummy
-            && self.unseen == other.unseen
-            && self.left == other.left
-    }
-}
-
-// How many cards of each suit are there.
-fn lengths(cards: CardSet) -> u32
-    ensures { result ≡ lengths_of cards }
-{
-    let spades = u32::from(cards.of_suit(Suit::Spades).count());
-    let hearts = u32::from(cards.of_suit(Suit::Hearts).count());
-    let diamonds = u32::from(cards.of_suit(Suit::Diamonds).count());
-    let clubs = u32::from(cards.of_suit(Suit::Clubs).count());
-    ((spades * 64 + hearts) * 64 + diamonds) * 64 + clubs
-}
 
 /// A position between two tricks, and Left's hand.
 #[derive(Clone, Copy, Debug)]
@@ -62,8 +33,9 @@ fn are_same(counting: CardSet, these: CardSet, those: CardSet) -> bool
 
 impl Key {
     /// The key of a position between two tricks.
-    pub(crate) fn of(position: &Position, left: CardSet) -> Key
-        requires { position.now.trick.cards ≡ [] }
+    pub(crate) fn of(position: &Position, left: CardSet, shape: Shape) -> Key
+        requires between { position.now.trick.cards ≡ [] }
+        requires shape { IsShapeOf shape (record { position = position.now; left = left }) }
         ensures state { key_state result ≡ record { position = position.now; left = left } }
         ensures shape { HasShape result }
     {
@@ -72,12 +44,7 @@ impl Key {
             dummy: position.dummy,
             unseen: position.unseen,
             left,
-            shape: Shape {
-                declarer: lengths(position.declarer),
-                dummy: lengths(position.dummy),
-                unseen: lengths(position.unseen),
-                left: lengths(left),
-            },
+            shape,
             leader: position.trick.leader,
             trump: position.trump,
             need: position.need,
@@ -114,13 +81,12 @@ impl Key {
         }
     }
 
-    // Whether the two have one shape, leader and trumps.
+    // Whether the two have one leader and trumps.
     fn has_table_of(&self, other: &Key) -> bool
-        ensures shape { IsTrue result → self.now.shape ≡ other.now.shape }
         ensures leader { IsTrue result → self.now.leader ≡ other.now.leader }
         ensures trump { IsTrue result → self.now.trump ≡ other.now.trump }
     {
-        self.shape.equals(&other.shape) && self.leader == other.leader && self.trump == other.trump
+        self.leader == other.leader && self.trump == other.trump
     }
 
     // Whether two keys' hands have the same of the cards that count.
@@ -141,7 +107,10 @@ impl Key {
     pub(crate) fn is_like(&self, counting: CardSet, other: &Key) -> bool
         ensures { IsTrue result → AreLikeKeys counting self.now other.now }
     {
-        self.has_table_of(other) && self.has_same(counting, other)
+        // Most entries of a row differ in their shape, and most others in a hand.
+        self.shape.equals(&other.shape)
+            && self.has_same(counting, other)
+            && self.has_table_of(other)
     }
 
     /// A number that differs between most keys that are not alike, and is the same for alike ones.
@@ -152,14 +121,8 @@ impl Key {
             Seat::Dummy => 2,
             Seat::Right => 3,
         };
-        let ours = u64::from(self.shape.declarer) << 32 | u64::from(self.shape.dummy);
-        let theirs = u64::from(self.shape.unseen) << 32 | u64::from(self.shape.left);
-        let mixed = ours
-            .wrapping_mul(0x9e37_79b9_7f4a_7c15)
-            .wrapping_add(theirs)
-            .wrapping_mul(0xd6e8_feb8_6659_fd93)
-            .wrapping_add(turn)
-            .wrapping_mul(0x9e37_79b9_7f4a_7c15);
+        let mixed = (self.shape.lengths ^ turn).wrapping_mul(0xd6e8_feb8_6659_fd93);
+        let mixed = (mixed ^ mixed >> 32u32).wrapping_mul(0x9e37_79b9_7f4a_7c15);
         mixed >> 32
     }
 }

@@ -17,6 +17,7 @@ mod order;
 mod plays;
 mod relative_ranks;
 mod search;
+mod shape;
 mod solver;
 mod sure;
 mod top_trumps;

@@ -46,10 +46,10 @@ impl Entry {
 
     // Whether it answers all that the other one does.
     fn covers(&self, other: &Entry) -> bool {
-        self.answer.made == other.answer.made
+        self.key.is_like(self.answer.counting, &other.key)
+            && self.answer.made == other.answer.made
             && self.settles_need_of(&other.key)
             && self.answer.counting.is_subset(other.answer.counting)
-            && self.key.is_like(self.answer.counting, &other.key)
     }
 
     // Whether the answer settles the need of a key.
@@ -80,43 +80,57 @@ fn slot_of(number: u64, slots: usize) -> usize
     (number & (slots / WAYS - 1) as u64) as usize * WAYS
 }
 
-// Of the slots from this one on, the first whose answers the entry gives too; else the first that is
-// empty, or one with the fewest tricks left, in turn.
-fn place_in(slots: &[Option<Entry>], first: usize, turn: usize, entry: &Entry) -> usize
+// Of the slots from this one on, the first that is empty or whose answers the entry gives too.
+fn free_place(slots: &[Option<Entry>], first: usize, entry: &Entry) -> Option<usize>
+    requires { first + 32 ≤ length slots.now }
+    ensures { IfSome result (λ place. place < length slots.now) }
+{
+    for step in 0..WAYS {
+        let Some(there) = &slots[first + step] else {
+            return Some(first + step);
+        };
+        if entry.covers(there) {
+            return Some(first + step);
+        }
+    }
+    None
+}
+
+// Of the slots from this one on, one with the fewest tricks left, in turn.
+fn shortest_place(slots: &[Option<Entry>], first: usize, turn: usize) -> usize
     requires { first + 32 ≤ length slots.now }
     ensures { result < length slots.now }
 {
     let mut best = first;
     let mut least = usize::MAX;
     for step in 0..WAYS {
-        let Some(there) = &slots[first + step] else {
-            return first + step;
-        };
-        if entry.covers(there) {
-            return first + step;
-        }
-        let weight = usize::from(there.key.tricks) * WAYS + step.wrapping_sub(turn) % WAYS;
-        if weight < least {
-            best = first + step;
-            least = weight;
+        if let Some(there) = &slots[first + step] {
+            let weight = usize::from(there.key.tricks) * WAYS + step.wrapping_sub(turn) % WAYS;
+            if weight < least {
+                best = first + step;
+                least = weight;
+            }
         }
     }
     best
 }
 
 // Puts the entry in one of its slots, in turn.
-fn put(slots: &mut [Option<Entry>], turn: usize, entry: Entry) {
+fn put(slots: &mut [Option<Entry>], turn: usize, entry: &Entry) {
     if slots.len() >= WAYS {
         let first = slot_of(entry.key.code(), slots.len());
-        let place = place_in(slots, first, turn, &entry);
-        slots[place] = Some(entry);
+        let place = match free_place(slots, first, entry) {
+            Some(place) => place,
+            None => shortest_place(slots, first, turn),
+        };
+        slots[place] = Some(*entry);
     }
 }
 
 // Puts all entries of another table in.
 fn put_all(slots: &mut [Option<Entry>], others: &[Option<Entry>]) {
     for (turn, entry) in others.iter().flatten().enumerate() {
-        put(slots, turn, *entry);
+        put(slots, turn, entry);
     }
 }
 
@@ -203,14 +217,14 @@ impl Memo {
         requires known { IsAnswer (key_state key.now) answer.now }
         ensures { self.new.most ≡ self.old.most }
     {
-        if self.stored >= self.slots.len() / 2 && self.slots.len() < self.most {
+        if self.stored >= self.slots.len() / 4 && self.slots.len() < self.most {
             self.grow();
         }
         let entry = Entry {
             key: *key,
             answer: *answer,
         };
-        put(self.slots.as_mut_slice(), self.stored, entry);
+        put(self.slots.as_mut_slice(), self.stored, &entry);
         self.stored = self.stored.saturating_add(1);
     }
 

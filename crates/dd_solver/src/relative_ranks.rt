@@ -10,14 +10,13 @@ ghost use Rattle.dd_solver.specs.RelativeRanks.{IsGapClosed, AreGapsClosed};
 
 use crate::answer::Answer;
 use crate::key::Key;
-use arrayvec::ArrayVec;
 use card_sets::{Card, CardSet, Suit};
 
-/// A position between two tricks with the gaps that were closed, in order.
+/// A position between two tricks with the gaps that were closed, the lowest first.
 #[derive(Debug, Drop)]
 pub(crate) struct RelativeRanks {
     pub(crate) key: Key,
-    pub(crate) gaps: ArrayVec<Card, 52>,
+    pub(crate) gaps: CardSet,
 }
 
 // The places of the suit that nobody holds above its lowest card in play.
@@ -68,18 +67,17 @@ impl RelativeRanks {
     pub(crate) fn of(first: &Key) -> RelativeRanks
         requires state { IsState (key_state first.now) }
         requires shape { HasShape first.now }
-        ensures closed { AreGapsClosed result.gaps.items
+        ensures closed { AreGapsClosed result.gaps
             (key_state first.now) (key_state result.key) }
         ensures state { IsState (key_state result.key) }
         ensures shape { HasShape result.key }
     {
         let ours = first.declarer.either(first.dummy);
-        let mut rest = gaps_of(ours.either(first.unseen));
+        let gaps = gaps_of(ours.either(first.unseen));
+        let mut rest = gaps;
         let mut key = *first;
-        let mut gaps = ArrayVec::new();
         while let Some(gap) = rest.pop_first() {
             key = key.raised_to(gap);
-            gaps.push(gap);
         }
         RelativeRanks { key, gaps }
     }
@@ -87,12 +85,13 @@ impl RelativeRanks {
     /// An answer for this position, as one for the position with the gaps.
     pub(crate) fn carried_back(self, answer: &Answer) -> Answer
         requires { IsClosedUp answer.now.counting }
-        ensures { (s t : State) → IsState s → AreGapsClosed self.gaps.items s t
+        ensures { (s t : State) → IsState s → AreGapsClosed self.gaps s t
             → IsAnswer t answer.now → IsAnswer s result }
     {
-        let mut gaps = self.gaps;
+        let mut rest = self.gaps;
         let mut counting = answer.counting;
-        while let Some(gap) = gaps.pop() {
+        while let Some(gap) = rest.last() {
+            rest = rest.without(gap);
             counting = before_gap(counting, gap);
         }
         Answer {

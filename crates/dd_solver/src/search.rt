@@ -6,6 +6,7 @@ ghost use Rattle.trick_rules.specs.Positions.{FitsLeft, IsState, to_play};
 ghost use Rattle.trick_rules.specs.Play.{decided, is_declarers, legal_in};
 ghost use Rattle.alike_states.specs.Alike.{IsClosedUp, GivesAnswer};
 ghost use Rattle.dd_solver.specs.Keys.{key_state, HasShape};
+ghost use Rattle.dd_solver.specs.Shapes.{IsShapeOf};
 ghost use Rattle.dd_solver.specs.Turns.{turn_state, IsTurn};
 ghost use Rattle.dd_solver.specs.Answers.{IsAnswer, IsGiven};
 
@@ -17,6 +18,7 @@ use crate::memo::Memo;
 use crate::needs_all::needs_all_answer;
 use crate::order::turn_of;
 use crate::relative_ranks::RelativeRanks;
+use crate::shape::Shape;
 use crate::sure::sure_answer;
 use crate::top_trumps::top_trumps_answer;
 use crate::turn::Turn;
@@ -26,8 +28,9 @@ use trick_rules::{Position, end_trick};
 /// Whether declarer's side takes the need where Left holds these cards, with all cards seen by all,
 /// and the cards that count for it.
 #[cycle(search)]
-pub(crate) fn search(memo: &mut Memo, position: &Position, left: CardSet) -> Answer
-    requires { FitsLeft position.now left }
+pub(crate) fn search(memo: &mut Memo, position: &Position, left: CardSet, shape: Shape) -> Answer
+    requires fits { FitsLeft position.now left }
+    requires shape { IsShapeOf shape (record { position = position.now; left = left }) }
     ensures state { IsState (record { position = position.now; left = left }) }
     ensures answer { IsAnswer (record { position = position.now; left = left }) result }
     ensures limit { memo.new.most ≡ memo.old.most }
@@ -41,9 +44,9 @@ pub(crate) fn search(memo: &mut Memo, position: &Position, left: CardSet) -> Ans
     }
     // With one trick left there is no choice, and looking takes longer than playing.
     if !between || position.declarer.count() < 2 {
-        return search_turn(memo, &Turn::of(position, left));
+        return search_turn(memo, &Turn::of(position, left, shape));
     }
-    let ranks = RelativeRanks::of(&Key::of(position, left));
+    let ranks = RelativeRanks::of(&Key::of(position, left, shape));
     let answer = search_key(memo, &ranks.key);
     ranks.carried_back(&answer)
 }
@@ -70,7 +73,7 @@ fn search_key(memo: &mut Memo, key: &Key) -> Answer
     if let Some(answer) = sure_answer(&position, key.left) {
         return answer;
     }
-    let answer = search_cards(memo, &Turn::of(&position, key.left));
+    let answer = search_cards(memo, &Turn::of(&position, key.left, key.shape));
     memo.keep(key, &answer);
     answer
 }
@@ -159,7 +162,8 @@ fn search_after(memo: &mut Memo, turn: &Turn, card: Card) -> Answer
     }
     let place = position.trick.winning_place(position.trump, card);
     let after = end_trick(position, card, place);
-    let there = search(memo, &after, turn.left.without(card));
+    let shape = turn.shape_after(card);
+    let there = search(memo, &after, turn.left.without(card), shape);
     Answer {
         made: there.made,
         counting: with_winner(position, card, place, there.counting),

@@ -6,6 +6,7 @@ ghost use Rattle.dd_solver.specs.Remembers.{Remembers};
 
 use crate::memo::{MOST_ENTRIES, Memo};
 use crate::search::search;
+use crate::shape::Shape;
 use card_sets::CardSet;
 use std::alloc::Global;
 use std::marker::Model;
@@ -54,6 +55,7 @@ impl Solver {
         ensures limit { self.new.limit ≡ self.old.limit }
         ensures within { self.new.entries ≤ self.new.limit }
     {
-        search(&mut self.memo, position, left).made
+        let shape = Shape::of(position, left);
+        search(&mut self.memo, position, left, shape).made
     }
 }

@@ -3,26 +3,31 @@ ghost use Rattle.std.specs.Prelude.{◌≡◌, ◌≢◌, true, length};
 ghost use Rattle.card_sets.specs.SetWords.{has_card};
 ghost use Rattle.trick_rules.specs.Positions.{IsState};
 ghost use Rattle.trick_rules.specs.Play.{after as after_play, legal_in};
+ghost use Rattle.dd_solver.specs.Shapes.{IsShapeOf};
 ghost use Rattle.dd_solver.specs.Turns.{turn_state, IsTurn};
 
 use crate::memo::Memo;
 use crate::order::{Order, turn_of};
+use crate::shape::Shape;
 use card_sets::{Card, CardSet};
 use double_dummy::cards_in_play;
 use trick_rules::{Position, play};
 
-/// A position, Left's hand, and the cards in play, which stay the same until the trick ends.
+/// A position, Left's hand, the cards in play, which stay the same until the trick ends, and the
+/// shape of the hands.
 #[derive(Drop)]
 pub(crate) struct Turn {
     pub(crate) position: Position,
     pub(crate) left: CardSet,
     pub(crate) playing: CardSet,
+    pub(crate) shape: Shape,
 }
 
 impl Turn {
     /// The turn at a position.
-    pub(crate) fn of(position: &Position, left: CardSet) -> Turn
-        requires { IsState (record { position = position.now; left = left }) }
+    pub(crate) fn of(position: &Position, left: CardSet, shape: Shape) -> Turn
+        requires shape { IsShapeOf shape (record { position = position.now; left = left }) }
+        requires state { IsState (record { position = position.now; left = left }) }
         ensures turn { IsTurn result }
         ensures position { result.position ≡ position.now }
         ensures left { result.left ≡ left }
@@ -31,6 +36,7 @@ impl Turn {
             position: position.copy(),
             left,
             playing: cards_in_play(position),
+            shape,
         }
     }
 
@@ -46,7 +52,17 @@ impl Turn {
             position: play(&self.position, card),
             left: self.left.without(card),
             playing: self.playing,
+            shape: self.shape_after(card),
         }
+    }
+
+    /// The shape after the card.
+    pub(crate) fn shape_after(&self, card: Card) -> Shape
+        requires turn { IsTurn self.now }
+        requires legal { has_card (legal_in (turn_state self.now)) card ≡ true }
+        ensures { IsShapeOf result (after_play (turn_state self.now) card) }
+    {
+        self.shape.without(self.position.to_play(), card)
     }
 
     /// The order in which these cards are tried. A single card needs none.

@@ -28,9 +28,9 @@ search-search_key-answer-requires t c =
     let s : State = record { position = c.args.position.now; left = c.args.left } in
     let key = c.of-2.result in
     let ranks = c.of-ranks.result in
-    let ok : IsState s = record { sound = subst IsSound c.position.view_is c.position.invariant; fits = c.requires } in
+    let ok : IsState s = record { sound = subst IsSound c.position.view_is c.position.invariant; fits = c.requires.fits } in
     let here : IsState (key_state key) = subst IsState (sym c.of-2.ensures.state) ok in
-    let still = gaps-still ranks.gaps.items (key_state key) (key_state ranks.key) here c.of-ranks.ensures.closed in (
+    let still = gaps-still ranks.gaps (key_state key) (key_state ranks.key) here c.of-ranks.ensures.closed in (
       omega (arith, still.cards, ap (λ (x : State). cards_left x.position) c.of-2.ensures.state, c.decreases),
       (c.of-ranks.ensures.state, (c.of-ranks.ensures.shape, still.decided ∙ ap (λ (x : State). decided x.position) c.of-2.ensures.state ∙ sym c.decided.ensures ∙ c.in_default.is)),
     )
@@ -103,7 +103,10 @@ search_after-search-there-requires t c =
     let ok = c.requires.turn.state in
     let fewer = a_card_leaves_one_fewer s.position card ok.sound (a_legal_card_can_be_played s card ok c.requires.legal) in (
       omega (arith, fewer, ap cards_left c.end_trick-after.ensures.value, c.decreases),
-      rw (c.end_trick-after.ensures.value, c.without.ensures.value) (a_legal_card_leads_to_a_state s card ok c.requires.legal).fits,
+      (
+        rw (c.end_trick-after.ensures.value, c.without.ensures.value) (a_legal_card_leads_to_a_state s card ok c.requires.legal).fits,
+        rw (c.end_trick-after.ensures.value, c.without.ensures.value) c.shape_after-shape.ensures,
+      ),
     )
 
 pub search_after-with_winner-requires-clause-held : goal.search_after-with_winner-requires-clause-held

@@ -19,4 +19,5 @@ returns-clause-turn c =
       state = rw (c.play.ensures.value, c.without.ensures.value) (a_legal_card_leads_to_a_state s card c.requires.turn.state c.requires.legal);
       playing = c.requires.turn.playing ∙ playing-after s.position card c.requires.turn.state.sound can c.requires.goes_on
           ∙ ap (λ (p : PositionValue). cards_where (in_play p)) (sym c.play.ensures.value);
+      shape = rw (c.play.ensures.value, c.without.ensures.value) c.shape_after.ensures;
     }
