@@ -4,6 +4,8 @@ ghost use Rattle.std.specs.Prelude.{◌≡◌, ◌≤◌, true, [], MatchOption}
 ghost use Rattle.card_sets.specs.SetWords.{has_card};
 
 use crate::hands::{Hands, has_two};
+use crate::honours::{Finesse, Honours, holds};
+use crate::worths::Worths;
 use card_sets::{Card, CardSet, Suit};
 use trick_rules::{Position, Trump};
 
@@ -47,40 +49,6 @@ fn can_ruff(hand: CardSet, trump: Trump, suit: Suit) -> bool {
     }
 }
 
-/// The highest cards of a suit that are in play, each as a set: empty if there are fewer.
-#[derive(Drop)]
-struct Honours {
-    best: CardSet,
-    second: CardSet,
-    third: CardSet,
-}
-
-impl Honours {
-    fn of(cards: CardSet) -> Honours {
-        let best = highest_of(cards);
-        let rest = cards.minus(best);
-        let second = highest_of(rest);
-        Honours {
-            best,
-            second,
-            third: highest_of(rest.minus(second)),
-        }
-    }
-}
-
-// The highest card of a suit.
-fn highest_of(cards: CardSet) -> CardSet {
-    match cards.last() {
-        Some(card) => CardSet::empty().with(card),
-        None => cards,
-    }
-}
-
-// Whether a hand has a card of these.
-fn holds(hand: CardSet, cards: CardSet) -> bool {
-    !hand.is_disjoint(cards)
-}
-
 /// Who can ruff a suit.
 #[derive(Clone, Copy)]
 struct Ruffs {
@@ -97,15 +65,29 @@ impl Ruffs {
     }
 }
 
-// The leads of a suit that win the trick for the side on lead. Partner may win each lead, by a ruff
-// or by the best card, unless an opponent ruffs.
+// The leads of a suit that win the trick for the side on lead. If partner has the best card or can
+// ruff, each lead may win, unless an opponent ruffs or the hand on lead has the best card.
 fn winners_of(hands: &Hands, ruffs: Ruffs, best: CardSet) -> CardSet {
     if ruffs.opponents {
         CardSet::empty()
+    } else if holds(hands.own, best) {
+        best
     } else if ruffs.partner || holds(hands.partner, best) {
         hands.own
     } else {
-        best
+        CardSet::empty()
+    }
+}
+
+// The card that is worth more than others of its suit though it may not win: of two touching
+// honours below the best card the higher, and with trumps the best card itself.
+fn honour_of(hands: &Hands, honours: &Honours, trump: Trump) -> CardSet {
+    if trump != Trump::NoTrump && holds(hands.own, honours.best) {
+        honours.best
+    } else if holds(hands.own, honours.second) && holds(hands.own, honours.third) {
+        honours.second
+    } else {
+        CardSet::empty()
     }
 }
 
@@ -114,38 +96,12 @@ fn winners_of(hands: &Hands, ruffs: Ruffs, best: CardSet) -> CardSet {
 struct SuitLeads {
     /// What wins the trick for the side on lead, if it is led.
     winners: CardSet,
-    /// Of two touching honours below the best card, in the hand on lead, the higher.
-    sequence: CardSet,
-    /// What a card that loses weighs.
-    low: u16,
+    /// The honour that is worth more, though it may not win.
+    honour: CardSet,
+    worths: Worths,
     /// What the opponents' choices leave, and what the places of the cards add.
     ease: u16,
-    ghost low_fits: { low ≤ 47 },
     ghost ease_fits: { ease ≤ 7750 },
-}
-
-// What a card that loses weighs: more if the opponents have the best card, and more if the side has
-// the next two, most of all if partner has them.
-fn losers_weight(hands: &Hands, honours: &Honours, suit: Suit) -> u16
-    ensures { result ≤ 47 }
-{
-    let ours = if holds(hands.own, honours.best) {
-        0
-    } else {
-        17
-    };
-    let second = holds(hands.partner, honours.second);
-    let third = holds(hands.partner, honours.third);
-    if second && third {
-        return ours + 30;
-    }
-    let split = second && holds(hands.own, honours.third)
-        || third && holds(hands.own, honours.second);
-    if split && has_two(hands.partner.of_suit(suit)) {
-        ours + 20
-    } else {
-        ours
-    }
 }
 
 // What the places of a suit's cards add at no trump: less if partner can't follow suit or the last
@@ -153,22 +109,15 @@ fn losers_weight(hands: &Hands, honours: &Honours, suit: Suit) -> u16
 fn no_trump_weight(hands: &Hands, honours: &Honours, suit: Suit) -> u16
     ensures { result ≤ 50 }
 {
-    let partner = hands.partner.of_suit(suit);
-    let last = hands.last.of_suit(suit);
-    let weight = if partner.is_empty() {
+    let weight = if hands.partner.of_suit(suit).is_empty() {
         MOST_LOST - 9
     } else {
         MOST_LOST
     };
-    if holds(last, honours.best) || holds(last, honours.second) {
-        if has_two(last) { weight - 12 } else { weight }
-    } else if holds(hands.next, honours.best)
-        && holds(partner, honours.second)
-        && has_two(partner)
-    {
-        weight + 29
-    } else {
-        weight
+    match Finesse::of(hands, honours, suit) {
+        Finesse::Fails => weight - 12,
+        Finesse::Works => weight + 29,
+        Finesse::Neither => weight,
     }
 }
 
@@ -182,14 +131,18 @@ fn is_singleton_to_best(hands: &Hands, honours: &Honours, trumps: Suit, suit: Su
         && !hands.own.of_suit(trumps).is_empty()
 }
 
-// What they add with trumps: less if an opponent can ruff, more if partner can, and more for a
-// singleton to partner's best card.
+// What they add with trumps: the same of high cards, less if an opponent can ruff, more if partner
+// can, and more for a singleton to partner's best card.
 fn suit_weight(hands: &Hands, honours: &Honours, ruffs: Ruffs, trumps: Suit, suit: Suit) -> u16
-    ensures { result ≤ 57 }
+    ensures { result ≤ 88 }
 {
-    let mut weight = MOST_LOST;
+    let mut weight = match Finesse::of(hands, honours, suit) {
+        Finesse::Fails => 25,
+        Finesse::Works => 52,
+        Finesse::Neither => 37,
+    };
     if ruffs.opponents {
-        weight -= 12;
+        weight -= 17;
     }
     if ruffs.partner && !hands.last.of_suit(suit).is_empty() {
         weight += 17;
@@ -208,38 +161,22 @@ impl SuitLeads {
             Trump::NoTrump => no_trump_weight(hands, &honours, suit),
             Trump::Suit(trumps) => suit_weight(hands, &honours, ruffs, trumps, suit),
         };
-        let touching = holds(hands.own, honours.second) && holds(hands.own, honours.third);
         SuitLeads {
             winners: winners_of(hands, ruffs, honours.best),
-            sequence: if touching {
-                honours.second
-            } else {
-                CardSet::empty()
-            },
-            low: losers_weight(hands, &honours, suit),
+            honour: honour_of(hands, &honours, trump),
+            worths: Worths::of(hands, &honours, trump, suit),
             ease: MOST_CHOICES - choices(hands, trump, suit) + places,
         }
     }
 
-    // What a lead is worth: most if it wins, and more if it was best at such a turn before.
-    fn worth(&self, card: Card, best_leads: CardSet) -> u16
-        ensures { result ≤ 157 }
-    {
-        let was_best = best_leads.has(card);
-        if self.winners.has(card) {
-            return if was_best { 157 } else { 57 };
-        }
-        let worth = if self.sequence.has(card) {
-            self.low + 36
-        } else {
-            self.low
-        };
-        if was_best { worth + 40 } else { worth }
-    }
-
-    // What a lead weighs. Of like cards the lowest goes first.
+    // What a lead weighs: more if it was best at such a turn before. Of like cards the lowest goes
+    // first.
     fn weight(&self, card: Card, best_leads: CardSet) -> u16 {
-        self.ease + self.worth(card, best_leads) + u16::from(14 - card.rank().number())
+        let wins = self.winners.has(card);
+        let worth = self
+            .worths
+            .of_card(wins, self.honour.has(card), best_leads.has(card));
+        self.ease + worth + u16::from(14 - card.rank().number())
     }
 
     // Weighs some leads of the suit.

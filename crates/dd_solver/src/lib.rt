@@ -9,6 +9,7 @@ mod answer;
 mod enough;
 mod hands;
 mod headed;
+mod honours;
 mod key;
 mod leads;
 mod memo;
@@ -22,5 +23,6 @@ mod solver;
 mod sure;
 mod top_trumps;
 mod turn;
+mod worths;
 
 pub use solver::Solver;

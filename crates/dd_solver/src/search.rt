@@ -12,6 +12,7 @@ ghost use Rattle.dd_solver.specs.Answers.{IsAnswer, IsGiven};
 
 use crate::answer::{Answer, joined, with_winner};
 use crate::enough::{one_of_equals, with_lower_equals, without_like};
+use crate::hands::has_two;
 use crate::headed::headed_answer;
 use crate::key::Key;
 use crate::memo::Memo;
@@ -43,7 +44,7 @@ pub(crate) fn search(memo: &mut Memo, position: &Position, left: CardSet, shape:
         };
     }
     // With one trick left there is no choice, and looking takes longer than playing.
-    if !between || position.declarer.count() < 2 {
+    if !between || !has_two(position.declarer) {
         return search_turn(memo, &Turn::of(position, left, shape));
     }
     let ranks = RelativeRanks::of(&Key::of(position, left, shape));
