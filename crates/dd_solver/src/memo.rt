@@ -85,8 +85,8 @@ fn free_place(slots: &[Option<Entry>], first: usize, entry: &Entry) -> Option<us
     requires { first + 32 ≤ length slots.now }
     ensures { IfSome result (λ place. place < length slots.now) }
 {
-    for step in 0..WAYS {
-        let Some(there) = &slots[first + step] else {
+    for (step, slot) in slots[first..first + WAYS].iter().enumerate() {
+        let Some(there) = slot else {
             return Some(first + step);
         };
         if entry.covers(there) {
