@@ -132,10 +132,14 @@ fn is_singleton_to_best(hands: &Hands, honours: &Honours, trumps: Suit, suit: Su
 }
 
 // What they add with trumps: the same of high cards, less if an opponent can ruff, more if partner
-// can, and more for a singleton to partner's best card.
+// can, and more for a singleton to partner's best card. If the opponents have no trumps, there are
+// none to draw.
 fn suit_weight(hands: &Hands, honours: &Honours, ruffs: Ruffs, trumps: Suit, suit: Suit) -> u16
     ensures { result ≤ 88 }
 {
+    if trumps == suit && hands.next.either(hands.last).of_suit(trumps).is_empty() {
+        return 0;
+    }
     let mut weight = match Finesse::of(hands, honours, suit) {
         Finesse::Fails => 25,
         Finesse::Works => 52,

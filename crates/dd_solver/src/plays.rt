@@ -1,6 +1,6 @@
 //! Move ordering within a trick: the cards that most often win it are tried first, and in third
 //! seat the lowest that forces out the fourth hand's highest. The second hand plays low if its
-//! partner wins the trick. The order changes no answer.
+//! partner wins the trick, and covers only with touching cards. The order changes no answer.
 
 use card_sets::{CardSet, Seat, Suit};
 use trick_rules::{Position, Trump};
@@ -32,6 +32,8 @@ struct Table {
     next: CardSet,
     /// Partner's hand if this is the second hand and follows suit: partner plays last.
     partner: CardSet,
+    /// The hand to play, in the same case.
+    own: CardSet,
     is_third: bool,
 }
 
@@ -72,7 +74,9 @@ impl Table {
             [partners, _] | [_, partners, _] => *partners == best,
             _ => false,
         };
-        let seat = position.to_play().next();
+        let own = position.to_play();
+        let seat = own.next();
+        let is_second = cards.len() == 1 && follows;
         Some(Table {
             led,
             trump: position.trump,
@@ -80,7 +84,8 @@ impl Table {
             best: CardSet::empty().with(best),
             is_partners,
             next: hand_if(cards.len() < 3, position, left, seat),
-            partner: hand_if(cards.len() == 1 && follows, position, left, seat.next()),
+            partner: hand_if(is_second, position, left, seat.next()),
+            own: hand_if(is_second, position, left, own),
             is_third: cards.len() == 2,
         })
     }
@@ -125,6 +130,21 @@ impl Table {
         forcing_of(cards.of_suit(self.led), following)
     }
 
+    // Those of some cards that are worth playing though the next hand may beat them. A second hand
+    // that follows suit covers only with the higher of two touching cards, unless the next can't.
+    fn covering(&self, cards: CardSet) -> CardSet {
+        if self.own.is_empty() || self.next.of_suit(self.led).is_empty() {
+            return cards;
+        }
+        let Some(lower) = cards.one_below().both(self.own).first() else {
+            return CardSet::empty();
+        };
+        match self.own.after(lower) {
+            Some(card) => CardSet::empty().with(card),
+            None => CardSet::empty(),
+        }
+    }
+
     // Whether partner wins the trick, by the best card so far or as the last to play.
     fn is_partners_trick(&self) -> bool {
         if self.is_partners {
@@ -146,7 +166,7 @@ impl Table {
         } else if self.is_third {
             self.forcing(beating)
         } else {
-            beating
+            self.covering(beating)
         }
     }
 }
