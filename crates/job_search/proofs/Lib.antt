@@ -2,4 +2,3 @@ pub mod Answered
 pub mod Firsts
 pub mod Spent
 pub mod Counts
-pub mod WrittenEntries

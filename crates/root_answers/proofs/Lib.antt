@@ -1,3 +1,4 @@
 pub mod ReportOrder
 pub mod ReportedFronts
 pub mod PlannedVectors
+pub mod WrittenEntries

@@ -1,0 +1,156 @@
+//! The answer at a root, with its vectors and their plans as lines of a report.
+ghost use Rattle.std.specs.Prelude.{◌≡◌, ◌≤◌, [], ℕ, true, false, length, All, IfOk, IsErrOf};
+ghost use Rattle.trick_rules.specs.Nodes.{most_moves};
+ghost use Rattle.strategy_tree.specs.Bridge.{bridge};
+ghost use Rattle.plan_finder.specs.Targets.{IsOfFront};
+ghost use Rattle.root_workers.specs.Roots.{IsSpentAt, IsFirstSpentAt, AllFit};
+ghost use Rattle.root_workers.specs.Plain.{IsPlain, HasWorkers};
+ghost use Rattle.root_workers.specs.Rounds.{HasSeenMore};
+ghost use Rattle.shared_table.specs.Passes.{IsPassOf};
+ghost use Rattle.root_answers.specs.EntryTexts.{AreEntriesWritten};
+ghost use Rattle.root_answers.specs.Written.{IsWrittenAnswer};
+
+use crate::order::reported;
+use alphamu_core::RootFault;
+use am_outside::Gate;
+use am_report::vector_text;
+use byte_text::Text;
+use card_sets::Card;
+use dd_solver::Solver;
+use front_table::{FrontStore, NoStore};
+use plan_finder::PlanWriter;
+use root_workers::{Options, root_front};
+use shared_table::{Pass, SharedStore, SharedTable};
+use std::alloc::Global;
+use std::thread::Threads;
+use trick_rules::Node;
+use wide_store::WideStore;
+use win_vectors::{Weights, WinVector};
+
+/// The answer at a root: the lines of the front's vectors and their plans, as a report lists them,
+/// how many vectors there are, the named card and the best weight.
+#[derive(Drop)]
+pub struct WrittenAnswer {
+    pub lines: Text,
+    pub vectors: usize,
+    pub card: Card,
+    pub weight: u32,
+}
+
+// The lines of these vectors, each with the plan for it. What the plans have in common is found
+// once, and its lines copied.
+fn written<S: FrontStore>(
+    alloc: Global,
+    store: &mut S,
+    node: &Node,
+    weights: &Weights,
+    moves: u8,
+    options: &Options,
+    vectors: &[WinVector],
+) -> Result<Text, RootFault>
+    requires ours { bridge.is_ours node.now ≡ true }
+    requires weighed { length weights.now ≡ length node.now.lefts }
+    requires some_moves { 1 ≤ moves }
+    requires few_moves { moves ≤ most_moves }
+    requires targets { All (λ v. IsOfFront node.now moves v) vectors.now }
+    ensures lines { IfOk result (λ lines.
+        AreEntriesWritten node.now weights.now moves vectors.now [] lines) }
+    ensures spent { (card : ℕ) → IsErrOf result (RootFault.Spent card)
+        → IsSpentAt node.now moves options.now.nodes card }
+{
+    let mut solver = Solver::new(alloc);
+    let mut out = PlanWriter::new(alloc);
+    for vector in vectors {
+        let line = vector_text(alloc, weights, *vector)?;
+        out.push(line.bytes())?;
+        out.push_plan(
+            store,
+            &mut solver,
+            node,
+            moves,
+            vector,
+            options.nodes,
+            options.cuts,
+        )?;
+    }
+    let lines = Text::from_bytes(alloc, out.bytes())?;
+    Ok(lines)
+}
+
+// The lines of these vectors of a node's front with their plans. The plans are found over the table,
+// if the options say so, by a pass that ends with them, together with the fronts that are too wide
+// for a table.
+fn written_over(
+    alloc: Global,
+    table: &SharedTable,
+    pass: &mut Pass,
+    node: &Node,
+    weights: &Weights,
+    moves: u8,
+    options: &Options,
+    vectors: &[WinVector],
+) -> Result<Text, RootFault>
+    requires pass { IsPassOf table.now pass.old }
+    requires ours { bridge.is_ours node.now ≡ true }
+    requires weighed { length weights.now ≡ length node.now.lefts }
+    requires some_moves { 1 ≤ moves }
+    requires few_moves { moves ≤ most_moves }
+    requires targets { All (λ v. IsOfFront node.now moves v) vectors.now }
+    ensures lines { IfOk result (λ lines.
+        AreEntriesWritten node.now weights.now moves vectors.now [] lines) }
+    ensures spent { (card : ℕ) → IsErrOf result (RootFault.Spent card)
+        → IsSpentAt node.now moves options.now.nodes card }
+    ensures pass { IsPassOf table.now pass.new }
+    ensures grown { HasSeenMore pass.old pass.new }
+{
+    if options.table {
+        let mut own = table.split(pass);
+        let mut store = WideStore::new(alloc, SharedStore::new(table, &mut own));
+        written(alloc, &mut store, node, weights, moves, options, vectors)
+    } else {
+        written(alloc, &mut NoStore, node, weights, moves, options, vectors)
+    }
+}
+
+/// What `answer_root` finds, with the vectors and their plans as lines of a report, which are
+/// written as they are found. The workers are joined, so it may wait. `Spent` is as for
+/// `answer_root`.
+pub fn written_root<R: Threads + Sync, G: Gate>(
+    rt: &R,
+    alloc: Global,
+    node: &Node,
+    moves: u8,
+    weights: &Weights,
+    options: &Options,
+    table: &SharedTable,
+    pass: &mut Pass,
+    gate: &G,
+) -> Result<WrittenAnswer, RootFault>
+    requires ours { bridge.is_ours node.now ≡ true }
+    requires goes_on { bridge.is_over node.now ≡ false }
+    requires some_moves { 1 ≤ moves }
+    requires few_moves { moves ≤ most_moves }
+    requires weights { length weights.now ≡ length node.now.lefts }
+    requires workers { HasWorkers options.now }
+    requires pass { IsPassOf table.now pass.old }
+    ensures written { IfOk result (IsWrittenAnswer node.now weights.now moves) }
+    ensures fits { IsPlain options.now
+        → IfOk result (λ _. AllFit node.now moves options.now.nodes) }
+    ensures spent { (card : ℕ) → IsErrOf result (RootFault.Spent card)
+        → IsSpentAt node.now moves options.now.nodes card }
+    ensures first_spent { IsPlain options.now → (card : ℕ)
+        → IsErrOf result (RootFault.Spent card)
+        → IsFirstSpentAt node.now moves options.now.nodes card }
+    ensures pass { IsPassOf table.now pass.new }
+    ensures grown { HasSeenMore pass.old pass.new }
+{
+    let found = root_front(rt, alloc, node, moves, weights, options, table, pass, gate)?;
+    let vectors = reported(alloc, node, moves, weights, &found.front)?;
+    let lines = written_over(alloc, table, pass, node, weights, moves, options, &vectors)?;
+    Ok(WrittenAnswer {
+        lines,
+        vectors: vectors.len(),
+        card: found.card,
+        weight: found.weight,
+    })
+}
