@@ -3,8 +3,8 @@ use Rattle.std.proofs.Common.{◌≡◌, ◌∙◌, ◌+◌, ◌<◌, ◌++◌, 
 use Rattle.std.proofs.lemmas.Option.{slice_get_within, slice_get_read, get_or_from_slice_get}
 use Rattle.std.proofs.lemmas.List.{take_more, length-take-le}
 use Rattle.std.proofs.lemmas.List.Elements.{All-nil, All-push, All-get_or}
-use Rattle.am_report.specs.Answers.{SolveAnswerValue}
-use Rattle.am_answer.specs.Reports.{IsSolveAnswer}
+use Rattle.root_answers.specs.declared.written.WrittenAnswer.{WrittenAnswer}
+use Rattle.root_answers.specs.Written.{IsWrittenAnswer}
 use Rattle.root_workers.specs.Roots.{IsFirstSpentAt, AllFit}
 use Rattle.root_workers.proofs.Founds.{get_push}
 use Rattle.board_batch.specs.declared.batch.Problem.{Problem}
@@ -19,16 +19,16 @@ next_taken : {X : Type 0} (xs : List X) (i : ℕ) (x : X) → i < length xs → 
 next_taken xs i x inside is = take_more xs i x inside ∙ ap (λ y. take i xs ++ y ∷ []) (sym is)
 
 module _ (problems : List Problem) (moves : ℕ) where
-  pub none_answered : (answers : List SolveAnswerValue) → answers ≡ [] → AreAnswers (take 0 problems) moves answers
+  pub none_answered : (answers : List WrittenAnswer) → answers ≡ [] → AreAnswers (take 0 problems) moves answers
   none_answered answers none =
-      subst (λ (all : List SolveAnswerValue). AreAnswers (take 0 problems) moves all) (sym none)
+      subst (λ (all : List WrittenAnswer). AreAnswers (take 0 problems) moves all) (sym none)
       (record { all = refl; each = λ place p answer here at. absurd (omega (arith, slice_get_within (take 0 problems) place p here)) })
 
-  pub one_more_answered : (i : ℕ) (p : Problem) (answers now : List SolveAnswerValue) (answer : SolveAnswerValue) → AreAnswers (take i problems) moves answers → i < length problems → p ≡ get_or problems i p
-      → IsSolveAnswer p.node.now p.weights.now moves answer → now ≡ answers ++ answer ∷ [] → AreAnswers (take (i + 1) problems) moves now
+  pub one_more_answered : (i : ℕ) (p : Problem) (answers now : List WrittenAnswer) (answer : WrittenAnswer) → AreAnswers (take i problems) moves answers → i < length problems → p ≡ get_or problems i p
+      → IsWrittenAnswer p.node.now p.weights.now moves answer → now ≡ answers ++ answer ∷ [] → AreAnswers (take (i + 1) problems) moves now
   one_more_answered i p answers now answer so inside here is pushed =
       let next = next_taken problems i p inside here in
-      subst (λ (all : List SolveAnswerValue). AreAnswers (take (i + 1) problems) moves all) (sym pushed)
+      subst (λ (all : List WrittenAnswer). AreAnswers (take (i + 1) problems) moves all) (sym pushed)
       (record {
         all = length-append answers (answer ∷ []) ∙ ap (λ k. k + 1) so.all ∙ sym (length-append (take i problems) (p ∷ [])) ∙ sym (ap (λ (ps : List Problem). length ps) next);
         each = λ place q other at found. elim (get_push (take i problems) p place q (subst (λ (ps : List Problem). slice_get ps place ≡ Some q) next at)) [
@@ -38,17 +38,17 @@ module _ (problems : List Problem) (moves : ℕ) where
           ]
           | inr last ↦ elim (get_push answers answer place other found) [
             | inl there ↦ absurd (omega (arith, slice_get_within answers place other there, last.0, so.all))
-            | inr end ↦ subst (λ (r : Problem). IsSolveAnswer r.node.now r.weights.now moves other) last.1
-                (subst (λ (a : SolveAnswerValue). IsSolveAnswer p.node.now p.weights.now moves a) end.1 is)
+            | inr end ↦ subst (λ (r : Problem). IsWrittenAnswer r.node.now r.weights.now moves other) last.1
+                (subst (λ (a : WrittenAnswer). IsWrittenAnswer p.node.now p.weights.now moves a) end.1 is)
           ]
         ];
       })
 
   -- the problem that is answered next
-  pub counted : (i place : ℕ) (answers : List SolveAnswerValue) → AreAnswers (take i problems) moves answers → i < length problems → place ≡ length answers → place ≡ i
+  pub counted : (i place : ℕ) (answers : List WrittenAnswer) → AreAnswers (take i problems) moves answers → i < length problems → place ≡ length answers → place ≡ i
   counted i place answers so inside at = at ∙ so.all ∙ length-take-le i problems (omega (arith, inside))
 
-  pub here_next : (i place : ℕ) (p : Problem) (answers : List SolveAnswerValue) → AreAnswers (take i problems) moves answers → i < length problems → p ≡ get_or problems i p → place ≡ length answers
+  pub here_next : (i place : ℕ) (p : Problem) (answers : List WrittenAnswer) → AreAnswers (take i problems) moves answers → i < length problems → p ≡ get_or problems i p → place ≡ length answers
       → slice_get problems place ≡ Some p
   here_next i place p answers so inside here at =
       subst (λ k. slice_get problems k ≡ Some p) (sym (counted i place answers so inside at)) (slice_get_read problems (length problems) i p refl inside here)
@@ -63,13 +63,13 @@ module _ (problems : List Problem) (moves : ℕ) where
         subst (λ (ps : List Problem). All (λ (q : Problem). AllFit q.node.now moves nodes) ps) (sym (next_taken problems i p inside here))
         (All-push (λ (q : Problem). AllFit q.node.now moves nodes) (take i problems) p so fits)
 
-    pub first_spent : (i place number card : ℕ) (p : Problem) (answers : List SolveAnswerValue) → AreAnswers (take i problems) moves answers → i < length problems → p ≡ get_or problems i p → place ≡ length answers
-        → AllProblemsFit (take i problems) moves nodes → number ≡ place + 1 → IsFirstSpentAt p.node.now moves nodes card → IsFirstSpentIn problems moves nodes number card
+    pub first_spent : (i place number card : ℕ) (p : Problem) (answers : List WrittenAnswer) → AreAnswers (take i problems) moves answers → i < length problems → p ≡ get_or problems i p → place ≡ length answers
+        → AllProblemsFit (take i problems) moves nodes → number ≡ p.number → IsFirstSpentAt p.node.now moves nodes card → IsFirstSpentIn problems moves nodes number card
     first_spent i place number card p answers so inside here at fits numbered spent = record {
       place = place;
       problem = p;
-      counted = numbered;
       here = here_next i place p answers so inside here at;
+      numbered = numbered;
       spent = spent;
       earlier = subst (λ k. AllProblemsFit (take k problems) moves nodes) (sym (counted i place answers so inside at)) fits;
     }

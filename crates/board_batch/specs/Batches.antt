@@ -3,8 +3,8 @@ use Rattle.std.specs.Prelude.{◌≡◌, ◌≤◌, ⊤, ℕ, Some, Result, Ok, 
 use Rattle.trick_rules.specs.Nodes.{most_moves}
 use Rattle.alphamu_core.specs.declared.answers.RootFault.{RootFault}
 use Rattle.alphamu_core.specs.declared.answers.RootFault.TheVariants.{Spent, Memory}
-use Rattle.am_report.specs.Answers.{SolveAnswerValue}
-use Rattle.am_answer.specs.Reports.{IsSolveAnswer}
+use Rattle.root_answers.specs.declared.written.WrittenAnswer.{WrittenAnswer}
+use Rattle.root_answers.specs.Written.{IsWrittenAnswer}
 use Rattle.root_workers.specs.Roots.{IsSpentAt, IsFirstSpentAt, AllFit}
 use Rattle.root_workers.specs.Plain.{IsPlain, HasWorkers}
 use Rattle.board_batch.specs.declared.batch.Problem.{Problem}
@@ -20,8 +20,8 @@ pub record IsBatch (b : Batch) : Type 0 where
   pub workers : HasWorkers b.options
 
 -- the answer of a problem; a plain search has met no tree that is too large
-abbrev pub IsSolved : Batch → Problem → SolveAnswerValue → Type 0
-IsSolved b p answer = IsSolveAnswer p.node.now p.weights.now b.moves answer
+abbrev pub IsSolved : Batch → Problem → WrittenAnswer → Type 0
+IsSolved b p answer = IsWrittenAnswer p.node.now p.weights.now b.moves answer
     × (IsPlain b.options → AllFit p.node.now b.moves b.options.nodes)
 
 -- a root card of a problem whose tree is too large, in a plain search the first one
@@ -30,13 +30,13 @@ IsSpentOf b p card = IsSpentAt p.node.now b.moves b.options.nodes card
     × (IsPlain b.options → IsFirstSpentAt p.node.now b.moves b.options.nodes card)
 
 -- what the search of a problem may end with, whoever makes it
-abbrev pub IsKnown : Batch → Problem → Result SolveAnswerValue RootFault → Type 0
+abbrev pub IsKnown : Batch → Problem → Result WrittenAnswer RootFault → Type 0
 IsKnown b p (Ok answer) = IsSolved b p answer
 IsKnown b p (Err (Spent card)) = IsSpentOf b p card
 IsKnown b p (Err Memory) = ⊤
 
 -- what is known of the problem at a place, counted from 0
-pub record IsKnownAt (b : Batch) (place : ℕ) (known : Result SolveAnswerValue RootFault) : Type 0 where
+pub record IsKnownAt (b : Batch) (place : ℕ) (known : Result WrittenAnswer RootFault) : Type 0 where
   pub problem : Problem
   pub here : slice_get b.problems.now place ≡ Some problem
   pub known_is : IsKnown b problem known

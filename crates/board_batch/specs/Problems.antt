@@ -1,8 +1,8 @@
 -- Many problems, each with an answer of its own.
-use Rattle.std.specs.Prelude.{◌≡◌, ◌+◌, ℕ, true, false, List, Some, All, length, take, slice_get}
+use Rattle.std.specs.Prelude.{◌≡◌, ℕ, true, false, List, Some, All, length, take, slice_get}
 use Rattle.strategy_tree.specs.Bridge.{bridge}
-use Rattle.am_report.specs.Answers.{SolveAnswerValue}
-use Rattle.am_answer.specs.Reports.{IsSolveAnswer}
+use Rattle.root_answers.specs.declared.written.WrittenAnswer.{WrittenAnswer}
+use Rattle.root_answers.specs.Written.{IsWrittenAnswer}
 use Rattle.root_workers.specs.Roots.{IsSpentAt, IsFirstSpentAt, AllFit}
 use Rattle.board_batch.specs.declared.batch.Problem.{Problem}
 
@@ -12,29 +12,29 @@ pub record IsProblem (p : Problem) : Type 0 where
   pub goes_on : bridge.is_over p.node.now ≡ false
   pub weights : length p.weights.now ≡ length p.node.now.lefts
 
--- one answer a problem, in order: each is that of its problem by so many moves
-pub record AreAnswers (problems : List Problem) (moves : ℕ) (answers : List SolveAnswerValue) : Type 0 where
+-- one answer a problem, in order: each is that of its problem by this many moves
+pub record AreAnswers (problems : List Problem) (moves : ℕ) (answers : List WrittenAnswer) : Type 0 where
   pub all : length answers ≡ length problems
-  pub each : (place : ℕ) (p : Problem) (answer : SolveAnswerValue) → slice_get problems place ≡ Some p
-      → slice_get answers place ≡ Some answer → IsSolveAnswer p.node.now p.weights.now moves answer
+  pub each : (place : ℕ) (p : Problem) (answer : WrittenAnswer) → slice_get problems place ≡ Some p
+      → slice_get answers place ≡ Some answer → IsWrittenAnswer p.node.now p.weights.now moves answer
 
 -- no tree after a root card of one of the problems is too large
 abbrev pub AllProblemsFit : List Problem → ℕ → ℕ → Type 0
 AllProblemsFit problems moves nodes = All (λ p. AllFit p.node.now moves nodes) problems
 
--- the problem of this number, counted from 1, has this root card, and the tree after it is too large
+-- the problem of this number has this root card, and the tree after it is too large
 pub record IsSpentIn (problems : List Problem) (moves nodes number card : ℕ) : Type 0 where
   pub place : ℕ
   pub problem : Problem
-  pub counted : number ≡ place + 1
   pub here : slice_get problems place ≡ Some problem
+  pub numbered : number ≡ problem.number
   pub spent : IsSpentAt problem.node.now moves nodes card
 
--- the first problem with a tree that is too large, by its number counted from 1, and the first such root card of it
+-- the first problem with a tree that is too large, by its number, and the first such root card of it
 pub record IsFirstSpentIn (problems : List Problem) (moves nodes number card : ℕ) : Type 0 where
   pub place : ℕ
   pub problem : Problem
-  pub counted : number ≡ place + 1
   pub here : slice_get problems place ≡ Some problem
+  pub numbered : number ≡ problem.number
   pub spent : IsFirstSpentAt problem.node.now moves nodes card
   pub earlier : AllProblemsFit (take place problems) moves nodes

@@ -5,9 +5,10 @@ use std::alloc::Global;
 use trick_rules::Node;
 use win_vectors::Weights;
 
-/// A node to be solved, by a weight for each of its layouts.
+/// A node to be solved, by a weight for each of its layouts, and the number that names it.
 #[derive(Drop)]
 pub struct Problem<'a> {
+    pub number: u16,
     pub node: &'a Node,
     pub weights: &'a Weights,
 }

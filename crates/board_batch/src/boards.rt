@@ -1,5 +1,5 @@
 //! The answers of many problems, in order.
-ghost use Rattle.std.specs.Prelude.{◌≡◌, ◌+◌, ◌≤◌, ◌<◌, ℕ, All, Some, IfOk, IsErrOf, length};
+ghost use Rattle.std.specs.Prelude.{◌≡◌, ◌≤◌, ℕ, All, Some, IfOk, IsErrOf, length};
 ghost use Rattle.std.specs.Prelude.{slice_get};
 ghost use Rattle.trick_rules.specs.Nodes.{most_moves};
 ghost use Rattle.shared_table.specs.Passes.{IsPassOf};
@@ -16,7 +16,7 @@ use crate::share::{Done, share};
 use crate::worker::solved;
 use alphamu_core::RootFault;
 use am_outside::Gate;
-use am_report::SolveAnswer;
+use root_answers::WrittenAnswer;
 use root_workers::Options;
 use shared_table::{Pass, SharedTable};
 use std::alloc::{AllocError, Global};
@@ -65,14 +65,13 @@ fn solved_by_all<R: Threads + Sync, G: Gate>(
     Ok(places)
 }
 
-// The fault of the problem at a place.
-fn fault_at(place: u32, fault: RootFault) -> BatchFault
-    requires few { place < 64 }
-    ensures spent { (number card : ℕ) → result ≡ BatchFault.Spent number card
-        → (number ≡ place + 1) × (fault ≡ RootFault.Spent card) }
+// The fault of the problem of a number.
+fn fault_of(number: u16, fault: RootFault) -> BatchFault
+    ensures spent { (other card : ℕ) → result ≡ BatchFault.Spent other card
+        → (other ≡ number) × (fault ≡ RootFault.Spent card) }
 {
     match fault {
-        RootFault::Spent(card) => BatchFault::Spent(place as u16 + 1, card),
+        RootFault::Spent(card) => BatchFault::Spent(number, card),
         RootFault::Memory => BatchFault::Memory,
     }
 }
@@ -86,7 +85,7 @@ fn known_at<R: Threads + Sync, G: Gate>(
     places: &mut Vec<Place>,
     place: u32,
     problem: &Problem,
-) -> Result<SolveAnswer, RootFault>
+) -> Result<WrittenAnswer, RootFault>
     requires batch { IsBatch batch.now }
     requires pass { IsPassOf batch.now.table.now pass.old }
     requires right { All (IsRight batch.now) places.old.items }
@@ -111,22 +110,21 @@ fn answer_at<R: Threads + Sync, G: Gate>(
     places: &mut Vec<Place>,
     place: u32,
     problem: &Problem,
-) -> Result<SolveAnswer, BatchFault>
+) -> Result<WrittenAnswer, BatchFault>
     requires batch { IsBatch batch.now }
     requires pass { IsPassOf batch.now.table.now pass.old }
     requires right { All (IsRight batch.now) places.old.items }
-    requires few { place < 64 }
     requires problem { slice_get batch.now.problems.now place ≡ Some problem.now }
     ensures answer { IfOk result (IsSolved batch.now problem.now) }
     ensures spent { (number card : ℕ) → IsErrOf result (BatchFault.Spent number card)
-        → (number ≡ place + 1) × IsSpentOf batch.now problem.now card }
+        → (number ≡ problem.now.number) × IsSpentOf batch.now problem.now card }
     ensures right { All (IsRight batch.now) places.new.items }
     ensures pass { IsPassOf batch.now.table.now pass.new }
     ensures grown { HasSeenMore pass.old pass.new }
 {
     match known_at(rt, batch, gate, pass, places, place, problem) {
         Ok(answer) => Ok(answer),
-        Err(fault) => Err(fault_at(place, fault)),
+        Err(fault) => Err(fault_of(problem.number, fault)),
     }
 }
 
@@ -137,7 +135,7 @@ fn in_order<R: Threads + Sync, G: Gate>(
     gate: &G,
     pass: &mut Pass,
     mut places: Vec<Place>,
-) -> Result<Vec<SolveAnswer>, BatchFault>
+) -> Result<Vec<WrittenAnswer>, BatchFault>
     requires batch { IsBatch batch.now }
     requires few { length batch.now.problems.now ≤ 64 }
     requires pass { IsPassOf batch.now.table.now pass.old }
@@ -165,16 +163,16 @@ fn in_order<R: Threads + Sync, G: Gate>(
 }
 
 /// The answer of each of at most 64 problems, in order, with 1 to 26 moves of declarer's side: what
-/// `answer_root` says of it. The workers, the gate, the table and the cuts change none of them.
+/// `written_root` says of it. The workers, the gate, the table and the cuts change none of them.
 ///
 /// As many workers as the options ask for, but no more than there are problems, draw the problems,
 /// and each solves what it drew alone. They look into one table, if the options say so, and the
 /// gate hears the number of the worker that solves a problem. A problem that no worker had memory
 /// for is solved by the caller, as worker 0. The workers are joined, so it may wait.
 ///
-/// `Spent` names a problem and a root card of it whose tree has more nodes than a search may enter;
-/// with neither table nor cuts the first such problem and its first such card. If there is one, no
-/// answer comes then.
+/// `Spent` names a problem by its number and a root card of it whose tree has more nodes than a
+/// search may enter; with neither table nor cuts the first such problem and its first such card. If
+/// there is one, no answer comes then.
 pub fn run_boards<R: Threads + Sync, G: Gate>(
     rt: &R,
     alloc: Global,
@@ -184,7 +182,7 @@ pub fn run_boards<R: Threads + Sync, G: Gate>(
     table: &SharedTable,
     pass: &mut Pass,
     gate: &G,
-) -> Result<Vec<SolveAnswer>, BatchFault>
+) -> Result<Vec<WrittenAnswer>, BatchFault>
     requires problems { All IsProblem problems.now }
     requires few { length problems.now ≤ 64 }
     requires some_moves { 1 ≤ moves }

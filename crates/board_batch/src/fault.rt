@@ -6,8 +6,8 @@ use thiserror::Error;
 /// Why a batch of problems ends with no answer.
 #[derive(Clone, Copy, Debug, PartialEq, Eq, Error)]
 pub enum BatchFault {
-    /// A problem by its number, counted from 1, and one of its root cards: the tree after this card
-    /// has more nodes than a search may enter.
+    /// A problem by its number, and one of its root cards: the tree after this card has more nodes
+    /// than a search may enter.
     #[error("nodes spent")]
     Spent(u16, Card),
     #[error("out of memory")]

@@ -5,13 +5,13 @@ ghost use Rattle.board_batch.specs.declared.places.Place.{Place};
 
 use crate::batch::Batch;
 use alphamu_core::RootFault;
-use am_report::SolveAnswer;
+use root_answers::WrittenAnswer;
 
 /// A problem by its place, counted from 0, and what its search ended with.
 #[derive(Drop)]
 pub struct Place {
     pub place: u32,
-    pub known: Result<SolveAnswer, RootFault>,
+    pub known: Result<WrittenAnswer, RootFault>,
 }
 
 // The index of the problem of a place in the list.
@@ -32,7 +32,7 @@ pub fn taken(
     batch: &Batch,
     places: &mut Vec<Place>,
     place: u32,
-) -> Option<Result<SolveAnswer, RootFault>>
+) -> Option<Result<WrittenAnswer, RootFault>>
     requires { All (IsRight batch.now) places.old.items }
     ensures right { All (IsRight batch.now) places.new.items }
     ensures known { IfSome result (IsKnownAt batch.now place) }

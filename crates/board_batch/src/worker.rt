@@ -10,9 +10,8 @@ use crate::batch::{Batch, Problem};
 use crate::places::Place;
 use alphamu_core::RootFault;
 use am_outside::Gate;
-use am_report::SolveAnswer;
 use card_sets::Card;
-use root_answers::answer_root;
+use root_answers::{WrittenAnswer, written_root};
 use shared_table::Pass;
 use std::alloc::AllocError;
 use std::thread::Threads;
@@ -43,7 +42,7 @@ pub fn solved<R: Threads + Sync, G: Gate>(
     worker: u32,
     pass: &mut Pass,
     problem: &Problem,
-) -> Result<SolveAnswer, RootFault>
+) -> Result<WrittenAnswer, RootFault>
     requires batch { IsBatch batch.now }
     requires pass { IsPassOf batch.now.table.now pass.old }
     requires problem { IsProblem problem.now }
@@ -59,7 +58,7 @@ pub fn solved<R: Threads + Sync, G: Gate>(
         table,
         ..
     } = batch;
-    answer_root(
+    written_root(
         rt,
         *alloc,
         problem.node,

@@ -1,18 +1,13 @@
 -- The answers and texts of games, one after another.
-use Rattle.std.proofs.Common.{◌≡◌, ◌⊎◌, inl, inr, ◌<◌, ◌+◌, ℕ, true, false, zero, suc, List, [], ◌∷◌, ◌++◌, Some, Result, Ok, Err, All, length, map, take, drop, get_or, slice_get, refl, sym, ap, subst, ◌∙◌, rules, arith, take-suc, drop-cons}
+use Rattle.std.proofs.Common.{◌≡◌, ◌⊎◌, inl, inr, ◌<◌, ◌+◌, ℕ, true, false, zero, suc, List, [], ◌∷◌, ◌++◌, Some, Result, Ok, Err, length, take, drop, get_or, slice_get, refl, sym, ap, subst, ◌∙◌, rules, arith, take-suc, drop-cons}
 use Rattle.std.specs.Prelude.{IfOk, is_ok}
 use Rattle.std.specs.List.{AllZip}
-use Rattle.std.proofs.lemmas.List.Sorted.{All-permutation}
-use Rattle.strategy_tree.specs.Bridge.{bridge}
-use Rattle.strategy_tree.proofs.BridgeLaws.{one_front}
-use Rattle.strategy_tree.proofs.BridgeNodes.{length-states}
-use Rattle.am_report.specs.Answers.{SolveAnswerValue, EntryValue}
+use Rattle.root_answers.specs.declared.written.WrittenAnswer.{WrittenAnswer}
 use Rattle.am_report.specs.declared.boards.GameText.{GameText}
 use Rattle.am_answer.specs.declared.root.Root.{Root}
 use Rattle.am_answer.specs.declared.status.Status.{Status}
-use Rattle.am_answer.specs.Answers.{IsRoot}
 use Rattle.am_answer.specs.Reports.{IsGameText}
-use Rattle.job_boards.specs.Outcomes.{AreAnswersOf, HasAnswer, IsAnswerAt}
+use Rattle.job_boards.specs.Outcomes.{AreAnswersOf, HasAnswer}
 use Rattle.job_boards.proofs.Zips.{zip-push}
 
 -- ---- the answer of a root
@@ -27,24 +22,10 @@ at-place [] place x d there = absurd (search (rules, there))
 at-place (y ∷ xs) zero x d there = search (rules, there)
 at-place (y ∷ xs) (suc place) x d there = at-place xs place x d there
 
--- each of its vectors has a bit for each layout, and so for each weight
-pub wide : (root : Root) (moves : ℕ) (answer : SolveAnswerValue) → IsRoot root → IsAnswerAt moves root answer → All (λ (e : EntryValue). length root.kept.weights ≡ length e.vector) answer.entries
-wide root moves answer is own = λ k d within.
-    let vectors = map (λ (e : EntryValue). e.vector) answer.entries in
-    let front = one_front.wide root.kept.node moves own.vectors.front own.vectors.is_front in
-    let all = All-permutation (λ v. length v ≡ length (bridge.states root.kept.node)) own.vectors.front vectors own.vectors.same front in
-    each answer.entries all k d within
-  where
-    each : (entries : List EntryValue) → All (λ v. length v ≡ length (bridge.states root.kept.node)) (map (λ (e : EntryValue). e.vector) entries) → (k : ℕ) (d : EntryValue) → k < length entries
-        → length root.kept.weights ≡ length (get_or entries k d).vector
-    each [] all k d within = absurd (omega (arith, within))
-    each (e ∷ entries) all zero d within = is.weighed ∙ sym (all 0 e.vector (omega arith) ∙ length-states root.kept.node)
-    each (e ∷ entries) all (suc k) d within = each entries (λ j v less. all (suc j) v (omega (arith, less))) k d (omega (arith, within))
-
 -- ---- games one after another
 
 -- the answer of the next game, where it has a root
-pub next-answer : (moves : ℕ) (game : Result Root Status) (later : List (Result Root Status)) (answers : List SolveAnswerValue) (place : ℕ) → AreAnswersOf moves (game ∷ later) (drop place answers) → IfOk game (HasAnswer moves answers place)
+pub next-answer : (moves : ℕ) (game : Result Root Status) (later : List (Result Root Status)) (answers : List WrittenAnswer) (place : ℕ) → AreAnswersOf moves (game ∷ later) (drop place answers) → IfOk game (HasAnswer moves answers place)
 next-answer moves (Err status) later answers place all = tt
 next-answer moves (Ok root) later [] zero all = absurd all
 next-answer moves (Ok root) later [] (suc place) all = absurd all
@@ -54,11 +35,11 @@ next-answer moves (Ok root) later (a ∷ answers) (suc place) all =
     record { answer = found.answer; there = found.there; own = found.own }
 
 -- the answers that are left after it
-pub left-refused : (moves : ℕ) (game : Result Root Status) (status : Status) (later : List (Result Root Status)) (answers : List SolveAnswerValue) → game ≡ Err status → AreAnswersOf moves (game ∷ later) answers → AreAnswersOf moves later answers
+pub left-refused : (moves : ℕ) (game : Result Root Status) (status : Status) (later : List (Result Root Status)) (answers : List WrittenAnswer) → game ≡ Err status → AreAnswersOf moves (game ∷ later) answers → AreAnswersOf moves later answers
 left-refused moves (Err own) status later answers is all = all
 left-refused moves (Ok root) status later answers is all = absurd cc
 
-pub left-solved : (moves : ℕ) (game : Result Root Status) (root : Root) (later : List (Result Root Status)) (answers : List SolveAnswerValue) (place : ℕ) → game ≡ Ok root → AreAnswersOf moves (game ∷ later) (drop place answers)
+pub left-solved : (moves : ℕ) (game : Result Root Status) (root : Root) (later : List (Result Root Status)) (answers : List WrittenAnswer) (place : ℕ) → game ≡ Ok root → AreAnswersOf moves (game ∷ later) (drop place answers)
     → AreAnswersOf moves later (drop (suc place) answers)
 left-solved moves (Err status) root later answers place is all = absurd cc
 left-solved moves (Ok own) root later [] zero is all = absurd all
@@ -77,22 +58,22 @@ texts-next moves games i game before now text within is all own more =
     (zip-push (IsGameText moves) (take i games) before game text all own))
 
 -- the games that are left begin with the next one
-pub left-now : (moves : ℕ) (games : List (Result Root Status)) (i : ℕ) (game : Result Root Status) (answers : List SolveAnswerValue) → i < length games → game ≡ get_or games i game → AreAnswersOf moves (drop i games) answers
+pub left-now : (moves : ℕ) (games : List (Result Root Status)) (i : ℕ) (game : Result Root Status) (answers : List WrittenAnswer) → i < length games → game ≡ get_or games i game → AreAnswersOf moves (drop i games) answers
     → AreAnswersOf moves (game ∷ drop (suc i) games) answers
 left-now moves games i game answers within is all =
     subst (λ gs. AreAnswersOf moves gs answers) (drop-cons games i game within ∙ ap (λ (g : Result Root Status). g ∷ drop (suc i) games) (sym is)) all
 
-after-ok : (moves : ℕ) (game : Result Root Status) (later : List (Result Root Status)) (answers : List SolveAnswerValue) (place : ℕ) → is_ok game ≡ true → AreAnswersOf moves (game ∷ later) (drop place answers)
+after-ok : (moves : ℕ) (game : Result Root Status) (later : List (Result Root Status)) (answers : List WrittenAnswer) (place : ℕ) → is_ok game ≡ true → AreAnswersOf moves (game ∷ later) (drop place answers)
     → AreAnswersOf moves later (drop (suc place) answers)
 after-ok moves (Err status) later answers place is all = absurd cc
 after-ok moves (Ok own) later answers place is all = left-solved moves (Ok own) own later answers place refl all
 
-after-err : (moves : ℕ) (game : Result Root Status) (later : List (Result Root Status)) (answers : List SolveAnswerValue) → is_ok game ≡ false → AreAnswersOf moves (game ∷ later) answers → AreAnswersOf moves later answers
+after-err : (moves : ℕ) (game : Result Root Status) (later : List (Result Root Status)) (answers : List WrittenAnswer) → is_ok game ≡ false → AreAnswersOf moves (game ∷ later) answers → AreAnswersOf moves later answers
 after-err moves (Err status) later answers is all = all
 after-err moves (Ok own) later answers is all = absurd cc
 
 -- what is left for later games, where the next one has a root and where it has none
-pub left-next : (moves : ℕ) (games : List (Result Root Status)) (i : ℕ) (game : Result Root Status) (answers : List SolveAnswerValue) (place now : ℕ) → i < length games → game ≡ get_or games i game → AreAnswersOf moves (drop i games) (drop place answers)
+pub left-next : (moves : ℕ) (games : List (Result Root Status)) (i : ℕ) (game : Result Root Status) (answers : List WrittenAnswer) (place now : ℕ) → i < length games → game ≡ get_or games i game → AreAnswersOf moves (drop i games) (drop place answers)
     → ((is_ok game ≡ true) × (now ≡ place + 1)) ⊎ ((is_ok game ≡ false) × (now ≡ place)) → AreAnswersOf moves (drop (i + 1) games) (drop now answers)
 left-next moves games i game answers place now within is all (inl solved) =
     let next : i + 1 ≡ suc i = omega arith in

@@ -1,5 +1,5 @@
 -- The games that have a root, among all games of a deal file.
-use Rattle.std.specs.Prelude.{◌≡◌, ℕ, zero, suc, ◌+◌, ◌-◌, List, [], ◌∷◌, Result, Ok, Err, filter_map}
+use Rattle.std.specs.Prelude.{◌≡◌, ℕ, ◌+◌, List, [], ◌∷◌, Result, Ok, Err, filter_map}
 use Rattle.std.specs.Result.{result_ok}
 use Rattle.std.specs.List.{AllZip}
 use Rattle.board_batch.specs.declared.batch.Problem.{Problem}
@@ -12,23 +12,23 @@ use Rattle.board_batch.specs.declared.fault.BatchFault as faults
 abbrev pub accepted : List (Result Root Status) → List Root
 accepted games = filter_map result_ok games
 
--- the problem of a root
-pub record IsProblemOf (root : Root) (p : Problem) : Type 0 where
-  pub node : p.node.now ≡ root.kept.node
-  pub weights : p.weights.now ≡ root.kept.weights
+-- the same, each with the number of its game; the first game of the list has this number
+abbrev pub numbered_from : ℕ → List (Result Root Status) → List (ℕ × Root)
+numbered_from number [] = []
+numbered_from number (Ok root ∷ later) = (number, root) ∷ numbered_from (number + 1) later
+numbered_from number (Err status ∷ later) = numbered_from (number + 1) later
 
--- a problem for each game that has a root, in order
+-- the problem of a game with this number and this root
+pub record IsProblemOf (game : ℕ × Root) (p : Problem) : Type 0 where
+  pub number : p.number ≡ game.0
+  pub node : p.node.now ≡ game.1.kept.node
+  pub weights : p.weights.now ≡ game.1.kept.weights
+
+-- a problem for each game that has a root, in order; games are numbered from 1
 abbrev pub AreProblems : List (Result Root Status) → List Problem → Type 0
-AreProblems games problems = AllZip IsProblemOf (accepted games) problems
+AreProblems games problems = AllZip IsProblemOf (numbered_from 1 games) problems
 
--- the place of the game with a root before which so many games have one; all places are counted from 0
-abbrev pub place_of : ℕ → List (Result Root Status) → ℕ
-place_of before [] = 0
-place_of zero (Ok root ∷ games) = 0
-place_of (suc before) (Ok root ∷ games) = suc (place_of before games)
-place_of before (Err status ∷ games) = suc (place_of before games)
-
--- the status of a batch that ends with no answers: a problem by the number of its game
-abbrev pub batch_status : List (Result Root Status) → faults.BatchFault → Status
-batch_status games (faults.TheVariants.Spent number card) = ends.GameSpent (place_of (number - 1) games + 1) card
-batch_status games faults.TheVariants.Memory = ends.Memory
+-- the status of a batch that ends with no answers: the number of a problem is that of its game
+abbrev pub batch_status : faults.BatchFault → Status
+batch_status (faults.TheVariants.Spent game card) = ends.GameSpent game card
+batch_status faults.TheVariants.Memory = ends.Memory

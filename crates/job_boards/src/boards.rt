@@ -13,11 +13,11 @@ use crate::problems::{batch_status, problems_of};
 use am_answer::{Root, Status};
 use am_inputs::read_roots;
 use am_outside::Gate;
-use am_report::{SolveAnswer, boards_text};
+use am_report::boards_text;
 use board_batch::run_boards;
 use byte_text::Text;
 use job_words::Search;
-use root_answers::{options_of, table_of};
+use root_answers::{WrittenAnswer, options_of, table_of};
 use std::alloc::Global;
 use std::thread::Threads;
 
@@ -29,7 +29,7 @@ fn answers_of<R: Threads + Sync, G: Gate>(
     moves: u8,
     search: &Search,
     gate: &G,
-) -> Result<Vec<SolveAnswer>, Status>
+) -> Result<Vec<WrittenAnswer>, Status>
     requires roots { All (λ found. IfOk found IsRoot) games.now }
     requires few { length games.now ≤ most_games }
     requires moves { IsMoves moves }
@@ -46,7 +46,7 @@ fn answers_of<R: Threads + Sync, G: Gate>(
         rt, alloc, &problems, moves, &options, &table, &mut pass, gate,
     ) {
         Ok(answers) => Ok(answers),
-        Err(fault) => Err(batch_status(games, fault)),
+        Err(fault) => Err(batch_status(fault)),
     }
 }
 

@@ -7,7 +7,8 @@ ghost use Rattle.job_boards.specs.Outcomes.{AreAnswersOf, HasAnswer};
 
 use am_answer::{Root, Status};
 use am_line::said;
-use am_report::{GameText, SolveAnswer, solve_text};
+use am_report::GameText;
+use root_answers::{WrittenAnswer, report_text};
 use std::alloc::{AllocError, Global};
 
 // What came of a game. If it has a root, its answer is at this place.
@@ -15,7 +16,7 @@ fn outcome(
     alloc: Global,
     game: &Result<Root, Status>,
     moves: u8,
-    answers: &[SolveAnswer],
+    answers: &[WrittenAnswer],
     place: usize,
 ) -> Result<GameText, AllocError>
     requires is_root { IfOk game.now IsRoot }
@@ -25,7 +26,7 @@ fn outcome(
     match game {
         Ok(root) => {
             let answer = &answers[place];
-            let text = solve_text(alloc, &root.board, &root.kept, moves, answer)?;
+            let text = report_text(alloc, root, moves, answer)?;
             Ok(GameText::Solved(text))
         }
         Err(status) => Ok(GameText::Refused(said(alloc, status)?)),
@@ -38,7 +39,7 @@ pub(crate) fn outcomes(
     alloc: Global,
     games: &[Result<Root, Status>],
     moves: u8,
-    answers: &[SolveAnswer],
+    answers: &[WrittenAnswer],
 ) -> Result<Vec<GameText>, AllocError>
     requires roots { All (λ found. IfOk found IsRoot) games.now }
     requires answers { AreAnswersOf moves games.now answers.now }

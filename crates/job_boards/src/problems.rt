@@ -1,22 +1,27 @@
 //! The games that have a root, as problems of one batch.
-ghost use Rattle.std.specs.Prelude.{◌≡◌, ◌+◌, ◌-◌, ◌≤◌, ℕ, IfOk, length};
-ghost use Rattle.job_boards.specs.Accepted.{AreProblems, batch_status, place_of};
+ghost use Rattle.std.specs.Prelude.{◌≡◌, ◌≤◌, IfOk, length};
+ghost use Rattle.am_answer.specs.Games.{most_games};
+ghost use Rattle.job_boards.specs.Accepted.{AreProblems, batch_status};
 
 use am_answer::{Root, Status};
 use board_batch::{BatchFault, Problem};
 use std::alloc::{AllocError, Global};
 
-/// A problem for each game that has a root, in order.
+/// A problem for each game that has a root, in order, under the number of its game.
 pub(crate) fn problems_of<'a>(
     alloc: Global,
     games: &'a [Result<Root, Status>],
 ) -> Result<Vec<Problem<'a>>, AllocError>
+    requires { length games.now ≤ most_games }
     ensures { IfOk result (λ problems. AreProblems games.entry.now problems.items) }
 {
     let mut problems = Vec::new(alloc);
+    let mut number: u16 = 0;
     for game in games {
+        number += 1;
         match game {
             Ok(root) => problems.push(Problem {
+                number,
                 node: &root.kept.node,
                 weights: &root.kept.weights,
             })?,
@@ -26,34 +31,12 @@ pub(crate) fn problems_of<'a>(
     Ok(problems)
 }
 
-// The number of the game whose problem has this number; both are counted from 1.
-fn game_number(games: &[Result<Root, Status>], problem: u16) -> u16
-    requires some { 1 ≤ problem }
-    requires few { length games.now ≤ 64 }
-    ensures { result ≡ place_of (problem - 1) games.now + 1 }
-{
-    let mut before = problem - 1;
-    let mut place = 0;
-    for game in games {
-        if game.is_ok() {
-            if before == 0 {
-                break;
-            }
-            before -= 1;
-        }
-        place += 1;
-    }
-    place + 1
-}
-
-/// The status of a batch that ends with no answers, by the number of the game in its deal file.
-pub(crate) fn batch_status(games: &[Result<Root, Status>], fault: BatchFault) -> Status
-    requires some { (number card : ℕ) → fault ≡ BatchFault.Spent number card → 1 ≤ number }
-    requires few { length games.now ≤ 64 }
-    ensures { result ≡ batch_status games.now fault }
+/// The status of a batch that ends with no answers.
+pub(crate) fn batch_status(fault: BatchFault) -> Status
+    ensures { result ≡ batch_status fault }
 {
     match fault {
-        BatchFault::Spent(problem, card) => Status::GameSpent(game_number(games, problem), card),
+        BatchFault::Spent(game, card) => Status::GameSpent(game, card),
         BatchFault::Memory => Status::Memory,
     }
 }

@@ -4,8 +4,8 @@ ghost use Rattle.board_batch.specs.Problems.{IsProblem};
 use crate::endings::{guess, no_guess, spade};
 use crate::gates::Company;
 use am_outside::{Gate, OpenGate};
-use am_report::SolveAnswer;
 use board_batch::{BatchFault, Problem, run_boards};
+use root_answers::WrittenAnswer;
 use root_workers::Options;
 use shared_table::SharedTable;
 use std::alloc::Global;
@@ -13,7 +13,7 @@ use std::process::Abort;
 use std::test::Fail;
 use std::thread::Threads;
 use trick_rules::Node;
-use win_vectors::{Weights, WinVector};
+use win_vectors::Weights;
 
 // With two moves a root card of the ending with a guess is followed by ten nodes, and one of the
 // ending without by seven.
@@ -25,11 +25,15 @@ const PLAIN: Options = Options {
 };
 
 // A node where declarer's side is to play, with a weight for each layout.
-fn problem<'a>(rt: &impl Abort, node: &'a Node, weights: &'a Weights) -> Problem<'a>
+fn problem<'a>(rt: &impl Abort, number: u16, node: &'a Node, weights: &'a Weights) -> Problem<'a>
     ensures { IsProblem result }
 {
     assert!(rt; node.is_ours() && !node.position().over() && weights.width() == node.width());
-    Problem { node, weights }
+    Problem {
+        number,
+        node,
+        weights,
+    }
 }
 
 // What is found of two nodes with two moves, by equal weights.
@@ -40,30 +44,30 @@ fn answers_of<R: Threads + Abort + Sync, G: Gate>(
     other: Node,
     options: &Options,
     gate: &G,
-) -> Result<Result<Vec<SolveAnswer>, BatchFault>, Fail> {
+) -> Result<Result<Vec<WrittenAnswer>, BatchFault>, Fail> {
     let of_one = Weights::equal(one.width());
     let of_other = Weights::equal(other.width());
     assert!(rt; 1 <= options.workers && options.workers <= 64);
-    let problems = [problem(rt, &one, &of_one), problem(rt, &other, &of_other)];
+    let problems = [
+        problem(rt, 1, &one, &of_one),
+        problem(rt, 2, &other, &of_other),
+    ];
     let (table, mut pass) = SharedTable::new(alloc, 1, 64)?;
     Ok(run_boards(rt, alloc, &problems, 2, options, &table, &mut pass, gate))
 }
 
-// The vectors of an answer, which plays the two and wins this many layouts.
-fn assert_answer(rt: &impl Abort, answer: &SolveAnswer, vectors: &[WinVector], weight: u32) {
-    assert_eq!(rt; answer.entries.len(), vectors.len());
-    for place in 0..answer.entries.len() {
-        assert!(rt; place < vectors.len() && answer.entries[place].vector == vectors[place]);
-    }
-    assert!(rt; answer.card == spade(2) && answer.weight == weight);
+// An answer with this many vectors, which plays the two and wins one layout.
+fn assert_answer(rt: &impl Abort, answer: &WrittenAnswer, vectors: usize, first: &[u8]) {
+    assert_eq!(rt; answer.vectors, vectors);
+    assert!(rt; answer.lines.bytes().starts_with(first));
+    assert!(rt; answer.card == spade(2) && answer.weight == 1);
 }
 
 // The guess first: it makes the first layout alone, or the second alone. Then all of one layout.
-fn assert_answers(rt: &impl Abort, answers: &Vec<SolveAnswer>) {
-    let none = WinVector::none(2);
+fn assert_answers(rt: &impl Abort, answers: &Vec<WrittenAnswer>) {
     assert_eq!(rt; answers.len(), 2);
-    assert_answer(rt, &answers[0], &[none.set(0, true), none.set(1, true)], 1);
-    assert_answer(rt, &answers[1], &[WinVector::all(1)], 1);
+    assert_answer(rt, &answers[0], 2, b"vector 10 count 1\nplay S2\n");
+    assert_answer(rt, &answers[1], 1, b"vector 1 count 1\nplay S2\n");
 }
 
 #[test]

@@ -6,6 +6,6 @@ use Rattle.board_batch.proofs.boards.answer_at.Goals as goal
 
 pub returns-in-Err-clause-spent : goal.returns-in-Err-clause-spent
 returns-in-Err-clause-spent g c = λ number card e.
-    let is : c.fault_at.result ≡ Spent number card = cc in
-    let at = c.fault_at.ensures.spent number card is in
+    let is : c.fault_of.result ≡ Spent number card = cc in
+    let at = c.fault_of.ensures.spent number card is in
     (at.0, subst (λ (f : RootFault). IsKnown c.args.batch.now c.args.problem.now (Err f)) at.1 c.in-Err.ensures.known)

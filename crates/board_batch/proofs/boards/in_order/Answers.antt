@@ -38,8 +38,8 @@ returns-in_err-answer-clause-spent g c = λ number card e.
     let at = c.in_err-answer.ensures.spent number card (ap Err fault) in record {
       place = c.len-place.result;
       problem = c.problem-item.result;
-      counted = at.0;
       here = here_next b.problems.now b.moves c.loop-problem.problem-index c.len-place.result c.problem-item.result c.loop-problem.answers.items c.loop-problem.invariant.answers c.loop-problem-test.true c.problem-item.is (omega (arith, c.len-place.ensures));
+      numbered = at.0;
       spent = at.1.0;
     }
 

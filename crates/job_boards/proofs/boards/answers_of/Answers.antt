@@ -25,10 +25,6 @@ returns-in-Ok-clause-fits g c = λ plain.
     (subst (λ ps. AllProblemsFit ps c.args.moves c.options_of-options.result.nodes) c.deref.ensures.value
     (c.in-Ok.ensures.fits (plain-as c.options_of-options.result c.args.search.now c.options_of-options.ensures plain))))
 
-pub batch_status-requires-clause-some : goal.batch_status-requires-clause-some
-batch_status-requires-clause-some g c = λ number card is.
-    omega (arith, (c.run_boards.ensures.spent number card (c.in-Err.is ∙ ap Err is)).counted)
-
 pub returns-clause-refused : goal.returns-clause-refused
 returns-clause-refused g c =
     rw (c.batch_status.ensures)
