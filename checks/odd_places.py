@@ -14,6 +14,7 @@ import fnmatch
 import os
 import pty
 import resource
+import select
 import shutil
 import signal
 import subprocess
@@ -36,7 +37,8 @@ FIRST_USER = 61000
 # What the toolchain does in a trial.
 ANSWERS = """echo answer; echo "alphamu: a line" >&2; echo "run=ended status=7 races=unchecked proved=no" >&2; exit 7"""
 FAILS = """echo "checked: no-answer: too hot" >&2; echo "run=none proved=no" >&2; exit 2"""
-WAITS = """trap 'kill $!; exit 143' TERM; sleep 60 & echo $! >>"$TMPDIR/../children"; wait"""
+# (a TERM that comes before the child runs `sleep` would be lost)
+WAITS = """trap 'kill -9 $!; exit 143' TERM; sleep 60 & echo $! >>"$TMPDIR/../children"; wait"""
 BUILDS = f"""cp '{PROVED}' out/alphamu"""
 ANSWER = b"answer\n", b"alphamu: a line\n", 7
 
@@ -370,13 +372,21 @@ def refused(*asked, status=jobs.REFUSED):
     return trial
 
 
+def all_of(terminal):
+    """What was written to a terminal. It comes in parts, each a little later than it was written."""
+    said = b""
+    while select.select([terminal], [], [], 0.5)[0]:
+        said += os.read(terminal, 4096)
+    return said
+
+
 def pointed_to_readme(asked, is_pointed):
     """With a proved program the line on README.md is for a terminal, so that a program reads what alphamu says alone."""
     def trial(place):
         place.add_program()
         main, terminal = pty.openpty()
         out, _, status = place.run(asked, err=terminal)
-        said = os.read(main, 4096).replace(b"\r\n", b"\n")
+        said = all_of(main).replace(b"\r\n", b"\n")
         os.close(main)
         os.close(terminal)
         wanted = (place.line(unproved.POINTER) if is_pointed else b"") + place.line(jobs.USAGE)
