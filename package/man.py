@@ -56,7 +56,7 @@ def inline_code(line):
 
 
 def groups(text):
-    """The parts of a page between empty lines, each as its lines; what stands in fences is one part."""
+    """The parts of a page between empty lines, each as its lines; a block between fences is one part."""
     part, fenced = [], False
     for line in text.splitlines():
         if line.startswith("```"):
