@@ -87,7 +87,7 @@ impl Sorting {
 }
 
 // Sorts layouts by what the play says of them, all from one position before the first card.
-fn sort_out(
+fn keep_or_drop(
     alloc: Global,
     plays: &[Played],
     start: &Position,
@@ -178,7 +178,7 @@ fn keep(alloc: Global, board: &Board, layouts: &[Weighed]) -> Result<Kept, Layou
         lefts,
         dropped,
         position,
-    } = sort_out(alloc, board.plays(), &start, layouts)?;
+    } = keep_or_drop(alloc, board.plays(), &start, layouts)?;
     let Some(position) = position else {
         return Err(LayoutFault::NoneLeft);
     };

@@ -7,8 +7,8 @@ use Rattle.layout_list.specs.Layouts.{IsAfter}
 use Rattle.layout_list.proofs.Keep.{start_states, first_over, kept_none, kept_some, as_many}
 use Rattle.layout_list.proofs.list.keep.Goals as goal
 
-pub sort_out-requires-clause-states : goal.sort_out-requires-clause-states
-sort_out-requires-clause-states c =
+pub keep_or_drop-requires-clause-states : goal.keep_or_drop-requires-clause-states
+keep_or_drop-requires-clause-states c =
     let first = c.in-Some.first.now in
     let layouts = c.args.layouts.now in
     let is = sym c.first.ensures.value ∙ ap option_copied c.in-Some.is in

@@ -10,8 +10,8 @@ use Rattle.layout_list.specs.declared.list.Sorting.{Sorting}
 use Rattle.layout_list.specs.Verdicts.{position_after}
 use Rattle.layout_list.specs.Layouts.{verdict, numbers_kept, weights_kept, lefts_kept, dropped, IsAfter}
 use Rattle.layout_list.proofs.Sort.{moved, unmoved, split_at, numbers_yes, numbers_no, weights_yes, weights_no, lefts_yes, lefts_no, dropped_yes, dropped_no, node_more, same_position}
-use Rattle.layout_list.proofs.list.sort_out.Goals as goal
-use Rattle.layout_list.proofs.list.sort_out.Goals.{in-Ok+in_ok-allow-in-Ok, in-Err+in_ok-rule_out-in-Err}
+use Rattle.layout_list.proofs.list.keep_or_drop.Goals as goal
+use Rattle.layout_list.proofs.list.keep_or_drop.Goals.{in-Ok+in_ok-allow-in-Ok, in-Err+in_ok-rule_out-in-Err}
 
 pub loop-index-preserved : goal.loop-index-preserved
 loop-index-preserved c =

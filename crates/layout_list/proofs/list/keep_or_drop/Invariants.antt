@@ -3,7 +3,7 @@ use Rattle.std.specs.Prelude.{All, MatchOption}
 use Rattle.std.specs.List.{enumerate_from}
 use Rattle.win_vectors.specs.Weights.{IsWeight}
 use Rattle.layout_list.specs.Layouts.{numbers_kept, weights_kept, lefts_kept, dropped, IsAfter}
-use Rattle.layout_list.proofs.list.sort_out.Given as goal
+use Rattle.layout_list.proofs.list.keep_or_drop.Given as goal
 
 -- what is sorted so far comes before what the layouts left come to
 abbrev pub invariant-loop-index : goal.invariant-loop-index
