@@ -15,9 +15,9 @@ use Rattle.sure_tricks.proofs.Hands.{hand_set}
 use Rattle.double_dummy.specs.Equals.{in_play}
 use Rattle.double_dummy.proofs.Swap.{swap, swap-first, swap-second, swap-other, each_card}
 use Rattle.double_dummy.proofs.Mirror.{hand-mirrored}
-use Rattle.alike_states.specs.Alike.{IsClosedUp, AreAlike, HasAnswer}
-use Rattle.alike_states.proofs.Likes.{alike_back}
-use Rattle.alike_states.proofs.Answers.{an_alike_state_answers}
+use Rattle.equivalent_positions.specs.Alike.{IsClosedUp, AreAlike, HasAnswer}
+use Rattle.equivalent_positions.proofs.Likes.{alike_back}
+use Rattle.equivalent_positions.proofs.Answers.{an_alike_state_answers}
 use Rattle.dd_solver.specs.Closed.{up_from}
 use Rattle.dd_solver.proofs.Winner.{up_has}
 use Rattle.dd_solver.proofs.MovedUp.{with_moved, IsMovedUp, nobody, moved-IsState, moved-mirrored, moved-makes, suit-renamed, declarer-length, dummy-length, unseen-length}

@@ -11,7 +11,7 @@ use Rattle.trick_rules.proofs.Soundness.{held_low}
 use Rattle.trick_rules.proofs.States.{legal_can_play}
 use Rattle.double_dummy.specs.Equals.{in_play, AreEqual, IsNextEqual}
 use Rattle.double_dummy.proofs.Mirror.{in_play-held}
-use Rattle.alike_choices.specs.Enough.{AreEnough, HasHigherEqual}
+use Rattle.equivalent_positions.specs.Enough.{AreEnough, HasHigherEqual}
 use Rattle.dd_solver.specs.Closed.{up_from, IsClosedDown, AreSpokenFor}
 use Rattle.dd_solver.proofs.Winner.{up_has, up_suit}
 

@@ -9,7 +9,7 @@ use Rattle.trick_rules.specs.Positions.{State, IsState}
 use Rattle.trick_rules.specs.Play.{take_out}
 use Rattle.trick_rules.proofs.CardLists.{first_has}
 use Rattle.double_dummy.specs.Equals.{in_play}
-use Rattle.alike_states.specs.Alike.{IsClosedUp, HasAnswer}
+use Rattle.equivalent_positions.specs.Alike.{IsClosedUp, HasAnswer}
 use Rattle.dd_solver.specs.declared.key.Key.{Key}
 use Rattle.dd_solver.specs.declared.shape.Shape.{Shape}
 use Rattle.dd_solver.specs.Keys.{key_state, HasShape}

@@ -14,8 +14,8 @@ use Rattle.trick_rules.specs.Play.{cards_left, decided}
 use Rattle.double_dummy.specs.Equals.{in_play}
 use Rattle.double_dummy.proofs.Swap.{swap, swap-first, swap-second, swap-other}
 use Rattle.sure_tricks.proofs.Holding.{suit_test}
-use Rattle.alike_states.specs.Alike.{IsClosedUp, HasAnswer}
-use Rattle.alike_states.proofs.Answers.{more_cards_answer}
+use Rattle.equivalent_positions.specs.Alike.{IsClosedUp, HasAnswer}
+use Rattle.equivalent_positions.proofs.Answers.{more_cards_answer}
 use Rattle.dd_solver.specs.Closed.{up_from}
 use Rattle.dd_solver.specs.Shapes.{lengths_of}
 use Rattle.dd_solver.specs.RelativeRanks.{IsGapClosed}

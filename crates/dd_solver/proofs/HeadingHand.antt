@@ -25,14 +25,14 @@ use Rattle.sure_tricks.proofs.Hands.{Suffices, hand_set}
 use Rattle.sure_tricks.proofs.Holding.{suit_test}
 use Rattle.sure_tricks.proofs.Picking.{picked, in_suit, picked_high, by_suits}
 use Rattle.sure_tricks.proofs.Headed.{only, safe_beyond}
-use Rattle.alike_states.specs.Alike.{IsClosedUp, HasAnswer}
-use Rattle.alike_states.proofs.RankWinners.{FirstCount}
-use Rattle.alike_states.proofs.Headed.{following, BeyondRuffs, are_beyond, a_headed_suit_answers}
+use Rattle.equivalent_positions.specs.Alike.{IsClosedUp, HasAnswer}
+use Rattle.equivalent_positions.proofs.RankWinners.{FirstCount}
+use Rattle.equivalent_positions.proofs.Headed.{following, BeyondRuffs, are_beyond, a_headed_suit_answers}
 use Rattle.dd_solver.specs.declared.headed.FourHands.{FourHands}
 use Rattle.dd_solver.specs.Closed.{up_from}
 use Rattle.dd_solver.specs.Sure.{number_in, AreWinners}
 use Rattle.dd_solver.specs.Headed.{AreHandsOf, HeadsTrick, IsFollowed, is_beyond_ruffs, further_in, others_of}
-use Rattle.alike_states.proofs.Counting.{a_card_and_all_higher}
+use Rattle.equivalent_positions.proofs.Counting.{a_card_and_all_higher}
 use Rattle.dd_solver.proofs.Winner.{up_has}
 use Rattle.dd_solver.proofs.TopTrumps.{each_seat}
 

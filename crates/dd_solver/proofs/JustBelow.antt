@@ -10,7 +10,7 @@ use Rattle.card_sets.proofs.Suits.{same_suit-true, same_suit-refl}
 use Rattle.trick_rules.specs.Positions.{State, IsState}
 use Rattle.trick_rules.specs.Play.{legal_in}
 use Rattle.double_dummy.specs.Equals.{in_play, AreEqual}
-use Rattle.alike_states.specs.Alike.{IsClosedUp}
+use Rattle.equivalent_positions.specs.Alike.{IsClosedUp}
 use Rattle.dd_solver.specs.Closed.{IsClosedDown, AreSpokenFor}
 use Rattle.dd_solver.proofs.CarriedBack.{between_suit}
 use Rattle.dd_solver.proofs.EqualsDown.{legal_plays}

@@ -11,10 +11,10 @@ use Rattle.trick_rules.specs.Play.{of_suit}
 use Rattle.double_dummy.specs.Needs.{IsSettled}
 use Rattle.double_dummy.specs.Needs.{with_need}
 use Rattle.double_dummy.proofs.Thresholds.{with_need-IsState}
-use Rattle.alike_states.specs.Alike.{IsLikeHand, AreAlike}
-use Rattle.alike_states.proofs.Counting.{like_hands_make_alike_states}
-use Rattle.alike_states.proofs.Answers.{an_alike_state_answers}
-use Rattle.alike_choices.proofs.Needs.{an_answer_settles_other_needs}
+use Rattle.equivalent_positions.specs.Alike.{IsLikeHand, AreAlike}
+use Rattle.equivalent_positions.proofs.Counting.{like_hands_make_alike_states}
+use Rattle.equivalent_positions.proofs.Answers.{an_alike_state_answers}
+use Rattle.equivalent_positions.proofs.Needs.{an_answer_settles_other_needs}
 use Rattle.dd_solver.specs.declared.key.Key.{Key}
 use Rattle.dd_solver.specs.declared.shape.Shape.{Shape}
 use Rattle.dd_solver.specs.declared.answer.Answer.{Answer}

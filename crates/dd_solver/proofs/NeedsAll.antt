@@ -19,8 +19,8 @@ use Rattle.sure_tricks.proofs.Counting.{one_of}
 use Rattle.sure_tricks.proofs.Hands.{seats_differ, seat_cases, next_three, hand_set}
 use Rattle.sure_tricks.proofs.Holding.{suit_test}
 use Rattle.sure_tricks.proofs.Stoppers.{card_had}
-use Rattle.alike_states.specs.Alike.{IsClosedUp, HasAnswer}
-use Rattle.alike_states.proofs.Stoppers.{our_failure_answers, their_failure_answers}
+use Rattle.equivalent_positions.specs.Alike.{IsClosedUp, HasAnswer}
+use Rattle.equivalent_positions.proofs.Stoppers.{our_failure_answers, their_failure_answers}
 use Rattle.dd_solver.specs.declared.hands.Hands.{Hands}
 use Rattle.dd_solver.specs.Closed.{up_from}
 use Rattle.dd_solver.specs.NeedsAll.{longer_of, rounds_in, IsHighestIn, AreHighest, CanKeep, DoOutlast}

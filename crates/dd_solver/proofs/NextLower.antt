@@ -7,7 +7,7 @@ use Rattle.card_sets.proofs.Sets.{has_card-cards_where, has_card-below, has_card
 use Rattle.card_sets.proofs.Suits.{same_suit-true, card_of-suit_of, suit_of-card_of}
 use Rattle.trick_rules.proofs.CardLists.{or_true}
 use Rattle.sure_tricks.proofs.Holding.{suit_test}
-use Rattle.alike_states.specs.Alike.{IsClosedUp}
+use Rattle.equivalent_positions.specs.Alike.{IsClosedUp}
 use Rattle.dd_solver.proofs.CarriedBack.{between_suit}
 use Rattle.dd_solver.proofs.Gaps.{HasNextLower}
 

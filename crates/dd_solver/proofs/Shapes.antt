@@ -15,7 +15,7 @@ use Rattle.trick_rules.specs.Play.{of_suit, take_out, hand_of, legal_in, after}
 use Rattle.trick_rules.proofs.CardLists.{first_has}
 use Rattle.trick_rules.proofs.States.{after_card-unseen, after_card-declarer, after_card-dummy}
 use Rattle.sure_tricks.proofs.Counting.{count_in, count_out}
-use Rattle.alike_states.proofs.Cards.{legal_held}
+use Rattle.equivalent_positions.proofs.Cards.{legal_held}
 use Rattle.dd_solver.specs.Shapes.{lengths_of, place_of, shape_of}
 
 -- ---- at most thirteen cards of a suit

@@ -19,8 +19,8 @@ use Rattle.sure_tricks.proofs.Hands.{hand_set, next_three}
 use Rattle.sure_tricks.proofs.Crossing.{safe_at_no_trump}
 use Rattle.sure_tricks.proofs.Picking.{picked, in_suit, picked_high, by_suits}
 use Rattle.sure_tricks.proofs.Counted.{high_against, part_of_suit, ours, partners, ruffs_in, length_counted, ours_sure, partners_sure, IsOver, over}
-use Rattle.alike_states.specs.Alike.{IsClosedUp, HasAnswer}
-use Rattle.alike_states.proofs.RankWinners.{WinnersCount, our_winners_answer, their_winners_answer, our_winners_answer_together, their_winners_answer_together}
+use Rattle.equivalent_positions.specs.Alike.{IsClosedUp, HasAnswer}
+use Rattle.equivalent_positions.proofs.RankWinners.{WinnersCount, our_winners_answer, their_winners_answer, our_winners_answer_together, their_winners_answer_together}
 
 -- ---- what they answer where their rank winners count
 

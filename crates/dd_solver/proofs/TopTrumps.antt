@@ -17,8 +17,8 @@ use Rattle.trick_rules.proofs.CardLists.{or_true}
 use Rattle.trick_rules.proofs.States.{hand_held}
 use Rattle.sure_tricks.specs.Sure.{AreTopTrumps}
 use Rattle.sure_tricks.proofs.Hands.{hand_set}
-use Rattle.alike_states.specs.Alike.{HasAnswer}
-use Rattle.alike_states.proofs.Answers.{our_top_trumps_answer, their_top_trumps_answer}
+use Rattle.equivalent_positions.specs.Alike.{HasAnswer}
+use Rattle.equivalent_positions.proofs.Answers.{our_top_trumps_answer, their_top_trumps_answer}
 use Rattle.dd_solver.specs.Sure.{AreOutOfReach}
 use Rattle.dd_solver.specs.Answers.{IsAnswer}
 

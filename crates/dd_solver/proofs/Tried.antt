@@ -5,9 +5,9 @@ use Rattle.card_sets.specs.SetWords.{has_card, IsSubset}
 use Rattle.trick_rules.specs.Positions.{State, to_play, IsState}
 use Rattle.trick_rules.specs.Play.{after, is_declarers, is_over, legal_in, take_out}
 use Rattle.trick_rules.proofs.CardLists.{has_card-take_out}
-use Rattle.alike_states.specs.Alike.{IsClosedUp, IsLike, SettlesEnd, HasAnswer, GivesAnswer}
-use Rattle.alike_states.proofs.Answers.{one_card_answers, more_cards_answer, more_cards_give_the_answer, like_cards_give_the_answer}
-use Rattle.alike_choices.proofs.Enough.{one_of_equals_answers}
+use Rattle.equivalent_positions.specs.Alike.{IsClosedUp, IsLike, SettlesEnd, HasAnswer, GivesAnswer}
+use Rattle.equivalent_positions.proofs.Answers.{one_card_answers, more_cards_answer, more_cards_give_the_answer, like_cards_give_the_answer}
+use Rattle.equivalent_positions.proofs.Enough.{one_of_equals_answers}
 use Rattle.dd_solver.specs.declared.answer.Answer.{Answer}
 use Rattle.dd_solver.specs.Answers.{IsAnswer, IsGiven}
 use Rattle.dd_solver.specs.Closed.{IsClosedDown, AreSpokenFor}

@@ -16,8 +16,8 @@ use Rattle.trick_rules.specs.Play.{take_out, winning_place, CanPlay}
 use Rattle.trick_rules.proofs.TrickLemmas.{one_winner}
 use Rattle.trick_rules.proofs.Soundness.{held_low, trick_held}
 use Rattle.sure_tricks.proofs.Holding.{suit_test}
-use Rattle.alike_states.specs.Alike.{IsClosedUp, SettlesTrick}
-use Rattle.alike_states.proofs.Counting.{a_card_and_all_higher, both_are_closed_up}
+use Rattle.equivalent_positions.specs.Alike.{IsClosedUp, SettlesTrick}
+use Rattle.equivalent_positions.proofs.Counting.{a_card_and_all_higher, both_are_closed_up}
 use Rattle.dd_solver.specs.Closed.{up_from}
 
 -- ---- a card with all higher ones

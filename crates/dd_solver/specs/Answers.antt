@@ -2,7 +2,7 @@
 use Rattle.std.specs.Prelude.{◌≡◌, ℕ, Bool, true, not, List}
 use Rattle.card_sets.specs.SetWords.{has_card}
 use Rattle.trick_rules.specs.Positions.{State}
-use Rattle.alike_states.specs.Alike.{IsClosedUp, HasAnswer, GivesAnswer}
+use Rattle.equivalent_positions.specs.Alike.{IsClosedUp, HasAnswer, GivesAnswer}
 use Rattle.dd_solver.specs.declared.answer.Answer.{Answer}
 
 -- its cards that count are closed up, and each state alike to this one by them has this answer

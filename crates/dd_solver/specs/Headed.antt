@@ -10,7 +10,7 @@ use Rattle.trick_rules.specs.Positions.{State, seat_after}
 use Rattle.trick_rules.specs.Play.{of_suit, take_out, hand_of}
 use Rattle.sure_tricks.specs.Sure.{AreHigh, AreSafe, top_count}
 use Rattle.sure_tricks.specs.declared.count.Counts.{Counts}
-use Rattle.alike_states.specs.Alike.{IsClosedUp}
+use Rattle.equivalent_positions.specs.Alike.{IsClosedUp}
 use Rattle.dd_solver.specs.Closed.{up_from}
 use Rattle.dd_solver.specs.Sure.{number_in, AreWinners}
 use Rattle.dd_solver.specs.declared.headed.FourHands.{FourHands}

@@ -7,7 +7,7 @@ use Rattle.card_sets.specs.SetWords.{has_card, Apart}
 use Rattle.trick_rules.specs.Play.{of_suit}
 use Rattle.sure_tricks.specs.Sure.{above}
 use Rattle.sure_tricks.specs.declared.count.Counts.{Counts}
-use Rattle.alike_states.specs.Alike.{IsClosedUp}
+use Rattle.equivalent_positions.specs.Alike.{IsClosedUp}
 
 -- how many are sure in a suit
 abbrev pub number_in : Counts → Suit → ℕ

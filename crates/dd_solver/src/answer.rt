@@ -4,7 +4,7 @@ ghost use Rattle.card_sets.specs.Cards.{suit_of};
 ghost use Rattle.card_sets.specs.SetWords.{has_card, IsCardSet, IsSubset};
 ghost use Rattle.trick_rules.specs.Positions.{IsSound};
 ghost use Rattle.trick_rules.specs.Play.{winning_place, CanPlay};
-ghost use Rattle.alike_states.specs.Alike.{IsClosedUp, SettlesEnd};
+ghost use Rattle.equivalent_positions.specs.Alike.{IsClosedUp, SettlesEnd};
 ghost use Rattle.dd_solver.specs.Closed.{up_from as up_from_card};
 
 use card_sets::{Card, CardSet};

@@ -5,7 +5,7 @@ ghost use Rattle.card_sets.specs.Cards.{suit_of};
 ghost use Rattle.card_sets.specs.SetWords.{has_card, IsCardSet, IsSubset};
 ghost use Rattle.trick_rules.specs.Play.{legal_in};
 ghost use Rattle.double_dummy.specs.Equals.{IsNextEqual};
-ghost use Rattle.alike_states.specs.Alike.{IsClosedUp, IsLike};
+ghost use Rattle.equivalent_positions.specs.Alike.{IsClosedUp, IsLike};
 ghost use Rattle.dd_solver.specs.Closed.{IsClosedDown, AreSpokenFor};
 ghost use Rattle.dd_solver.specs.Turns.{turn_state, IsTurn};
 

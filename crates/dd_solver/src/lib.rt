@@ -1,7 +1,7 @@
 //! Double dummy by partition search (Ginsberg): an answer that is remembered holds for every
 //! position in which the cards that count lie alike. Ranks are relative: cards out of play leave no
 //! gap.
-//! It builds on the laws of equivalent positions, `alike_states` and `alike_choices`.
+//! It builds on the laws of `equivalent_positions`.
 //! Its contract promises that the solver answers `makes` of `trick_rules`, whatever its ways.
 #![tactic(auto)]
 

@@ -6,7 +6,7 @@ ghost use Rattle.card_sets.specs.SetWords.{has_card, IsSubset};
 ghost use Rattle.trick_rules.specs.Positions.{to_play, tricks_left, FitsLeft};
 ghost use Rattle.trick_rules.specs.Play.{is_declarers};
 ghost use Rattle.trick_rules.specs.declared.trump.Trump.TheVariants.{NoTrump};
-ghost use Rattle.alike_states.specs.Alike.{IsClosedUp};
+ghost use Rattle.equivalent_positions.specs.Alike.{IsClosedUp};
 ghost use Rattle.dd_solver.specs.NeedsAll.{longer_of, rounds_in, IsHighestIn, AreHighest, DoOutlast};
 ghost use Rattle.dd_solver.specs.Answers.{IsAnswer};
 

@@ -3,7 +3,7 @@
 ghost use Rattle.std.specs.Prelude.{◌≡◌, ℕ, Bool, true, false};
 ghost use Rattle.card_sets.specs.SetWords.{has_card, IsCardSet};
 ghost use Rattle.trick_rules.specs.Positions.{State, IsState};
-ghost use Rattle.alike_states.specs.Alike.{IsClosedUp, HasAnswer};
+ghost use Rattle.equivalent_positions.specs.Alike.{IsClosedUp, HasAnswer};
 ghost use Rattle.dd_solver.specs.Keys.{key_state, HasShape};
 ghost use Rattle.dd_solver.specs.Answers.{IsAnswer};
 ghost use Rattle.dd_solver.specs.RelativeRanks.{IsGapClosed, AreGapsClosed};

@@ -4,7 +4,7 @@ ghost use Rattle.std.specs.Prelude.{◌≡◌, None, true};
 ghost use Rattle.card_sets.specs.SetWords.{has_card, IsSubset};
 ghost use Rattle.trick_rules.specs.Positions.{FitsLeft, IsState, to_play};
 ghost use Rattle.trick_rules.specs.Play.{decided, is_declarers, legal_in};
-ghost use Rattle.alike_states.specs.Alike.{IsClosedUp, GivesAnswer};
+ghost use Rattle.equivalent_positions.specs.Alike.{IsClosedUp, GivesAnswer};
 ghost use Rattle.dd_solver.specs.Keys.{key_state, HasShape};
 ghost use Rattle.dd_solver.specs.Shapes.{IsShapeOf};
 ghost use Rattle.dd_solver.specs.Turns.{turn_state, IsTurn};

@@ -7,7 +7,7 @@ ghost use Rattle.trick_rules.specs.Positions.{to_play, tricks_left, FitsLeft};
 ghost use Rattle.trick_rules.specs.Play.{is_declarers};
 ghost use Rattle.trick_rules.specs.declared.trump.Trump.TheVariants.{NoTrump};
 ghost use Rattle.sure_tricks.specs.Sure.{above, sure_of};
-ghost use Rattle.alike_states.specs.Alike.{IsClosedUp};
+ghost use Rattle.equivalent_positions.specs.Alike.{IsClosedUp};
 ghost use Rattle.dd_solver.specs.Sure.{AreWinnersIn, AreWinners};
 ghost use Rattle.dd_solver.specs.Answers.{IsAnswer};
 

@@ -4,3 +4,4 @@ pub mod Mirror
 pub mod EqualCards
 pub mod InPlay
 pub mod Thresholds
+pub mod LayoutResults

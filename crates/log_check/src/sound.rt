@@ -8,7 +8,7 @@ use crate::covering::{covers, covers_all, covers_lines, have_width};
 use crate::joining::joined_lines;
 use crate::lines::{LogLine, Rule};
 use crate::paths::followed;
-use plain_results::plain_results;
+use double_dummy::plain_results;
 use std::alloc::{AllocError, Global};
 use trick_rules::Node;
 

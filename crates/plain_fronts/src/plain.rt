@@ -5,9 +5,9 @@ ghost use Rattle.trick_rules.specs.Play.{is_declarers};
 ghost use Rattle.trick_rules.specs.Nodes.{stops};
 ghost use Rattle.front_table.specs.Proven.{IsFrontAt};
 
+use double_dummy::plain_results;
 use front_join::joined_front;
 use pareto_fronts::Front;
-use plain_results::plain_results;
 use std::alloc::{AllocError, Global};
 use trick_rules::Node;
 use win_vectors::WinVector;

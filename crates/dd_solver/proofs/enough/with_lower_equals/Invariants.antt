@@ -1,7 +1,7 @@
 use Rattle.std.proofs.Common.{◌≡◌, ℕ, ◌+◌, true, false, length}
 use Rattle.card_sets.specs.Cards.{suit_of}
 use Rattle.card_sets.specs.SetWords.{has_card, IsCardSet, IsSubset}
-use Rattle.alike_states.specs.Alike.{IsClosedUp}
+use Rattle.equivalent_positions.specs.Alike.{IsClosedUp}
 use Rattle.dd_solver.proofs.enough.with_lower_equals.Given as goal
 
 abbrev pub invariant-loop-legal : goal.invariant-loop-legal

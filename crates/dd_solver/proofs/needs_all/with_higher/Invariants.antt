@@ -1,6 +1,6 @@
 use Rattle.std.proofs.Common.{◌≡◌, ◌⊎◌, ℕ, true, length}
 use Rattle.card_sets.specs.SetWords.{has_card}
-use Rattle.alike_states.specs.Alike.{IsClosedUp}
+use Rattle.equivalent_positions.specs.Alike.{IsClosedUp}
 use Rattle.dd_solver.proofs.needs_all.with_higher.Given as goal
 
 abbrev pub invariant-loop-card : goal.invariant-loop-card

@@ -4,9 +4,9 @@ use Rattle.trick_rules.specs.Play.{after, cards_left, decided}
 use Rattle.trick_rules.proofs.PlayLaws.{a_legal_card_can_be_played, a_legal_card_leads_to_a_state, a_card_leaves_one_fewer}
 use Rattle.trick_rules.proofs.Decisions.{open-decided}
 use Rattle.double_dummy.proofs.Minimax.{same_answer, other_answer}
-use Rattle.alike_states.specs.Alike.{IsClosedUp, HasAnswer, GivesAnswer}
-use Rattle.alike_states.proofs.Counting.{no_card_is_closed_up}
-use Rattle.alike_states.proofs.Answers.{a_decided_state_answers}
+use Rattle.equivalent_positions.specs.Alike.{IsClosedUp, HasAnswer, GivesAnswer}
+use Rattle.equivalent_positions.proofs.Counting.{no_card_is_closed_up}
+use Rattle.equivalent_positions.proofs.Answers.{a_decided_state_answers}
 use Rattle.dd_solver.specs.Keys.{key_state}
 use Rattle.dd_solver.proofs.GapAfterGap.{gaps-still}
 use Rattle.dd_solver.specs.Turns.{turn_state}

@@ -1,7 +1,7 @@
 use Rattle.std.proofs.Common.{sym, ap, subst, ◌∙◌, arith}
 use Rattle.card_sets.specs.SetWords.{has_card}
-use Rattle.alike_states.specs.Alike.{IsClosedUp}
-use Rattle.alike_states.proofs.Counting.{a_card_and_all_higher}
+use Rattle.equivalent_positions.specs.Alike.{IsClosedUp}
+use Rattle.equivalent_positions.proofs.Counting.{a_card_and_all_higher}
 use Rattle.dd_solver.proofs.Highest.{left-start, left-none, left-up, left-fewer, left-drop}
 use Rattle.dd_solver.proofs.sure.highest_of.Goals as goal
 

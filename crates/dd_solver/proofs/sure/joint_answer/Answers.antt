@@ -4,7 +4,7 @@ use Rattle.card_sets.specs.SetWords.{IsCardSet}
 use Rattle.trick_rules.specs.Positions.{State, IsState, seat_after, to_play}
 use Rattle.sure_tricks.specs.Sure.{sure_of, partners_of}
 use Rattle.sure_tricks.proofs.Hands.{hand_set}
-use Rattle.alike_states.proofs.RankWinners.{WinnersCount}
+use Rattle.equivalent_positions.proofs.RankWinners.{WinnersCount}
 use Rattle.dd_solver.proofs.SureCards as sure
 use Rattle.dd_solver.proofs.sure.joint_answer.Goals as goal
 

@@ -5,7 +5,7 @@ use Rattle.trick_rules.specs.Positions.{State, to_play, tricks_left}
 use Rattle.sure_tricks.specs.Sure.{sure_of}
 use Rattle.sure_tricks.proofs.Hands.{hand_set}
 use Rattle.dd_solver.specs.Answers.{IsAnswer}
-use Rattle.alike_states.proofs.RankWinners.{WinnersCount}
+use Rattle.equivalent_positions.proofs.RankWinners.{WinnersCount}
 use Rattle.dd_solver.specs.Sure.{number_in, AreWinners}
 use Rattle.dd_solver.proofs.SureCards as sure
 use Rattle.dd_solver.proofs.sure.sure_answer.Goals as goal

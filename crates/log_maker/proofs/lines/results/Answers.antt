@@ -1,7 +1,7 @@
 use Rattle.std.proofs.Common.{◌≡◌, ◌<◌, length, get_or, set, sym, ap, ◌∙◌, arith, rules}
 use Rattle.std.proofs.lemmas.Option.{get_or_from_slice_get}
 use Rattle.trick_rules.specs.Play.{makes}
-use Rattle.plain_results.proofs.LayoutResults.{results_upto, results_upto-more, results_upto-all}
+use Rattle.double_dummy.proofs.LayoutResults.{results_upto, results_upto-more, results_upto-all}
 use Rattle.log_maker.proofs.lines.results.Goals as goal
 
 pub loop-place-preserved : goal.loop-place-preserved

@@ -1,6 +1,6 @@
 use Rattle.std.proofs.Common.{◌≡◌}
 use Rattle.trick_rules.specs.Play.{makes}
-use Rattle.plain_results.proofs.LayoutResults.{results_upto}
+use Rattle.double_dummy.proofs.LayoutResults.{results_upto}
 use Rattle.log_maker.proofs.lines.results.Given as goal
 
 abbrev pub invariant-loop-place : goal.invariant-loop-place

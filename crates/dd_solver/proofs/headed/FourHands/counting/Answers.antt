@@ -3,8 +3,8 @@ use Rattle.card_sets.specs.declared.card.Suit.{Suit}
 use Rattle.card_sets.specs.declared.card.Suit.TheVariants.{Spades, Hearts, Diamonds, Clubs}
 use Rattle.card_sets.specs.SetWords.{has_card}
 use Rattle.trick_rules.specs.Play.{take_out}
-use Rattle.alike_states.specs.Alike.{IsClosedUp}
-use Rattle.alike_states.proofs.Counting.{a_card_and_all_higher}
+use Rattle.equivalent_positions.specs.Alike.{IsClosedUp}
+use Rattle.equivalent_positions.proofs.Counting.{a_card_and_all_higher}
 use Rattle.dd_solver.specs.Sure.{AreWinners}
 use Rattle.dd_solver.specs.Headed.{further_in, others_of}
 use Rattle.dd_solver.proofs.SureCards.{fewer}

@@ -1,6 +1,6 @@
 use Rattle.std.proofs.Common.{sym}
 use Rattle.trick_rules.specs.Positions.{State}
-use Rattle.alike_states.proofs.Likes.{alike_self}
+use Rattle.equivalent_positions.proofs.Likes.{alike_self}
 use Rattle.dd_solver.proofs.solver.Solver.makes.Goals as goal
 
 pub returns-clause-answer : goal.returns-clause-answer

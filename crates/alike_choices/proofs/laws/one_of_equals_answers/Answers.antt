@@ -1,5 +1,0 @@
-use Rattle.alike_choices.proofs.Enough.{one_of_equals_answers}
-use Rattle.alike_choices.proofs.laws.one_of_equals_answers.Goals as goal
-
-pub returns : goal.returns
-returns c = one_of_equals_answers

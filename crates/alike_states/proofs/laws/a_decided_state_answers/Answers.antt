@@ -1,5 +1,0 @@
-use Rattle.alike_states.proofs.Answers.{a_decided_state_answers}
-use Rattle.alike_states.proofs.laws.a_decided_state_answers.Goals as goal
-
-pub returns : goal.returns
-returns c = a_decided_state_answers

@@ -1,8 +1,0 @@
-use Rattle.alike_states.proofs.Headed.{our_headed_suit_answers, their_headed_suit_answers}
-use Rattle.alike_states.proofs.laws.a_headed_suit_answers.Goals as goal
-
-pub returns-clause-ours : goal.returns-clause-ours
-returns-clause-ours c = our_headed_suit_answers
-
-pub returns-clause-theirs : goal.returns-clause-theirs
-returns-clause-theirs c = their_headed_suit_answers

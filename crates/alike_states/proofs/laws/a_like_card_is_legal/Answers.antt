@@ -1,5 +1,0 @@
-use Rattle.alike_states.proofs.Cards.{a_like_card_is_legal}
-use Rattle.alike_states.proofs.laws.a_like_card_is_legal.Goals as goal
-
-pub returns : goal.returns
-returns c = a_like_card_is_legal
