@@ -65,16 +65,10 @@ impl Turn {
         self.shape.without(self.position.to_play(), card)
     }
 
-    /// The order in which these cards are tried. A single card needs none.
+    /// The order in which these cards are tried.
     pub(crate) fn order(&self, memo: &Memo, cards: CardSet) -> Order {
-        let mut others = cards;
-        match others.pop_first() {
-            Some(card) if others.is_empty() => Order::Begun(card),
-            _ => {
-                let best_lead = memo.best_lead(turn_of(&self.position));
-                Order::begun(&self.position, self.left, cards, best_lead)
-            }
-        }
+        let best_lead = memo.best_lead(turn_of(&self.position));
+        Order::begun(&self.position, self.left, cards, best_lead)
     }
 
     /// Orders the cards that are left, if there are any and only the first is known.
