@@ -1,8 +1,8 @@
 //! A turn of a trick: its position, and what stays the same until the trick ends.
-ghost use Rattle.std.specs.Prelude.{◌≡◌, ◌≢◌, true, length};
+ghost use Rattle.std.specs.Prelude.{◌≡◌, ◌≢◌, ◌<◌, ◌++◌, ◌∷◌, [], true, length};
 ghost use Rattle.card_sets.specs.SetWords.{has_card};
 ghost use Rattle.trick_rules.specs.Positions.{IsState};
-ghost use Rattle.trick_rules.specs.Play.{after as after_play, legal_in};
+ghost use Rattle.trick_rules.specs.Play.{after as after_play, after_card, legal_in, CanPlay};
 ghost use Rattle.dd_solver.specs.Shapes.{IsShapeOf};
 ghost use Rattle.dd_solver.specs.Turns.{turn_state, IsTurn};
 
@@ -11,7 +11,7 @@ use crate::order::{Order, turn_of};
 use crate::shape::Shape;
 use card_sets::{Card, CardSet};
 use double_dummy::cards_in_play;
-use trick_rules::{Position, play};
+use trick_rules::{Position, Trick};
 
 /// A position, Left's hand, the cards in play, which stay the same until the trick ends, and the
 /// shape of the hands.
@@ -21,6 +21,33 @@ pub(crate) struct Turn {
     pub(crate) left: CardSet,
     pub(crate) playing: CardSet,
     pub(crate) shape: Shape,
+}
+
+// A trick with one card more.
+fn with_card(trick: &Trick, card: Card) -> Trick
+    requires { length trick.now.cards < 4 }
+    ensures { result ≡ record { leader = trick.now.leader; cards = trick.now.cards ++ card ∷ [] } }
+{
+    let mut longer = trick.copy();
+    longer.cards.push(card);
+    longer
+}
+
+// The position after a card that doesn't end the trick. It takes fewer steps than `play`, which
+// checks whether the trick ends.
+fn followed(position: &Position, card: Card) -> Position
+    requires held { CanPlay position.now card }
+    requires goes_on { length position.now.trick.cards ≢ 3 }
+    ensures { result ≡ after_card position.now card }
+{
+    Position {
+        declarer: position.declarer.without(card),
+        dummy: position.dummy.without(card),
+        unseen: position.unseen.without(card),
+        trick: with_card(&position.trick, card),
+        need: position.need,
+        trump: position.trump,
+    }
 }
 
 impl Turn {
@@ -49,7 +76,7 @@ impl Turn {
         ensures state { turn_state result ≡ after_play (turn_state self.now) card }
     {
         Turn {
-            position: play(&self.position, card),
+            position: followed(&self.position, card),
             left: self.left.without(card),
             playing: self.playing,
             shape: self.shape_after(card),
