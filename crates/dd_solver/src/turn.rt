@@ -9,6 +9,7 @@ ghost use Rattle.dd_solver.specs.Turns.{turn_state, IsTurn};
 use crate::memo::Memo;
 use crate::order::{Order, turn_of};
 use crate::shape::Shape;
+use arrayvec::ArrayVec;
 use card_sets::{Card, CardSet};
 use double_dummy::cards_in_play;
 use trick_rules::{Position, Trick};
@@ -23,14 +24,35 @@ pub(crate) struct Turn {
     pub(crate) shape: Shape,
 }
 
-// A trick with one card more.
+// Up to two cards of a trick, and one more. A loop over so few takes longer.
+fn followed_by(cards: &[Card], card: Card) -> ArrayVec<Card, 4>
+    requires { length cards.now < 3 }
+    ensures { result.items ≡ cards.now ++ card ∷ [] }
+{
+    let mut longer = ArrayVec::new();
+    if cards.is_empty() {
+        longer.push(card);
+        return longer;
+    }
+    longer.push(cards[0]);
+    if cards.len() == 1 {
+        longer.push(card);
+        return longer;
+    }
+    longer.push(cards[1]);
+    longer.push(card);
+    longer
+}
+
+// A trick of up to two cards with one more.
 fn with_card(trick: &Trick, card: Card) -> Trick
-    requires { length trick.now.cards < 4 }
+    requires { length trick.now.cards < 3 }
     ensures { result ≡ record { leader = trick.now.leader; cards = trick.now.cards ++ card ∷ [] } }
 {
-    let mut longer = trick.copy();
-    longer.cards.push(card);
-    longer
+    Trick {
+        leader: trick.leader,
+        cards: followed_by(trick.cards.as_slice(), card),
+    }
 }
 
 // The position after a card that doesn't end the trick. It takes fewer steps than `play`, which

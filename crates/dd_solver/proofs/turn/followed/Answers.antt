@@ -4,6 +4,11 @@ use Rattle.trick_rules.specs.Play.{CanPlay}
 use Rattle.trick_rules.proofs.Soundness.{after_short, after_card_sound, after_card-parts}
 use Rattle.dd_solver.proofs.turn.followed.Goals as goal
 
+pub with_card-requires : goal.with_card-requires
+with_card-requires c =
+    let goes_on : length c.position.inside.trick.cards ≢ 3 = rw (← c.position.view_is) at c.requires.goes_on in
+    omega (arith, c.position.invariant.trick_short, goes_on)
+
 pub invariant_of-result : goal.invariant_of-result
 invariant_of-result c =
     let p = c.position.inside in
