@@ -1,6 +1,6 @@
 -- What cards give the seat to play, one after another.
-use Rattle.std.proofs.Common.{◌≡◌, ℕ, Bool, true, false, not, ◌&&◌, eqb, List, [], refl, sym, ap, subst, ◌∙◌, inl, inr}
-use Rattle.std.proofs.lemmas.Bool.{false≢true, cases_Bool, cases_eq, ne_eqb, and_parts}
+use Rattle.std.proofs.Common.{◌≡◌, ℕ, Bool, true, false, not, ◌&&◌, eqb, List, [], ◌∷◌, refl, sym, ap, subst, ◌∙◌, inl, inr}
+use Rattle.std.proofs.lemmas.Bool.{false≢true, cases_Bool, cases_eq, eq-eqb, ne_eqb, and_parts}
 use Rattle.card_sets.specs.SetWords.{has_card, IsSubset}
 use Rattle.trick_rules.specs.Positions.{State, to_play, IsState}
 use Rattle.trick_rules.specs.Play.{after, is_declarers, is_over, legal_in, take_out}
@@ -74,6 +74,24 @@ given-one s cards wanted card answer ok legal turn made closed g = record {
     neither : (b : Bool) → b ≡ not b → ⊥
     neither true h = false≢true (sym h)
     neither false h = false≢true h
+
+pub only_held : (cards : List ℕ) (card : ℕ) → cards ≡ card ∷ [] → has_card cards card ≡ true
+only_held cards card e = ap (λ l. has_card l card) e ∙ rw (eq-eqb card card refl) refl
+
+-- or the only one gives either
+pub given-only : (s : State) (cards : List ℕ) (wanted : Bool) (card : ℕ) (answer : Answer) → IsState s → cards ≡ card ∷ [] → has_card (legal_in s) card ≡ true
+    → is_declarers (to_play s.position) ≡ wanted → IsClosedUp answer.counting → GivesAnswer answer.counting s card answer.made → IsGiven s cards wanted answer
+given-only s cards wanted card answer ok e legal turn closed g = record {
+  closed = closed;
+  one = λ same. one_card_answers answer.counting s card wanted ok legal turn (subst (λ b. GivesAnswer answer.counting s card b) same g);
+  each = λ other c among. subst (λ d. GivesAnswer answer.counting s d (not wanted)) (is_it c among) (subst (λ b. GivesAnswer answer.counting s card b) other g);
+}
+  where
+    is_it : (c : ℕ) → has_card cards c ≡ true → card ≡ c
+    is_it c among = elim (cases_eq card c) as (λ _. card ≡ c) [
+      | inl same ↦ same
+      | inr other ↦ absurd (false≢true (sym (ap (λ l. has_card l c) e ∙ rw (ne_eqb card c other) refl) ∙ among))
+    ]
 
 -- or none does
 pub given-none : (s : State) (cards rest : List ℕ) (wanted : Bool) (answer : Answer) → answer.made ≡ not wanted → rest ≡ [] → AreTried s cards rest wanted answer.counting → IsGiven s cards wanted answer

@@ -1,9 +1,9 @@
 //! The four hands as one seat sees them.
-ghost use Rattle.std.specs.Prelude.{◌≡◌, ◌≤◌, length};
+ghost use Rattle.std.specs.Prelude.{◌≡◌, ◌≤◌, ◌∷◌, [], length, IfSome};
 ghost use Rattle.trick_rules.specs.Positions.{seat_after};
 ghost use Rattle.trick_rules.specs.Play.{of_suit, hand_of};
 
-use card_sets::{CardSet, Seat, Suit};
+use card_sets::{Card, CardSet, Seat, Suit};
 use trick_rules::Position;
 
 /// The hand of a seat, and the three others clockwise.
@@ -54,6 +54,15 @@ impl Hands {
         let last = self.last.of_suit(suit).count();
         next.max(partner).max(last)
     }
+}
+
+/// The card, if there is only one.
+pub(crate) fn only_of(cards: CardSet) -> Option<Card>
+    ensures { IfSome result (λ card. cards ≡ card ∷ []) }
+{
+    let mut others = cards;
+    let card = others.pop_first()?;
+    if others.is_empty() { Some(card) } else { None }
 }
 
 /// Whether there are two cards or more.

@@ -12,7 +12,7 @@ ghost use Rattle.dd_solver.specs.Answers.{IsAnswer, IsGiven};
 
 use crate::answer::{Answer, joined, with_winner};
 use crate::enough::{one_of_equals, with_lower_equals, without_like};
-use crate::hands::has_two;
+use crate::hands::{has_two, only_of};
 use crate::headed::headed_answer;
 use crate::key::Key;
 use crate::memo::Memo;
@@ -127,6 +127,10 @@ fn best_of(memo: &mut Memo, turn: &Turn, cards: CardSet, ours: bool) -> Answer
     ensures given { IsGiven (turn_state turn.now) cards ours result }
     ensures limit { memo.new.most ≡ memo.old.most }
 {
+    // A single card needs no order.
+    if let Some(card) = only_of(cards) {
+        return search_after(memo, turn, card);
+    }
     let mut order = turn.order(memo, cards);
     let mut rest = cards;
     let mut counting = CardSet::empty();

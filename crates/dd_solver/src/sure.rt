@@ -149,6 +149,39 @@ fn needed_of(position: &Position, own: &Counts) -> Counts
     }
 }
 
+// The cards in play of the suits of which a hand has the best card.
+fn suits_headed(hand: CardSet, playing: CardSet) -> CardSet {
+    let mut headed = CardSet::empty();
+    for suit in Suit::ALL {
+        let here = playing.of_suit(suit);
+        match here.last() {
+            Some(best) if hand.has(best) => headed = headed.either(here),
+            _ => {}
+        }
+    }
+    headed
+}
+
+// Whether the hand on lead may have enough sure cards: with trumps, it has no more than it has cards
+// of the suits of which it has the best card. At no trump, counting is as fast as this look.
+fn may_be_enough(position: &Position, left: CardSet) -> bool {
+    if position.trump == Trump::NoTrump {
+        return true;
+    }
+    let hands = Hands::of(position, left, position.to_play());
+    let headed = suits_headed(hands.own, hands.all());
+    are_enough(position, hands.own.both(headed).count())
+}
+
+// Whether the hand on lead has a card of a suit of which its partner has the best card. If not, it
+// can't lead over to a sure card.
+fn may_lead_over(position: &Position, left: CardSet) -> bool {
+    let hands = Hands::of(position, left, position.to_play());
+    !hands
+        .own
+        .is_disjoint(suits_headed(hands.partner, hands.all()))
+}
+
 // The answer if the sure cards of both hands of the side on lead settle it at no trump.
 fn joint_answer(position: &Position, left: CardSet, own: &Counts) -> Option<Answer>
     requires fits { FitsLeft position.now left }
@@ -166,6 +199,9 @@ fn joint_answer(position: &Position, left: CardSet, own: &Counts) -> Option<Answ
     ensures { IfSome result
         (λ answer. IsAnswer (record { position = position.now; left = left }) answer) }
 {
+    if !may_lead_over(position, left) {
+        return None;
+    }
     let partners = partners_counts(position, left);
     let both = position.tricks_left().min(own.total() + partners.total());
     if !can_lead_over(position, left, &partners) || !are_enough(position, both) {
@@ -187,6 +223,9 @@ pub(crate) fn sure_answer(position: &Position, left: CardSet) -> Option<Answer>
     ensures { IfSome result
         (λ answer. IsAnswer (record { position = position.now; left = left }) answer) }
 {
+    if !may_be_enough(position, left) {
+        return None;
+    }
     let own = own_counts(position, left);
     if are_enough(position, own.total()) {
         let needed = needed_of(position, &own);

@@ -1,17 +1,18 @@
 //! A turn of a trick: its position, and what stays the same until the trick ends.
-ghost use Rattle.std.specs.Prelude.{◌≡◌, ◌≢◌, true, length};
+ghost use Rattle.std.specs.Prelude.{◌≡◌, ◌≢◌, ◌<◌, ◌++◌, ◌∷◌, [], true, length};
 ghost use Rattle.card_sets.specs.SetWords.{has_card};
 ghost use Rattle.trick_rules.specs.Positions.{IsState};
-ghost use Rattle.trick_rules.specs.Play.{after as after_play, legal_in};
+ghost use Rattle.trick_rules.specs.Play.{after as after_play, after_card, legal_in, CanPlay};
 ghost use Rattle.dd_solver.specs.Shapes.{IsShapeOf};
 ghost use Rattle.dd_solver.specs.Turns.{turn_state, IsTurn};
 
 use crate::memo::Memo;
 use crate::order::{Order, turn_of};
 use crate::shape::Shape;
+use arrayvec::ArrayVec;
 use card_sets::{Card, CardSet};
 use double_dummy::cards_in_play;
-use trick_rules::{Position, play};
+use trick_rules::{Position, Trick};
 
 /// A position, Left's hand, the cards in play, which stay the same until the trick ends, and the
 /// shape of the hands.
@@ -21,6 +22,54 @@ pub(crate) struct Turn {
     pub(crate) left: CardSet,
     pub(crate) playing: CardSet,
     pub(crate) shape: Shape,
+}
+
+// Up to two cards of a trick, and one more. A loop over so few takes longer.
+fn followed_by(cards: &[Card], card: Card) -> ArrayVec<Card, 4>
+    requires { length cards.now < 3 }
+    ensures { result.items ≡ cards.now ++ card ∷ [] }
+{
+    let mut longer = ArrayVec::new();
+    if cards.is_empty() {
+        longer.push(card);
+        return longer;
+    }
+    longer.push(cards[0]);
+    if cards.len() == 1 {
+        longer.push(card);
+        return longer;
+    }
+    longer.push(cards[1]);
+    longer.push(card);
+    longer
+}
+
+// A trick of up to two cards with one more.
+fn with_card(trick: &Trick, card: Card) -> Trick
+    requires { length trick.now.cards < 3 }
+    ensures { result ≡ record { leader = trick.now.leader; cards = trick.now.cards ++ card ∷ [] } }
+{
+    Trick {
+        leader: trick.leader,
+        cards: followed_by(trick.cards.as_slice(), card),
+    }
+}
+
+// The position after a card that doesn't end the trick. It takes fewer steps than `play`, which
+// checks whether the trick ends.
+fn followed(position: &Position, card: Card) -> Position
+    requires held { CanPlay position.now card }
+    requires goes_on { length position.now.trick.cards ≢ 3 }
+    ensures { result ≡ after_card position.now card }
+{
+    Position {
+        declarer: position.declarer.without(card),
+        dummy: position.dummy.without(card),
+        unseen: position.unseen.without(card),
+        trick: with_card(&position.trick, card),
+        need: position.need,
+        trump: position.trump,
+    }
 }
 
 impl Turn {
@@ -49,7 +98,7 @@ impl Turn {
         ensures state { turn_state result ≡ after_play (turn_state self.now) card }
     {
         Turn {
-            position: play(&self.position, card),
+            position: followed(&self.position, card),
             left: self.left.without(card),
             playing: self.playing,
             shape: self.shape_after(card),
@@ -65,16 +114,10 @@ impl Turn {
         self.shape.without(self.position.to_play(), card)
     }
 
-    /// The order in which these cards are tried. A single card needs none.
+    /// The order in which these cards are tried.
     pub(crate) fn order(&self, memo: &Memo, cards: CardSet) -> Order {
-        let mut others = cards;
-        match others.pop_first() {
-            Some(card) if others.is_empty() => Order::Begun(card),
-            _ => {
-                let best_lead = memo.best_lead(turn_of(&self.position));
-                Order::begun(&self.position, self.left, cards, best_lead)
-            }
-        }
+        let best_lead = memo.best_lead(turn_of(&self.position));
+        Order::begun(&self.position, self.left, cards, best_lead)
     }
 
     /// Orders the cards that are left, if there are any and only the first is known.

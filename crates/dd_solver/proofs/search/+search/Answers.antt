@@ -12,7 +12,7 @@ use Rattle.dd_solver.proofs.GapAfterGap.{gaps-still}
 use Rattle.dd_solver.specs.Turns.{turn_state}
 use Rattle.dd_solver.proofs.Turns.{open-after}
 use Rattle.dd_solver.proofs.Winner.{shorter}
-use Rattle.dd_solver.proofs.Tried.{given_by, given-one, tried-more, answer-each}
+use Rattle.dd_solver.proofs.Tried.{given_by, given-one, given-only, only_held, tried-more, answer-each}
 use Rattle.dd_solver.proofs.search.+search.Goals as goal
 
 pub search-returns-in-Some-clause-answer : goal.search-returns-in-Some-clause-answer
@@ -43,26 +43,36 @@ search_cards-returns-clause-answer t c =
     c.requires.turn.state (open-decided s.position c.requires.open) c.best_of-answer.ensures.given (other_answer c.best_of-answer.result.made ours c.if-answer-ours.false)
     c.one_of_equals-cards.ensures.others refl refl c.with_lower_equals.ensures.closed c.with_lower_equals.ensures.within c.with_lower_equals.ensures.down
 
+pub best_of-search_after-requires : goal.best_of-search_after-requires
+best_of-search_after-requires t c = (omega (arith, c.decreases), (c.requires.turn, (c.requires.open, c.requires.legal c.in-Some.card (only_held c.args.cards c.in-Some.card c.in-Some.ensures))))
+
+pub best_of-returns-in-Some-clause-given : goal.best_of-returns-in-Some-clause-given
+best_of-returns-in-Some-clause-given t c =
+    let s = turn_state c.args.turn.now in
+    let card = c.in-Some.card in
+    let legal = c.requires.legal card (only_held c.args.cards card c.in-Some.ensures) in
+    given-only s c.args.cards c.args.ours card c.search_after.result c.requires.turn.state c.in-Some.ensures legal c.requires.side c.search_after.ensures.closed c.search_after.ensures.given
+
 pub best_of-returns-then-there-ours-clause-given : goal.best_of-returns-then-there-ours-clause-given
 best_of-returns-then-there-ours-clause-given t c =
     let s = turn_state c.args.turn.now in
-    let card = c.in-Some.card in
+    let card = c.in-Some-first_of.card in
     let ours = c.args.ours in
     let there = c.search_after-there.result in
     let same = same_answer there.made ours c.if-there-ours.true in
-    let legal = c.requires.legal card (c.loop-card.invariant.tried.part card c.in-Some.ensures) in
+    let legal = c.requires.legal card (c.loop-card.invariant.tried.part card c.in-Some-first_of.ensures) in
     given-one s c.args.cards ours card there c.requires.turn.state legal c.requires.side same
     c.search_after-there.ensures.closed (subst (λ b. GivesAnswer there.counting s card b) same c.search_after-there.ensures.given)
 
 pub best_of-loop-card-smaller : goal.best_of-loop-card-smaller
 best_of-loop-card-smaller t c =
     let fewer = c.without_like-rest.ensures.fewer in
-    omega (arith, shorter c.in-Some.card c.loop-card.rest c.in-Some.ensures, ap (length {A = ℕ}) c.without-rest.ensures.value)
+    omega (arith, shorter c.in-Some-first_of.card c.loop-card.rest c.in-Some-first_of.ensures, ap (length {A = ℕ}) c.without-rest.ensures.value)
 
 pub best_of-loop-card-preserved : goal.best_of-loop-card-preserved
 best_of-loop-card-preserved t c =
     let s = turn_state c.args.turn.now in
-    let card = c.in-Some.card in
+    let card = c.in-Some-first_of.card in
     let ours = c.args.ours in
     let there = c.search_after-there.result in
     record {
