@@ -71,26 +71,35 @@ impl Entry {
     }
 }
 
-// The first of the slots of a number, among `slots` slots.
+// The first slot of a number's row, among `slots` slots.
 #[tactic(auto, using(std::proofs::lemmas::Nat::and_le_r))]
-fn slot_of(number: u64, slots: usize) -> usize
+fn row_of(number: u64, slots: usize) -> usize
     requires { 32 ≤ slots }
     ensures { result + 32 ≤ slots }
 {
     (number & (slots / WAYS - 1) as u64) as usize * WAYS
 }
 
-// Of the slots from this one on, the first that is empty or whose answers the entry gives too.
+// The slot in which a number is looked for after this many steps, in the row from `first` on. Each
+// number begins elsewhere, so it meets few others.
+fn slot_of(number: u64, first: usize, step: usize) -> usize
+    requires { first + 32 ≤ 18446744073709551615 }
+    ensures { result < first + 32 }
+{
+    first + ((number >> 27u32) as usize).wrapping_add(step) % WAYS
+}
+
+// The first slot in this row that is empty or whose answers the entry gives too.
 fn free_place(slots: &[Option<Entry>], first: usize, entry: &Entry) -> Option<usize>
     requires { first + 32 ≤ length slots.now }
     ensures { IfSome result (λ place. place < length slots.now) }
 {
-    for (step, slot) in slots[first..first + WAYS].iter().enumerate() {
-        let Some(there) = slot else {
-            return Some(first + step);
-        };
-        if entry.covers(there) {
-            return Some(first + step);
+    let number = entry.key.code();
+    for step in 0..WAYS {
+        let place = slot_of(number, first, step);
+        match &slots[place] {
+            Some(there) if !entry.covers(there) => {}
+            _ => return Some(place),
         }
     }
     None
@@ -118,7 +127,7 @@ fn shortest_place(slots: &[Option<Entry>], first: usize, turn: usize) -> usize
 // Puts the entry in one of its slots, in turn.
 fn put(slots: &mut [Option<Entry>], turn: usize, entry: &Entry) {
     if slots.len() >= WAYS {
-        let first = slot_of(entry.key.code(), slots.len());
+        let first = row_of(entry.key.code(), slots.len());
         let place = match free_place(slots, first, entry) {
             Some(place) => place,
             None => shortest_place(slots, first, turn),
@@ -199,10 +208,11 @@ impl Memo {
         if self.slots.len() < WAYS {
             return None;
         }
-        let first = slot_of(key.code(), self.slots.len());
-        // The slots are filled from the first on.
-        for slot in &self.slots[first..first + WAYS] {
-            let entry = slot.as_ref()?;
+        let number = key.code();
+        let first = row_of(number, self.slots.len());
+        // No slot before those of its entries is empty.
+        for step in 0..WAYS {
+            let entry = self.slots[slot_of(number, first, step)].as_ref()?;
             if let Some(answer) = entry.answer_for(key) {
                 return Some(answer);
             }
@@ -217,7 +227,7 @@ impl Memo {
         requires known { IsAnswer (key_state key.now) answer.now }
         ensures { self.new.most ≡ self.old.most }
     {
-        if self.stored >= self.slots.len() / 4 && self.slots.len() < self.most {
+        if self.stored >= self.slots.len() / 2 && self.slots.len() < self.most {
             self.grow();
         }
         let entry = Entry {
