@@ -71,32 +71,24 @@ impl Entry {
     }
 }
 
-// The first slot of a number's row, among `slots` slots.
+// The slot in which a number is looked for after this many steps, among `slots` slots. A row of 32
+// serves each number, and numbers begin at different places there, so that they meet few others.
 #[tactic(auto, using(std::proofs::lemmas::Nat::and_le_r))]
-fn row_of(number: u64, slots: usize) -> usize
+fn slot_of(number: u64, slots: usize, step: usize) -> usize
     requires { 32 ≤ slots }
-    ensures { result + 32 ≤ slots }
+    ensures { result < slots }
 {
-    (number & (slots / WAYS - 1) as u64) as usize * WAYS
+    let row = (number & (slots / WAYS - 1) as u64) as usize;
+    row * WAYS + ((number >> 27u32) as usize).wrapping_add(step) % WAYS
 }
 
-// The slot in which a number is looked for after this many steps, in the row from `first` on. Each
-// number begins elsewhere, so it meets few others.
-fn slot_of(number: u64, first: usize, step: usize) -> usize
-    requires { first + 32 ≤ 18446744073709551615 }
-    ensures { result < first + 32 }
-{
-    first + ((number >> 27u32) as usize).wrapping_add(step) % WAYS
-}
-
-// The first slot in this row that is empty or whose answers the entry gives too.
-fn free_place(slots: &[Option<Entry>], first: usize, entry: &Entry) -> Option<usize>
-    requires { first + 32 ≤ length slots.now }
+// The first slot of a number that is empty or whose answers the entry gives too.
+fn free_place(slots: &[Option<Entry>], number: u64, entry: &Entry) -> Option<usize>
+    requires { 32 ≤ length slots.now }
     ensures { IfSome result (λ place. place < length slots.now) }
 {
-    let number = entry.key.code();
     for step in 0..WAYS {
-        let place = slot_of(number, first, step);
+        let place = slot_of(number, slots.len(), step);
         match &slots[place] {
             Some(there) if !entry.covers(there) => {}
             _ => return Some(place),
@@ -105,18 +97,19 @@ fn free_place(slots: &[Option<Entry>], first: usize, entry: &Entry) -> Option<us
     None
 }
 
-// Of the slots from this one on, one with the fewest tricks left, in turn.
-fn shortest_place(slots: &[Option<Entry>], first: usize, turn: usize) -> usize
-    requires { first + 32 ≤ length slots.now }
+// A slot of a number with the fewest tricks left, in turn.
+fn shortest_place(slots: &[Option<Entry>], number: u64, turn: usize) -> usize
+    requires { 32 ≤ length slots.now }
     ensures { result < length slots.now }
 {
-    let mut best = first;
+    let mut best = slot_of(number, slots.len(), 0);
     let mut least = usize::MAX;
     for step in 0..WAYS {
-        if let Some(there) = &slots[first + step] {
+        let place = slot_of(number, slots.len(), step);
+        if let Some(there) = &slots[place] {
             let weight = usize::from(there.key.tricks) * WAYS + step.wrapping_sub(turn) % WAYS;
             if weight < least {
-                best = first + step;
+                best = place;
                 least = weight;
             }
         }
@@ -127,10 +120,10 @@ fn shortest_place(slots: &[Option<Entry>], first: usize, turn: usize) -> usize
 // Puts the entry in one of its slots, in turn.
 fn put(slots: &mut [Option<Entry>], turn: usize, entry: &Entry) {
     if slots.len() >= WAYS {
-        let first = row_of(entry.key.code(), slots.len());
-        let place = match free_place(slots, first, entry) {
+        let number = entry.key.code();
+        let place = match free_place(slots, number, entry) {
             Some(place) => place,
-            None => shortest_place(slots, first, turn),
+            None => shortest_place(slots, number, turn),
         };
         slots[place] = Some(*entry);
     }
@@ -209,10 +202,8 @@ impl Memo {
             return None;
         }
         let number = key.code();
-        let first = row_of(number, self.slots.len());
-        // No slot before those of its entries is empty.
         for step in 0..WAYS {
-            let entry = self.slots[slot_of(number, first, step)].as_ref()?;
+            let entry = self.slots[slot_of(number, self.slots.len(), step)].as_ref()?;
             if let Some(answer) = entry.answer_for(key) {
                 return Some(answer);
             }
