@@ -71,43 +71,45 @@ impl Entry {
     }
 }
 
-// The first of the slots of a number, among `slots` slots.
+// The slot in which a number is looked for after this many steps, among `slots` slots. A row of 32
+// serves each number, and numbers begin at different places there, so that they meet few others.
 #[tactic(auto, using(std::proofs::lemmas::Nat::and_le_r))]
-fn slot_of(number: u64, slots: usize) -> usize
+fn slot_of(number: u64, slots: usize, step: usize) -> usize
     requires { 32 ≤ slots }
-    ensures { result + 32 ≤ slots }
+    ensures { result < slots }
 {
-    (number & (slots / WAYS - 1) as u64) as usize * WAYS
+    let row = (number & (slots / WAYS - 1) as u64) as usize;
+    row * WAYS + ((number >> 27u32) as usize).wrapping_add(step) % WAYS
 }
 
-// Of the slots from this one on, the first that is empty or whose answers the entry gives too.
-fn free_place(slots: &[Option<Entry>], first: usize, entry: &Entry) -> Option<usize>
-    requires { first + 32 ≤ length slots.now }
+// The first slot of a number that is empty or whose answers the entry gives too.
+fn free_place(slots: &[Option<Entry>], number: u64, entry: &Entry) -> Option<usize>
+    requires { 32 ≤ length slots.now }
     ensures { IfSome result (λ place. place < length slots.now) }
 {
-    for (step, slot) in slots[first..first + WAYS].iter().enumerate() {
-        let Some(there) = slot else {
-            return Some(first + step);
-        };
-        if entry.covers(there) {
-            return Some(first + step);
+    for step in 0..WAYS {
+        let place = slot_of(number, slots.len(), step);
+        match &slots[place] {
+            Some(there) if !entry.covers(there) => {}
+            _ => return Some(place),
         }
     }
     None
 }
 
-// Of the slots from this one on, one with the fewest tricks left, in turn.
-fn shortest_place(slots: &[Option<Entry>], first: usize, turn: usize) -> usize
-    requires { first + 32 ≤ length slots.now }
+// A slot of a number with the fewest tricks left, in turn.
+fn shortest_place(slots: &[Option<Entry>], number: u64, turn: usize) -> usize
+    requires { 32 ≤ length slots.now }
     ensures { result < length slots.now }
 {
-    let mut best = first;
+    let mut best = slot_of(number, slots.len(), 0);
     let mut least = usize::MAX;
     for step in 0..WAYS {
-        if let Some(there) = &slots[first + step] {
+        let place = slot_of(number, slots.len(), step);
+        if let Some(there) = &slots[place] {
             let weight = usize::from(there.key.tricks) * WAYS + step.wrapping_sub(turn) % WAYS;
             if weight < least {
-                best = first + step;
+                best = place;
                 least = weight;
             }
         }
@@ -118,10 +120,10 @@ fn shortest_place(slots: &[Option<Entry>], first: usize, turn: usize) -> usize
 // Puts the entry in one of its slots, in turn.
 fn put(slots: &mut [Option<Entry>], turn: usize, entry: &Entry) {
     if slots.len() >= WAYS {
-        let first = slot_of(entry.key.code(), slots.len());
-        let place = match free_place(slots, first, entry) {
+        let number = entry.key.code();
+        let place = match free_place(slots, number, entry) {
             Some(place) => place,
-            None => shortest_place(slots, first, turn),
+            None => shortest_place(slots, number, turn),
         };
         slots[place] = Some(*entry);
     }
@@ -199,10 +201,9 @@ impl Memo {
         if self.slots.len() < WAYS {
             return None;
         }
-        let first = slot_of(key.code(), self.slots.len());
-        // The slots are filled from the first on.
-        for slot in &self.slots[first..first + WAYS] {
-            let entry = slot.as_ref()?;
+        let number = key.code();
+        for step in 0..WAYS {
+            let entry = self.slots[slot_of(number, self.slots.len(), step)].as_ref()?;
             if let Some(answer) = entry.answer_for(key) {
                 return Some(answer);
             }
@@ -217,7 +218,7 @@ impl Memo {
         requires known { IsAnswer (key_state key.now) answer.now }
         ensures { self.new.most ≡ self.old.most }
     {
-        if self.stored >= self.slots.len() / 4 && self.slots.len() < self.most {
+        if self.stored >= self.slots.len() / 2 && self.slots.len() < self.most {
             self.grow();
         }
         let entry = Entry {
