@@ -1,5 +1,5 @@
 -- The front of a node and its fronts with fewer moves.
-use Rattle.std.proofs.Common.{◌≡◌, ◌∙◌, ◌+◌, ◌-◌, ℕ, zero, suc, Bool, true, false, Option, None, Some, IfSome, List, [], ◌∷◌, Contains, length, map, replicate, refl, sym, ap, subst, true≢false, arith, zero-add, not}
+use Rattle.std.proofs.Common.{◌≡◌, ◌∙◌, ◌+◌, ◌-◌, ℕ, zero, suc, true, false, Option, None, Some, IfSome, List, [], ◌∷◌, Contains, length, map, replicate, refl, sym, ap, subst, true≢false, arith, zero-add}
 use Rattle.win_vectors.specs.Vectors.{ones_of}
 use Rattle.win_vectors.specs.Fronts.{Vector, Dominates, Covers, CoversAll, IsFrontOf, IsReduced}
 use Rattle.pareto_fronts.specs.FrontValue.{FrontValue}
@@ -36,11 +36,6 @@ bounds rules h e = true≢false (sym h ∙ ap (λ (r : CutRules). r.bound) e)
 
 pub cuts_early : (rules : CutRules) → rules.early ≡ true → rules ≡ no_cuts → ⊥
 cuts_early rules h e = true≢false (sym h ∙ ap (λ (r : CutRules). r.early) e)
-
--- a rule that isn't off is on
-pub is_on : (b : Bool) → not b ≡ false → b ≡ true
-is_on true h = refl
-is_on false h = absurd cc
 
 -- a vector put into a front with none
 pub single : (vector : Vector) (none reduced : List Vector) → none ≡ [] → IsReduced (vector ∷ none) reduced → reduced ≡ vector ∷ []

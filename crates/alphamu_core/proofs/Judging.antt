@@ -1,5 +1,6 @@
 -- Layouts that are judged one after the other.
 use Rattle.std.proofs.Common.{◌≡◌, ◌∙◌, ◌<◌, ◌+◌, ℕ, zero, suc, Bool, true, false, Some, slice_get, List, [], ◌∷◌, length, get_or, set, map, replicate, refl, sym, ap, subst, arith, below_more, if◌then◌else◌}
+use Rattle.std.proofs.lemmas.Bool.{false≢true, false_from_ne_true}
 use Rattle.std.proofs.lemmas.Option.{slice_get-get_or}
 use Rattle.std.proofs.Math.Bool.{beq}
 use Rattle.std.proofs.lemmas.List.{length-map}
@@ -25,6 +26,26 @@ ones_above zero (b ∷ v) e = absurd cc
 ones_above (suc n) [] e = absurd cc
 ones_above (suc n) (b ∷ v) e = (tt, ones_above n v (omega arith))
 
+pub at_least : (a b : Bool) → (b ≡ true → a ≡ true) → IsAtLeast a b
+at_least true b h = tt
+at_least false false h = tt
+at_least false true h = let wrong : false ≡ true = h refl in absurd cc
+
+pub at_least_bit : (a b : Bool) → IsAtLeast a b → b ≡ true → a ≡ true
+at_least_bit true b h e = refl
+at_least_bit false true h e = absurd h
+at_least_bit false false h e = e
+
+at_least_none : (a : Bool) → IsAtLeast a false
+at_least_none true = tt
+at_least_none false = tt
+
+pub none_above : (n : ℕ) (v : Vector) → length v ≡ n → Dominates v (replicate n false)
+none_above zero [] e = tt
+none_above zero (b ∷ v) e = absurd cc
+none_above (suc n) [] e = absurd cc
+none_above (suc n) (b ∷ v) e = (at_least_none b, none_above n v (omega arith))
+
 dominates_clear : (u v : Vector) (i : ℕ) → Dominates u v → get_or v i false ≡ false → Dominates (set u i false) v
 dominates_clear [] [] i h e = tt
 dominates_clear [] (b ∷ v) i h e = elim h [ ]
@@ -32,16 +53,22 @@ dominates_clear (a ∷ u) [] i h e = elim h [ ]
 dominates_clear (a ∷ u) (b ∷ v) zero h e = (subst (λ c. IsAtLeast false c) (sym e) tt, h.1)
 dominates_clear (a ∷ u) (b ∷ v) (suc i) h e = (h.0, dominates_clear u v i h.1 e)
 
-at_least : (a b : Bool) → (b ≡ true → a ≡ true) → IsAtLeast a b
-at_least true b h = tt
-at_least false false h = tt
-at_least false true h = let wrong : false ≡ true = h refl in absurd cc
-
 dominates_bits : (u v : Vector) → length u ≡ length v → ((i : ℕ) → get_or v i false ≡ true → get_or u i false ≡ true) → Dominates u v
 dominates_bits [] [] e h = tt
 dominates_bits [] (b ∷ v) e h = absurd cc
 dominates_bits (a ∷ u) [] e h = absurd cc
 dominates_bits (a ∷ u) (b ∷ v) e h = (at_least a b (h 0), dominates_bits u v (omega arith) (λ i there. h (suc i) there))
+
+-- a one of what is dominated
+pub dominates_at : (u v : Vector) (i : ℕ) → Dominates u v → get_or v i false ≡ true → get_or u i false ≡ true
+dominates_at [] [] i h e = e
+dominates_at [] (b ∷ v) i h e = elim h [ ]
+dominates_at (a ∷ u) [] i h e = elim h [ ]
+dominates_at (a ∷ u) (b ∷ v) zero h e = at_least_bit a b h.0 e
+dominates_at (a ∷ u) (b ∷ v) (suc i) h e = dominates_at u v i h.1 e
+
+pub dominates_none : (u v : Vector) (i : ℕ) → Dominates u v → get_or u i false ≡ false → get_or v i false ≡ false
+dominates_none u v i h none = false_from_ne_true (get_or v i false) (λ there. false≢true (sym none ∙ dominates_at u v i h there))
 
 -- a bit that was cleared is no one, and each one was there before
 cleared : (u : Vector) (place i : ℕ) → get_or (set u place false) i false ≡ true → get_or u i false ≡ true
@@ -80,6 +107,10 @@ chosen_first false u v e = absurd cc
 pub chosen_second : (b : Bool) (u v : Vector) → b ≡ false → v ≡ (if b then u else v)
 chosen_second true u v e = absurd cc
 chosen_second false u v e = refl
+
+-- a bit that was read
+pub bit_at : (v : Vector) (i : ℕ) (bit : Bool) → i < length v → slice_get v i ≡ Some bit → get_or v i false ≡ bit
+bit_at v i bit low is = let at = slice_get-get_or v i false low in cc
 
 -- ---- place by place
 

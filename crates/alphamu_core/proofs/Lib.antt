@@ -7,6 +7,7 @@ pub mod Taken
 pub mod Trying
 pub mod Paid
 pub mod OpenNodes
+pub mod Inherited
 pub mod OursSoFar
 pub mod TheirsSoFar
 pub mod Answered

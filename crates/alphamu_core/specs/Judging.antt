@@ -3,6 +3,7 @@ use Rattle.std.specs.Prelude.{◌≡◌, ◌<◌, ℕ, Bool, true, false, map, s
 use Rattle.win_vectors.specs.Fronts.{Vector, Dominates}
 use Rattle.trick_rules.specs.Play.{makes}
 use Rattle.trick_rules.specs.Nodes.{NodeValue, states}
+use Rattle.alphamu_core.specs.declared.known.Known.{Known}
 
 -- double dummy's result in the layout at a place
 abbrev pub makes_at : NodeValue → ℕ → Bool
@@ -14,3 +15,8 @@ pub record IsJudged (results mask : Vector) (bit : Bool) (start : Vector) (place
   pub fewer : (i : ℕ) → slice_index_or made i false ≡ true → slice_index_or start i false ≡ true
   pub right : (i : ℕ) → i < places → slice_index_or mask i false ≡ bit
       → slice_index_or made i false ≡ true → slice_index_or results i false ≡ true
+
+-- what is known to be made is made, and what is known to be lost is lost
+pub record IsKnown (n : NodeValue) (known : Known) : Type 0 where
+  pub made : Dominates (map makes (states n)) known.made
+  pub possible : Dominates known.possible (map makes (states n))

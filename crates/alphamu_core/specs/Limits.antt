@@ -10,7 +10,9 @@ use Rattle.alphamu_core.specs.declared.answers.Found.{Found}
 use Rattle.alphamu_core.specs.declared.answers.Found.TheVariants.{Exact, Below}
 use Rattle.alphamu_core.specs.declared.limits.Limit.{Limit}
 use Rattle.alphamu_core.specs.declared.limits.Limit.TheVariants.{Settled, Upper}
+use Rattle.alphamu_core.specs.declared.known.Known.{Known}
 use Rattle.alphamu_core.specs.Findings.{IsAnswer}
+use Rattle.alphamu_core.specs.Judging.{IsKnown}
 
 -- the front of the node with fewer moves
 pub record IsUpperBound (n : NodeValue) (moves : ℕ) (upper : FrontValue) : Type 0 where
@@ -21,12 +23,12 @@ pub record IsUpperBound (n : NodeValue) (moves : ℕ) (upper : FrontValue) : Typ
 -- the answer itself, or perhaps an upper bound; no rule but no_cuts needs one
 abbrev pub IsLimit : NodeValue → ℕ → List Vector → CutRules → Limit → Type 0
 IsLimit n moves alpha rules (Settled found) = IsAnswer n moves alpha rules found
-IsLimit n moves alpha rules (Upper upper) = IfSome upper (IsUpperBound n moves) × (rules ≡ no_cuts → upper ≡ None)
+IsLimit n moves alpha rules (Upper upper known) = IfSome upper (IsUpperBound n moves) × (rules ≡ no_cuts → upper ≡ None) × IsKnown n known
 
 -- nothing is known
 abbrev pub IsUnknown : Limit → Type 0
 IsUnknown (Settled found) = ⊥
-IsUnknown (Upper upper) = upper ≡ None
+IsUnknown (Upper upper known) = upper ≡ None
 
 -- the best of the vectors so far and of those that were found, if any were
 abbrev pub IsUnited : Found → List Vector → List Vector → Type 0

@@ -7,6 +7,7 @@ mod answers;
 mod budget;
 mod exact;
 mod kept;
+mod known;
 mod limits;
 mod node_search;
 mod offers;

@@ -8,6 +8,7 @@ ghost use Rattle.trick_rules.specs.Nodes.{most_moves};
 
 use crate::answers::{Found, SearchFault};
 use crate::budget::Budget;
+use crate::known::Known;
 use crate::scratch::Scratch;
 use crate::tree_search::TreeSearch;
 use cut_rules::CutRules;
@@ -52,6 +53,7 @@ pub fn search<S: FrontStore>(
     ensures grown { S.grown store.old store.new }
 {
     let mut scratch = Scratch::new(alloc, node)?;
+    let known = Known::nothing(node.width());
     let node = node.copy(alloc)?;
     let mut search = TreeSearch {
         alloc,
@@ -61,5 +63,5 @@ pub fn search<S: FrontStore>(
         scratch: &mut scratch,
         rules,
     };
-    search.visit(node, moves, alpha)
+    search.visit(node, moves, alpha, &known)
 }

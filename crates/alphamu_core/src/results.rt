@@ -3,28 +3,40 @@ ghost use Rattle.std.specs.Prelude.{◌≡◌, ◌<◌, true, false, map, length
 ghost use Rattle.win_vectors.specs.Fronts.{Covers, Dominates};
 ghost use Rattle.trick_rules.specs.Play.{makes};
 ghost use Rattle.trick_rules.specs.Nodes.{IsNode, states};
-ghost use Rattle.alphamu_core.specs.Judging.{makes_at, IsJudged};
+ghost use Rattle.alphamu_core.specs.Judging.{makes_at, IsJudged, IsKnown};
 
+use crate::known::Known;
+use cut_rules::CutRules;
 use dd_solver::Solver;
 use pareto_fronts::Front;
 use trick_rules::Node;
 use win_vectors::WinVector;
 
+/// What is asked of double dummy: the results at a node, of which some may be known already. If the
+/// rules allow a cut, they needn't be found if alpha dominates them.
+#[derive(Drop)]
+pub struct Question<'a> {
+    pub node: &'a Node,
+    pub known: &'a Known,
+    pub alpha: &'a Front,
+    pub rules: CutRules,
+}
+
 /// Double dummy's result in each layout; or none, if a cut is allowed and alpha dominates them.
 ///
 /// The layouts at which some vector of alpha has 0 are judged first, because only they tell whether
 /// alpha dominates.
-pub fn results(solver: &mut Solver, node: &Node, alpha: &Front, may_cut: bool) -> Option<WinVector>
-    requires { alpha.now.width ≡ length node.now.lefts }
-    ensures a_node { IsNode node.now }
-    ensures results { IfSome result (λ made. made ≡ map makes (states node.now)) }
-    ensures cut { IsNone result → (may_cut ≡ true)
-        × Covers alpha.now.vectors (map makes (states node.now)) }
+pub fn results(solver: &mut Solver, question: &Question) -> Option<WinVector>
+    requires alpha { question.now.alpha.now.width ≡ length question.now.node.now.lefts }
+    requires known { IsKnown question.now.node.now question.now.known.now }
+    ensures a_node { IsNode question.now.node.now }
+    ensures results { IfSome result (λ made. made ≡ map makes (states question.now.node.now)) }
+    ensures cut { IsNone result → (question.now.rules.bound ≡ true)
+        × Covers question.now.alpha.now.vectors (map makes (states question.now.node.now)) }
 {
-    let sure = common(alpha);
-    let all = WinVector::all(node.width());
-    let made = judge(solver, node, sure, false, all, alpha, may_cut)?;
-    judge(solver, node, sure, true, made, alpha, may_cut)
+    let sure = common(question.alpha);
+    let made = judge(solver, question, sure, false, question.known.possible)?;
+    judge(solver, question, sure, true, made)
 }
 
 // The vector with a 1 at each layout at which every vector of the front has 1.
@@ -43,26 +55,26 @@ fn common(front: &Front) -> WinVector
 // none, if a cut is allowed and alpha dominates what is left.
 fn judge(
     solver: &mut Solver,
-    node: &Node,
+    question: &Question,
     mask: WinVector,
     bit: bool,
     start: WinVector,
-    alpha: &Front,
-    may_cut: bool,
 ) -> Option<WinVector>
-    requires alpha { alpha.now.width ≡ length node.now.lefts }
-    requires mask { length mask ≡ length node.now.lefts }
-    requires above { Dominates start (map makes (states node.now)) }
-    ensures judged { IfSome result (λ made.
-        IsJudged (map makes (states node.now)) mask bit start (length node.now.lefts) made) }
-    ensures cut { IsNone result → (may_cut ≡ true)
-        × Covers alpha.now.vectors (map makes (states node.now)) }
+    requires alpha { question.now.alpha.now.width ≡ length question.now.node.now.lefts }
+    requires known { IsKnown question.now.node.now question.now.known.now }
+    requires mask { length mask ≡ length question.now.node.now.lefts }
+    requires above { Dominates start (map makes (states question.now.node.now)) }
+    ensures a_node { IsNode question.now.node.now }
+    ensures judged { IfSome result (λ made. IsJudged (map makes (states question.now.node.now)) mask
+        bit start (length question.now.node.now.lefts) made) }
+    ensures cut { IsNone result → (question.now.rules.bound ≡ true)
+        × Covers question.now.alpha.now.vectors (map makes (states question.now.node.now)) }
 {
     let mut made = start;
-    for place in 0..node.width() {
+    for place in 0..question.node.width() {
         if mask.get(place) == bit {
-            made = judge_at(solver, node, place, made);
-            if may_cut && alpha.covers(&made) {
+            made = judge_at(solver, question.node, question.known, place, made);
+            if question.rules.bound && question.alpha.covers(&made) {
                 return None;
             }
         }
@@ -71,14 +83,36 @@ fn judge(
 }
 
 // Takes a layout out if it can't be made.
-fn judge_at(solver: &mut Solver, node: &Node, place: u16, made: WinVector) -> WinVector
+fn judge_at(
+    solver: &mut Solver,
+    node: &Node,
+    known: &Known,
+    place: u16,
+    made: WinVector,
+) -> WinVector
     requires within { place < length node.now.lefts }
+    requires known { IsKnown node.now known.now }
     requires width { length made ≡ length node.now.lefts }
     ensures { result ≡ (if makes_at node.now place then made else slice_set made place false) }
 {
-    if solver.makes(node.position(), node.left(place)) {
+    if is_made(solver, node, known, place) {
         made
     } else {
         made.set(place, false)
     }
+}
+
+// Double dummy's result in a layout, which is asked only if it isn't known.
+fn is_made(solver: &mut Solver, node: &Node, known: &Known, place: u16) -> bool
+    requires within { place < length node.now.lefts }
+    requires known { IsKnown node.now known.now }
+    ensures { result ≡ makes_at node.now place }
+{
+    if known.made.get(place) {
+        return true;
+    }
+    if !known.possible.get(place) {
+        return false;
+    }
+    solver.makes(node.position(), node.left(place))
 }

@@ -4,13 +4,16 @@ ghost use Rattle.strategy_games.specs.Plans.{stops};
 ghost use Rattle.strategy_tree.specs.Bridge.{bridge};
 ghost use Rattle.cut_rules.specs.Rules.{no_cuts};
 ghost use Rattle.alphamu_core.specs.Findings.{IsAnswer, IsExactOfWidth};
+ghost use Rattle.alphamu_core.specs.Judging.{IsKnown};
 ghost use Rattle.alphamu_core.specs.Limits.{IsUpperBound, IsUnited, IsReached};
 ghost use Rattle.alphamu_core.specs.TreeSearches.{IsSameSearch, Pays, PaysBelow};
 
 use crate::answers::{Found, SearchFault};
 use crate::kept::{cards_to_try, take_highest};
+use crate::known::Known;
 use crate::limits::{Limit, leaf};
 use crate::offers::offer;
+use crate::results::Question;
 use crate::tree_search::TreeSearch;
 use cut_rules::cut;
 use front_join::Joiner;
@@ -22,8 +25,15 @@ use trick_rules::Node;
 impl<S: FrontStore> TreeSearch<'_, S> {
     /// Enters a node, for which the budget pays, and answers for it.
     #[cycle(walk)]
-    pub fn visit(&mut self, node: Node, moves: u8, alpha: &Front) -> Result<Found, SearchFault>
+    pub fn visit(
+        &mut self,
+        node: Node,
+        moves: u8,
+        alpha: &Front,
+        known: &Known,
+    ) -> Result<Found, SearchFault>
         requires width { alpha.now.width ≡ length node.lefts }
+        requires known { IsKnown node known.now }
         ensures answer { IfOk result (IsAnswer node moves alpha.now.vectors self.old.rules) }
         ensures costs { Pays S.blind node moves self.old self.new result }
         ensures same { IsSameSearch S.grown self.old self.new }
@@ -32,25 +42,38 @@ impl<S: FrontStore> TreeSearch<'_, S> {
     {
         self.budget.enter()?;
         if node.stops(moves) {
-            Ok(leaf(self.alloc, self.solver, &node, moves, alpha, self.rules)?)
+            let question = Question {
+                node: &node,
+                known,
+                alpha,
+                rules: self.rules,
+            };
+            Ok(leaf(self.alloc, self.solver, &question, moves)?)
         } else {
-            self.open(node, moves, alpha)
+            self.open(node, moves, alpha, known)
         }
     }
 
     // Answers for a node where play goes on, which is paid for.
     #[cycle(walk)]
-    fn open(&mut self, node: Node, moves: u8, alpha: &Front) -> Result<Found, SearchFault>
+    fn open(
+        &mut self,
+        node: Node,
+        moves: u8,
+        alpha: &Front,
+        known: &Known,
+    ) -> Result<Found, SearchFault>
         requires width { alpha.now.width ≡ length node.lefts }
+        requires known { IsKnown node known.now }
         requires goes_on { stops bridge node moves ≡ false }
         ensures answer { IfOk result (IsAnswer node moves alpha.now.vectors self.old.rules) }
         ensures costs { PaysBelow S.blind node moves self.old self.new result }
         ensures same { IsSameSearch S.grown self.old self.new }
     {
-        match self.limit(&node, moves, alpha)? {
+        match self.limit(&node, moves, alpha, known)? {
             Limit::Settled(found) => Ok(found),
-            Limit::Upper(upper) => {
-                let answer = self.by_cards(&node, moves, alpha, &upper);
+            Limit::Upper(upper, known) => {
+                let answer = self.by_cards(&node, moves, alpha, &upper, &known);
                 offer(self.store, node, moves, &answer);
                 answer
             }
@@ -65,8 +88,10 @@ impl<S: FrontStore> TreeSearch<'_, S> {
         moves: u8,
         alpha: &Front,
         upper: &Option<Front>,
+        known: &Known,
     ) -> Result<Found, SearchFault>
         requires width { alpha.now.width ≡ length node.now.lefts }
+        requires known { IsKnown node.now known.now }
         requires goes_on { stops bridge node.now moves ≡ false }
         requires upper { IfSome upper.now (IsUpperBound node.now moves) }
         requires none { self.old.rules ≡ no_cuts → upper.now ≡ None }
@@ -75,9 +100,9 @@ impl<S: FrontStore> TreeSearch<'_, S> {
         ensures same { IsSameSearch S.grown self.old self.new }
     {
         if node.is_ours() {
-            self.at_declarer(node, moves, alpha, upper)
+            self.at_declarer(node, moves, alpha, upper, known)
         } else {
-            self.at_defender(node, moves, alpha)
+            self.at_defender(node, moves, alpha, known)
         }
     }
 
@@ -90,7 +115,9 @@ impl<S: FrontStore> TreeSearch<'_, S> {
         moves: u8,
         alpha: &Front,
         upper: &Option<Front>,
+        known: &Known,
     ) -> Result<Found, SearchFault>
+        requires known { IsKnown node.now known.now }
         requires goes_on { stops bridge node.now moves ≡ false }
         requires ours { bridge.is_ours node.now ≡ true }
         requires upper { IfSome upper.now (IsUpperBound node.now moves) }
@@ -101,9 +128,10 @@ impl<S: FrontStore> TreeSearch<'_, S> {
     {
         let mut front = Front::new(self.alloc, node.width());
         let mut cards = cards_to_try(node, self.rules);
+        let below = known.after_declarer();
         'cards: while let Some(card) = take_highest(&mut cards) {
             let (child, _) = node.child(self.alloc, card)?;
-            let found = self.visit(child, moves - 1, &front)?;
+            let found = self.visit(child, moves - 1, &front, &below)?;
             unite(&mut front, &found)?;
             if is_reached(upper, &front) {
                 return Ok(Found::Exact(front));
@@ -115,8 +143,15 @@ impl<S: FrontStore> TreeSearch<'_, S> {
     // The best of all meets of what is won after each card of a defender, until alpha covers them.
     // The node itself is paid for.
     #[cycle(walk)]
-    fn at_defender(&mut self, node: &Node, moves: u8, alpha: &Front) -> Result<Found, SearchFault>
+    fn at_defender(
+        &mut self,
+        node: &Node,
+        moves: u8,
+        alpha: &Front,
+        known: &Known,
+    ) -> Result<Found, SearchFault>
         requires width { alpha.now.width ≡ length node.now.lefts }
+        requires known { IsKnown node.now known.now }
         requires goes_on { stops bridge node.now moves ≡ false }
         requires theirs { bridge.is_ours node.now ≡ false }
         ensures answer { IfOk result (IsAnswer node.now moves alpha.now.vectors self.old.rules) }
@@ -128,7 +163,8 @@ impl<S: FrontStore> TreeSearch<'_, S> {
         'cards: while let Some(card) = cards.pop_first() {
             let (child, mask) = node.child(self.alloc, card)?;
             let none = Front::new(self.alloc, child.width());
-            let won = match self.visit(child, moves, &none)? {
+            let below = known.after_defender(mask);
+            let won = match self.visit(child, moves, &none, &below)? {
                 Found::Exact(won) => won,
                 Found::Below => unreachable!(),
             };

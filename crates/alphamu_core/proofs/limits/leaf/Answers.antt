@@ -4,9 +4,9 @@ use Rattle.alphamu_core.proofs.limits.leaf.Goals as goal
 
 pub returns-in_ok-single-in-Some : goal.returns-in_ok-single-in-Some
 returns-in_ok-single-in-Some c =
-    front_stopped c.args.node.now c.in_ok-single-in-Some.field-0 c.args.moves c.in-Some.made c.requires.stopped c.in-Some.ensures.results c.in_ok-single-in-Some.ensures.vectors c.in_ok-single-in-Some.ensures.width
+    front_stopped c.args.question.now.node.now c.in_ok-single-in-Some.field-0 c.args.moves c.in-Some.made c.requires.stopped c.in-Some.ensures.results c.in_ok-single-in-Some.ensures.vectors c.in_ok-single-in-Some.ensures.width
 
 pub returns-in-None : goal.returns-in-None
 returns-in-None c =
     let cut = c.in-None.ensures.cut refl in
-    (below_results c.args.node.now c.results.ensures.a_node c.args.moves c.args.alpha.now.vectors cut.1, bounds c.args.rules cut.0)
+    (below_results c.args.question.now.node.now c.results.ensures.a_node c.args.moves c.args.question.now.alpha.now.vectors cut.1, bounds c.args.question.now.rules cut.0)

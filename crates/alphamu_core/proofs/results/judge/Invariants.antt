@@ -5,4 +5,4 @@ use Rattle.alphamu_core.specs.Judging.{IsJudged}
 use Rattle.alphamu_core.proofs.results.judge.Given as goal
 
 abbrev pub invariant-loop-place : goal.invariant-loop-place
-invariant-loop-place l = IsJudged (map (λ s. makes s) (states l.node)) l.mask l.bit l.fn.start l.place l.made
+invariant-loop-place l = IsJudged (map (λ s. makes s) (states l.question.node.now)) l.mask l.bit l.fn.start l.place l.made

@@ -1,21 +1,12 @@
-use Rattle.std.proofs.Common.{◌≡◌, ◌∙◌, false, set, ap, sym}
-use Rattle.trick_rules.specs.Play.{makes}
-use Rattle.trick_rules.specs.Positions.{PositionValue}
-use Rattle.trick_rules.specs.Nodes.{NodeValue}
+use Rattle.std.proofs.Common.{◌∙◌, false, set, sym}
 use Rattle.alphamu_core.specs.Judging.{makes_at}
-use Rattle.alphamu_core.proofs.Judging.{made_there, chosen_first, chosen_second}
+use Rattle.alphamu_core.proofs.Judging.{chosen_first, chosen_second}
 use Rattle.alphamu_core.proofs.results.judge_at.Goals as goal
 
-pub returns-then-makes : goal.returns-then-makes
-returns-then-makes c =
-    let n : NodeValue = c.args.node.now in
-    let there = made_there n.position n.lefts c.args.place c.left.result c.requires.within c.left.ensures in
-    let same : c.makes.result ≡ makes (record { position = n.position; left = c.left.result }) = c.makes.ensures.answer ∙ ap (λ (t : PositionValue). makes (record { position = t; left = c.left.result })) c.position.ensures.value in
-    chosen_first (makes_at n c.args.place) c.args.made (set c.args.made c.args.place false) (there ∙ sym same ∙ c.if-makes.true)
+pub returns-then-is_made : goal.returns-then-is_made
+returns-then-is_made c =
+    chosen_first (makes_at c.args.node.now c.args.place) c.args.made (set c.args.made c.args.place false) (sym c.is_made.ensures ∙ c.if-is_made.true)
 
-pub returns-else-makes : goal.returns-else-makes
-returns-else-makes c =
-    let n : NodeValue = c.args.node.now in
-    let there = made_there n.position n.lefts c.args.place c.left.result c.requires.within c.left.ensures in
-    let same : c.makes.result ≡ makes (record { position = n.position; left = c.left.result }) = c.makes.ensures.answer ∙ ap (λ (t : PositionValue). makes (record { position = t; left = c.left.result })) c.position.ensures.value in
-    c.set.ensures ∙ chosen_second (makes_at n c.args.place) c.args.made (set c.args.made c.args.place false) (there ∙ sym same ∙ c.if-makes.false)
+pub returns-else-is_made : goal.returns-else-is_made
+returns-else-is_made c =
+    c.set.ensures ∙ chosen_second (makes_at c.args.node.now c.args.place) c.args.made (set c.args.made c.args.place false) (sym c.is_made.ensures ∙ c.if-is_made.false)

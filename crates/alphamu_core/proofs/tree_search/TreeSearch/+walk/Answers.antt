@@ -1,5 +1,6 @@
-use Rattle.std.proofs.Common.{◌∙◌, ◌-◌, ◌+◌, refl, sym, ap, subst, arith}
-use Rattle.win_vectors.specs.Fronts.{CoversAll}
+use Rattle.std.proofs.Common.{◌∙◌, ◌-◌, ◌+◌, ◌≤◌, length, refl, sym, ap, subst, arith}
+use Rattle.win_vectors.specs.Vectors.{ones_of}
+use Rattle.win_vectors.specs.Fronts.{Vector, CoversAll}
 use Rattle.pareto_fronts.specs.FrontValue.{FrontValue}
 use Rattle.front_table.specs.Proven.{IsFrontAt}
 use Rattle.alphamu_core.specs.Findings.{IsAnswer}
@@ -9,9 +10,10 @@ use Rattle.strategy_games.specs.Plans.{tree_size}
 use Rattle.strategy_tree.specs.Bridge.{bridge}
 use Rattle.strategy_tree.proofs.CardLists.{has_card-from_Contains}
 use Rattle.strategy_tree.proofs.BridgeLaws.{sizes}
-use Rattle.strategy_tree.proofs.BridgeNodes.{stopped, tree_size-positive}
+use Rattle.strategy_tree.proofs.BridgeNodes.{stopped, tree_size-positive, length-child_mask, some_layout}
 use Rattle.alphamu_core.proofs.Bounds.{cuts_early, width_of_upper, never_reached}
-use Rattle.alphamu_core.proofs.OpenNodes.{size_ours, size_theirs}
+use Rattle.alphamu_core.proofs.OpenNodes.{is_open, size_ours, size_theirs}
+use Rattle.alphamu_core.proofs.Inherited.{known_ours, known_theirs, known_width}
 use Rattle.alphamu_core.proofs.Paid.{costs_memory, costs_one, costs_none, paid_none, paid_more, paid_memory, paid_all, paid_below}
 use Rattle.alphamu_core.proofs.SameSearch.{same_none, same_more, still_early, costs_by}
 use Rattle.alphamu_core.proofs.OursSoFar.{ours_none, ours_all, ours_enough, ours_next, ours_fewer, ours_width, ours_found_width, ours_more}
@@ -39,7 +41,11 @@ at_declarer-returns-in_err-child-clause-costs g t c =
 pub at_declarer-visit-requires : goal.at_declarer-visit-requires
 at_declarer-visit-requires g t c κs within =
     let less = ours_fewer c.args.node.now (c.args.moves - 1) c.cards.invariant.so c.in-Some.ensures c.in_ok-child.ensures.node c.width.ensures.a_node in
-    (omega arith, (within, ours_width c.args.node.now (c.args.moves - 1) c.cards.invariant.so c.in-Some.ensures c.in_ok-child.ensures.node c.requires.ours))
+    let next = ours_next c.args.node.now (c.args.moves - 1) c.cards.invariant.so c.in-Some.ensures in
+    let live = is_open c.args.node.now c.args.moves c.requires.goes_on in
+    let width = ours_width c.args.node.now (c.args.moves - 1) c.cards.invariant.so c.in-Some.ensures c.in_ok-child.ensures.node c.requires.ours in
+    let known = known_ours c.args.node.now _ c.width.ensures.a_node live next _ c.args.known.now c.after_declarer-below.result c.requires.ours c.in_ok-child.ensures.node c.requires.known c.after_declarer-below.ensures.made c.after_declarer-below.ensures.possible in
+    (omega arith, (within, (width, known)))
 
 pub at_declarer-returns-in_err-found-clause-costs : goal.at_declarer-returns-in_err-found-clause-costs
 at_declarer-returns-in_err-found-clause-costs g t c =
@@ -55,6 +61,9 @@ at_declarer-returns-in_err-unite-clause-costs g t c =
     let size = size_ours c.args.node.now c.args.moves c.width.ensures.a_node c.requires.goes_on c.requires.ours in
     let paid = paid_more (EntersEach c.args.self.now.rules g.S.FrontStore.blind) c.args.node.now (c.args.moves - 1) c.cards.invariant.paid c.in-Some.ensures c.in_ok-child.ensures.node c.in_ok-found.found (costs_by c.cards.invariant.same.rules c.in_ok-found.ensures.costs) in
     paid_memory (EntersEach c.args.self.now.rules g.S.FrontStore.blind) c.args.node.now (c.args.moves - 1) paid c.args.moves size c.from_residual-in_err-unite.result c.from_residual-in_err-unite.ensures.1
+
+pub at_declarer-returns-in_err-unite-clause-same : goal.at_declarer-returns-in_err-unite-clause-same
+at_declarer-returns-in_err-unite-clause-same g t c = same_more g.met.S.FrontStore.grown_more c.cards.invariant.same c.in_ok-found.ensures.same
 
 pub at_declarer-is_reached-requires : goal.at_declarer-is_reached-requires
 at_declarer-is_reached-requires g t c =
@@ -125,7 +134,19 @@ at_defender-returns-in_err-child-clause-costs g t c =
 pub at_defender-visit-requires : goal.at_defender-visit-requires
 at_defender-visit-requires g t c κs within =
     let less = theirs_fewer c.args.node.now c.args.moves c.cards.invariant.so (taken_first _ _ _ c.in-Some.ensures.value) c.in_ok-child.ensures.node c.width.ensures.a_node in
-    (omega arith, (within, c.new-none.ensures.width ∙ c.width-in-Some.ensures.value))
+    let next = theirs_next c.args.node.now c.args.moves c.cards.invariant.so (taken_first _ _ _ c.in-Some.ensures.value) in
+    let live = is_open c.args.node.now c.args.moves c.requires.goes_on in
+    let known = known_theirs c.args.node.now _ c.width.ensures.a_node live next _ c.args.known.now c.after_defender-below.result c.in_ok-child.mask c.requires.theirs c.in_ok-child.ensures.node c.in_ok-child.ensures.mask c.requires.known c.after_defender-below.ensures.made c.after_defender-below.ensures.possible in
+    (omega arith, (within, (c.new-none.ensures.width ∙ c.width-in-Some.ensures.value, known)))
+
+pub at_defender-after_defender-below-requires-clause-width : goal.at_defender-after_defender-below-requires-clause-width
+at_defender-after_defender-below-requires-clause-width g t c =
+    known_width c.args.node.now c.args.known.now c.requires.known ∙ sym (ap (λ (v : Vector). length v) c.in_ok-child.ensures.mask ∙ length-child_mask c.args.node.now _)
+
+pub at_defender-after_defender-below-requires-clause-some : goal.at_defender-after_defender-below-requires-clause-some
+at_defender-after_defender-below-requires-clause-some g t c =
+    let next = theirs_next c.args.node.now c.args.moves c.cards.invariant.so (taken_first _ _ _ c.in-Some.ensures.value) in
+    subst (λ mask. 1 ≤ ones_of mask) (sym c.in_ok-child.ensures.mask) (some_layout c.args.node.now _ c.width.ensures.a_node (has_card-from_Contains _ _ next))
 
 pub at_defender-returns-in_err-won-clause-costs : goal.at_defender-returns-in_err-won-clause-costs
 at_defender-returns-in_err-won-clause-costs g t c =
@@ -147,6 +168,12 @@ pub at_defender-add-requires-clause-not_empty : goal.at_defender-add-requires-cl
 at_defender-add-requires-clause-not_empty g t c =
     let answer = subst (λ found. IsAnswer c.in_ok-child.child c.args.moves c.new-none.result.vectors c.cards.self.rules found) c.in-Exact.is c.in_ok-won.ensures.answer in
     theirs_filled c.args.node.now c.args.moves c.cards.invariant.so (taken_first _ _ _ c.in-Some.ensures.value) c.in_ok-child.ensures.node c.in-Exact.won c.width.ensures.a_node answer
+
+pub at_defender-returns-in_err-won-clause-same : goal.at_defender-returns-in_err-won-clause-same
+at_defender-returns-in_err-won-clause-same g t c = same_more g.met.S.FrontStore.grown_more c.cards.invariant.same c.in_err-won.ensures.same
+
+pub at_defender-returns-in_err-add-clause-same : goal.at_defender-returns-in_err-add-clause-same
+at_defender-returns-in_err-add-clause-same g t c = same_more g.met.S.FrontStore.grown_more c.cards.invariant.same c.in_ok-won.ensures.same
 
 pub at_defender-returns-in_err-add-clause-costs : goal.at_defender-returns-in_err-add-clause-costs
 at_defender-returns-in_err-add-clause-costs g t c =
