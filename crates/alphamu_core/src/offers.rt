@@ -1,4 +1,4 @@
-// What a search gives to its store.
+// What a search gives to its store, which the αμ papers call a transposition table.
 ghost use Rattle.std.specs.Prelude.{IfOk};
 ghost use Rattle.alphamu_core.specs.Findings.{IsFrontIfExact};
 

@@ -10,6 +10,14 @@ use pareto_fronts::Front;
 use trick_rules::Node;
 use win_vectors::WinVector;
 
+// Judges the layouts of a node, until alpha dominates what is left if a cut is allowed.
+#[derive(Drop)]
+struct Judge<'a> {
+    node: &'a Node,
+    alpha: &'a Front,
+    may_cut: bool,
+}
+
 /// Double dummy's result in each layout; or none, if a cut is allowed and alpha dominates them.
 ///
 /// The layouts at which some vector of alpha has 0 are judged first, because only they tell whether
@@ -23,8 +31,13 @@ pub fn results(solver: &mut Solver, node: &Node, alpha: &Front, may_cut: bool) -
 {
     let sure = common(alpha);
     let all = WinVector::all(node.width());
-    let made = judge(solver, node, sure, false, all, alpha, may_cut)?;
-    judge(solver, node, sure, true, made, alpha, may_cut)
+    let judge = Judge {
+        node,
+        alpha,
+        may_cut,
+    };
+    let made = judge.judge(solver, sure, false, all)?;
+    judge.judge(solver, sure, true, made)
 }
 
 // The vector with a 1 at each layout at which every vector of the front has 1.
@@ -39,35 +52,35 @@ fn common(front: &Front) -> WinVector
     ones
 }
 
-// Judges the layouts at which the mask has this bit, and takes out those that can't be made; or
-// none, if a cut is allowed and alpha dominates what is left.
-fn judge(
-    solver: &mut Solver,
-    node: &Node,
-    mask: WinVector,
-    bit: bool,
-    start: WinVector,
-    alpha: &Front,
-    may_cut: bool,
-) -> Option<WinVector>
-    requires alpha { alpha.now.width ≡ length node.now.lefts }
-    requires mask { length mask ≡ length node.now.lefts }
-    requires above { Dominates start (map makes (states node.now)) }
-    ensures judged { IfSome result (λ made.
-        IsJudged (map makes (states node.now)) mask bit start (length node.now.lefts) made) }
-    ensures cut { IsNone result → (may_cut ≡ true)
-        × Covers alpha.now.vectors (map makes (states node.now)) }
-{
-    let mut made = start;
-    for place in 0..node.width() {
-        if mask.get(place) == bit {
-            made = judge_at(solver, node, place, made);
-            if may_cut && alpha.covers(&made) {
-                return None;
+impl Judge<'_> {
+    // Judges the layouts at which the mask has this bit, and takes out those that can't be made; or
+    // none, if a cut is allowed and alpha dominates what is left.
+    fn judge(
+        &self,
+        solver: &mut Solver,
+        mask: WinVector,
+        bit: bool,
+        start: WinVector,
+    ) -> Option<WinVector>
+        requires alpha { self.now.alpha.now.width ≡ length self.now.node.now.lefts }
+        requires mask { length mask ≡ length self.now.node.now.lefts }
+        requires above { Dominates start (map makes (states self.now.node.now)) }
+        ensures judged { IfSome result (λ made. IsJudged (map makes (states self.now.node.now))
+            mask bit start (length self.now.node.now.lefts) made) }
+        ensures cut { IsNone result → (self.now.may_cut ≡ true)
+            × Covers self.now.alpha.now.vectors (map makes (states self.now.node.now)) }
+    {
+        let mut made = start;
+        for place in 0..self.node.width() {
+            if mask.get(place) == bit {
+                made = judge_at(solver, self.node, place, made);
+                if self.may_cut && self.alpha.covers(&made) {
+                    return None;
+                }
             }
         }
+        Some(made)
     }
-    Some(made)
 }
 
 // Takes a layout out if it can't be made.

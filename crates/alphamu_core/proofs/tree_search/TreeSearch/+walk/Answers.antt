@@ -11,12 +11,12 @@ use Rattle.strategy_tree.proofs.CardLists.{has_card-from_Contains}
 use Rattle.strategy_tree.proofs.BridgeLaws.{sizes}
 use Rattle.strategy_tree.proofs.BridgeNodes.{stopped, tree_size-positive}
 use Rattle.alphamu_core.proofs.Bounds.{cuts_early, width_of_upper, never_reached}
-use Rattle.alphamu_core.proofs.OpenNodes.{size_ours, size_theirs}
+use Rattle.alphamu_core.proofs.OpenNodes.{fewer_by_four, size_ours, size_theirs}
 use Rattle.alphamu_core.proofs.Paid.{costs_memory, costs_one, costs_none, paid_none, paid_more, paid_memory, paid_all, paid_below}
 use Rattle.alphamu_core.proofs.SameSearch.{same_none, same_more, still_early, costs_by}
-use Rattle.alphamu_core.proofs.OursSoFar.{ours_none, ours_all, ours_enough, ours_next, ours_fewer, ours_width, ours_found_width, ours_more}
+use Rattle.alphamu_core.proofs.OursSoFar.{ours_none, ours_all, ours_enough, ours_next, ours_width, ours_found_width, ours_more}
 use Rattle.alphamu_core.proofs.Taken.{taken_first}
-use Rattle.alphamu_core.proofs.TheirsSoFar.{theirs_none, theirs_covered, theirs_all, theirs_cut, theirs_next, theirs_fewer, theirs_width, theirs_filled, theirs_exact, theirs_more}
+use Rattle.alphamu_core.proofs.TheirsSoFar.{theirs_none, theirs_covered, theirs_all, theirs_cut, theirs_next, theirs_width, theirs_filled, theirs_exact, theirs_more}
 use Rattle.alphamu_core.proofs.tree_search.TreeSearch.+walk.Goals as goal
 
 -- ---- declarer's side
@@ -38,7 +38,8 @@ at_declarer-returns-in_err-child-clause-costs g t c =
 
 pub at_declarer-visit-requires : goal.at_declarer-visit-requires
 at_declarer-visit-requires g t c κs within =
-    let less = ours_fewer c.args.node.now (c.args.moves - 1) c.cards.invariant.so c.in-Some.ensures c.in_ok-child.ensures.node c.width.ensures.a_node in
+    let next = ours_next c.args.node.now (c.args.moves - 1) c.cards.invariant.so c.in-Some.ensures in
+    let less = fewer_by_four c.args.node.now c.in_ok-child.child c.in-Some.card c.width.ensures.a_node next c.in_ok-child.ensures.node in
     (omega arith, (within, ours_width c.args.node.now (c.args.moves - 1) c.cards.invariant.so c.in-Some.ensures c.in_ok-child.ensures.node c.requires.ours))
 
 pub at_declarer-returns-in_err-found-clause-costs : goal.at_declarer-returns-in_err-found-clause-costs
@@ -124,7 +125,8 @@ at_defender-returns-in_err-child-clause-costs g t c =
 
 pub at_defender-visit-requires : goal.at_defender-visit-requires
 at_defender-visit-requires g t c κs within =
-    let less = theirs_fewer c.args.node.now c.args.moves c.cards.invariant.so (taken_first _ _ _ c.in-Some.ensures.value) c.in_ok-child.ensures.node c.width.ensures.a_node in
+    let next = theirs_next c.args.node.now c.args.moves c.cards.invariant.so (taken_first _ _ _ c.in-Some.ensures.value) in
+    let less = fewer_by_four c.args.node.now c.in_ok-child.child c.in-Some.card c.width.ensures.a_node next c.in_ok-child.ensures.node in
     (omega arith, (within, c.new-none.ensures.width ∙ c.width-in-Some.ensures.value))
 
 pub at_defender-returns-in_err-won-clause-costs : goal.at_defender-returns-in_err-won-clause-costs
