@@ -90,56 +90,10 @@ written_size n moves path before after cards numbers rest sound are so =
     (λ c mem. subst (λ cs. Contains cs c) (sym are) (Contains-append_first cards rest c mem)) in
     omega arith
 
-sum_so_far : (size : ℕ → ℕ) (all cards rest : List ℕ) (card : ℕ) → all ≡ cards ++ card ∷ rest → sum_by size cards + size card + sum_by size rest ≡ sum_by size all
+pub sum_so_far : (size : ℕ → ℕ) (all cards rest : List ℕ) (card : ℕ) → all ≡ cards ++ card ∷ rest → sum_by size cards + size card + sum_by size rest ≡ sum_by size all
 sum_so_far size all cards rest card are =
     let whole = ap (sum_by size) are ∙ sum_by-append size cards (card ∷ rest) in
     omega (arith, sum_by-cons size card rest)
-
--- where a child's tree is too large for the limit, the node's is
-pub spent_ours : (n kept : NodeValue) (moves limit : ℕ) (path : List ℕ) (before mid : WrittenLog) (cards numbers rest : List ℕ) (card : ℕ) → IsNode n
-    → stops n moves ≡ false → is_declarers (to_play n.position) ≡ true → choices n ≡ cards ++ card ∷ rest
-    → AreWritten n (moves - 1) path before cards numbers mid → kept ≡ child n card
-    → limit < mid.count + tree_size bridge kept (moves - 1) → limit < before.count + tree_size bridge n moves
-spent_ours n kept moves limit path before mid cards numbers rest card sound on ours are so kept_is over =
-    let long = written_size n (moves - 1) path before mid cards numbers (card ∷ rest) sound are so in
-    let sums = sum_so_far (size_after n (moves - 1)) (choices n) cards rest card are in
-    let whole = size_ours n moves sound (stops-bridge n moves ∙ on) ours in
-    let same : tree_size bridge kept (moves - 1) ≡ size_after n (moves - 1) card = ap (λ (k : NodeValue). tree_size bridge k (moves - 1)) kept_is in
-    omega arith
-
-pub spent_theirs : (n kept : NodeValue) (moves limit : ℕ) (path : List ℕ) (before mid : WrittenLog) (cards numbers rest : List ℕ) (card : ℕ) → IsNode n
-    → stops n moves ≡ false → is_declarers (to_play n.position) ≡ false → choices n ≡ cards ++ card ∷ rest
-    → AreWritten n moves path before cards numbers mid → kept ≡ child n card
-    → limit < mid.count + tree_size bridge kept moves → limit < before.count + tree_size bridge n moves
-spent_theirs n kept moves limit path before mid cards numbers rest card sound on theirs are so kept_is over =
-    let long = written_size n moves path before mid cards numbers (card ∷ rest) sound are so in
-    let sums = sum_so_far (size_after n moves) (choices n) cards rest card are in
-    let whole = size_theirs n moves sound (stops-bridge n moves ∙ on) theirs in
-    let same : tree_size bridge kept moves ≡ size_after n moves card = ap (λ (k : NodeValue). tree_size bridge k moves) kept_is in
-    omega arith
-
--- where no line more fits, either
-pub full_ours : (n : NodeValue) (moves limit : ℕ) (path : List ℕ) (before mid : WrittenLog) (cards numbers rest : List ℕ) → IsNode n
-    → stops n moves ≡ false → is_declarers (to_play n.position) ≡ true → choices n ≡ cards ++ rest → rest ≡ []
-    → AreWritten n (moves - 1) path before cards numbers mid
-    → limit < mid.count + 1 → limit < before.count + tree_size bridge n moves
-full_ours n moves limit path before mid cards numbers rest sound on ours are none so over =
-    let long = written_size n (moves - 1) path before mid cards numbers rest sound are so in
-    let all : choices n ≡ cards = are ∙ ap (λ cs. cards ++ cs) none ∙ append-nil cards in
-    let sums = ap (sum_by (size_after n (moves - 1))) all in
-    let whole = size_ours n moves sound (stops-bridge n moves ∙ on) ours in
-    omega arith
-
-pub full_theirs : (n : NodeValue) (moves limit : ℕ) (path : List ℕ) (before mid : WrittenLog) (cards numbers rest : List ℕ) → IsNode n
-    → stops n moves ≡ false → is_declarers (to_play n.position) ≡ false → choices n ≡ cards ++ rest → rest ≡ []
-    → AreWritten n moves path before cards numbers mid
-    → limit < mid.count + 1 → limit < before.count + tree_size bridge n moves
-full_theirs n moves limit path before mid cards numbers rest sound on theirs are none so over =
-    let long = written_size n moves path before mid cards numbers rest sound are so in
-    let all : choices n ≡ cards = are ∙ ap (λ cs. cards ++ cs) none ∙ append-nil cards in
-    let sums = ap (sum_by (size_after n moves)) all in
-    let whole = size_theirs n moves sound (stops-bridge n moves ∙ on) theirs in
-    omega arith
 
 -- ---- the node's own line
 
@@ -151,33 +105,3 @@ grown_leaf n moves path before after front line stop is line_is longer = record 
   longer = subst (λ (l : LogLine). IsLongerBy (l ∷ []) before after) line_is longer;
   are = at_stop n moves path (before.count) front stop is;
 }
-
-pub grown_union : (n : NodeValue) (moves : ℕ) (path : List ℕ) (before mid after : WrittenLog) (cards numbers rest : List ℕ) (front : List Vector) (line : LogLine)
-    → stops n moves ≡ false → is_declarers (to_play n.position) ≡ true → choices n ≡ cards ++ rest → rest ≡ []
-    → AreWritten n (moves - 1) path before cards numbers mid
-    → IsFront bridge n moves front → line ≡ line_of Union path moves numbers front → IsLongerBy (line ∷ []) mid after
-    → HasGrown n moves path before after
-grown_union n moves path before mid after cards numbers rest front line on ours are none so is line_is longer =
-    let all : cards ≡ choices n = sym (are ∙ ap (λ cs. cards ++ cs) none ∙ append-nil cards) in
-    let own = line_of Union path moves numbers front in
-    record {
-      lines = so.lines ++ own ∷ [];
-      longer = longer-more so.lines (own ∷ []) before mid after so.longer (subst (λ (l : LogLine). IsLongerBy (l ∷ []) mid after) line_is longer);
-      are = at_declarer n moves path (before.count) numbers so.lines front on ours is
-          (subst (λ cs. AreLogsFrom n (moves - 1) path (before.count) cs numbers so.lines) all so.are);
-    }
-
-pub grown_join : (n : NodeValue) (moves : ℕ) (path : List ℕ) (before mid after : WrittenLog) (cards numbers rest : List ℕ) (front : List Vector) (line : LogLine)
-    → stops n moves ≡ false → is_declarers (to_play n.position) ≡ false → choices n ≡ cards ++ rest → rest ≡ []
-    → AreWritten n moves path before cards numbers mid
-    → IsFront bridge n moves front → line ≡ line_of Join path moves numbers front → IsLongerBy (line ∷ []) mid after
-    → HasGrown n moves path before after
-grown_join n moves path before mid after cards numbers rest front line on theirs are none so is line_is longer =
-    let all : cards ≡ choices n = sym (are ∙ ap (λ cs. cards ++ cs) none ∙ append-nil cards) in
-    let own = line_of Join path moves numbers front in
-    record {
-      lines = so.lines ++ own ∷ [];
-      longer = longer-more so.lines (own ∷ []) before mid after so.longer (subst (λ (l : LogLine). IsLongerBy (l ∷ []) mid after) line_is longer);
-      are = at_defender n moves path (before.count) numbers so.lines front on theirs is
-          (subst (λ cs. AreLogsFrom n moves path (before.count) cs numbers so.lines) all so.are);
-    }

@@ -7,4 +7,6 @@ pub mod RootCards
 pub mod Faults
 pub mod Depths
 pub mod FrontsSoFar
+pub mod CardsSoFar
+pub mod SameWriter
 pub mod RootLogs

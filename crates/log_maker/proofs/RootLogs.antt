@@ -1,15 +1,18 @@
 -- The log of a root, card by card.
-use Rattle.std.proofs.Common.{◌≡◌, ◌≤◌, ◌<◌, ◌+◌, ◌*◌, ◌∙◌, ℕ, zero, suc, true, List, [], ◌∷◌, ◌++◌, length, Contains, refl, sym, ap, subst, ⊎_elim, arith}
+use Rattle.std.proofs.Common.{◌≡◌, ◌≤◌, ◌<◌, ◌+◌, ◌-◌, ◌*◌, ◌∙◌, ℕ, zero, suc, true, List, [], ◌∷◌, ◌++◌, length, Contains, refl, sym, ap, subst, ⊎_elim, arith}
 use Rattle.std.proofs.lemmas.List.{length-append, length_push}
-use Rattle.win_vectors.specs.Fronts.{Vector}
+use Rattle.win_vectors.specs.Fronts.{Vector, IsReduced}
+use Rattle.pareto_fronts.specs.FrontValue.{FrontValue}
 use Rattle.trick_rules.specs.Positions.{to_play}
 use Rattle.trick_rules.specs.Play.{is_declarers}
 use Rattle.trick_rules.specs.Nodes.{NodeValue, IsNode, stops, choices, child}
 use Rattle.strategy_games.specs.Plans.{IsFront, tree_size}
+use Rattle.strategy_games.specs.Joins.{WinsByCard}
 use Rattle.strategy_games.specs.Choosing.{IsFirstOf}
 use Rattle.strategy_games.proofs.Lists.{Contains-append, Contains-single}
 use Rattle.strategy_tree.specs.Bridge.{bridge}
 use Rattle.strategy_tree.proofs.Rules.{lawful}
+use Rattle.front_table.specs.Proven.{IsFrontAt}
 use Rattle.log_check.specs.declared.lines.Rule.TheVariants.{Leaf}
 use Rattle.log_check.specs.declared.lines.LogLine.{LogLine}
 use Rattle.log_texts.specs.Written.{WrittenLog, begun, finished, IsLongerBy}
@@ -18,7 +21,8 @@ use Rattle.log_maker.specs.LogsFor.{line_of, IsLogFrom, IsLogTextFor}
 use Rattle.log_maker.specs.Steps.{HasGrown}
 use Rattle.log_maker.proofs.LogSizes.{lines-counted}
 use Rattle.log_maker.proofs.Growing.{AreWritten, written_none, grown_leaf}
-use Rattle.log_maker.proofs.FrontsSoFar.{member}
+use Rattle.log_maker.proofs.FrontsSoFar.{cards_more, member, more_ours}
+use Rattle.log_maker.proofs.CardsSoFar.{CardsSoFar, with_next, written_next}
 use Rattle.log_maker.proofs.RootCards.{few_choices}
 
 pub text_from_grown : (n : NodeValue) (moves : ℕ) (before after : WrittenLog) (text : List ℕ) → HasGrown n moves [] before after → before ≡ begun
@@ -89,3 +93,30 @@ pub root_spent : (n : NodeValue) (moves nodes : ℕ) (earlier rest : List ℕ) (
 root_spent n moves nodes earlier rest card other are fit spent =
     subst (λ d. IsFirstOf (λ c. nodes < tree_size bridge (child n c) moves) (choices n) d) (sym spent.0)
     (earlier, rest, are, λ c mem over. (let within = fit c mem in omega arith), spent.1)
+
+-- the root cards so far: none of their trees is too large, and each has added no more lines than a root card may
+pub record RootSoFar (n : NodeValue) (moves nodes : ℕ) (cards : List ℕ) (front : FrontValue) (numbers : List ℕ) (log : WrittenLog) : Type 0 where
+  pub so : CardsSoFar (WinsByCard bridge n (moves - 1)) n (moves - 1) [] begun cards front numbers log
+  pub short : log.count ≤ 268435456 * length so.earlier
+  pub fit : (c : ℕ) → Contains so.earlier c → tree_size bridge (child n c) (moves - 1) ≤ nodes
+
+-- with the next card
+pub root_more : {n : NodeValue} {moves nodes : ℕ} {cards : List ℕ} {front : FrontValue} {numbers : List ℕ} {mid : WrittenLog} → RootSoFar n moves nodes cards front numbers mid
+    → {card number : ℕ} {rest more_numbers : List ℕ} {won wider : FrontValue} {after : WrittenLog} → cards ≡ card ∷ rest → IsNode n → nodes ≤ 268435456
+    → IsFrontAt (child n card) (moves - 1) won → wider.width ≡ front.width → IsReduced (front.vectors ++ won.vectors) wider.vectors
+    → HasGrown (child n card) (moves - 1) (card ∷ []) mid after → after.count ≤ mid.count + nodes → number ≡ after.count → more_numbers ≡ numbers ++ number ∷ []
+    → RootSoFar n moves nodes rest wider more_numbers after
+root_more {n} {moves} {nodes} {cards} {front} {numbers} {mid} root {card} {number} {rest} {more_numbers} {won} {wider} {after} next sound few child_front same_width best grown fits number_is numbers_are =
+    let so = root.so in
+    let front_is = more_ours n (child n card) (moves - 1) so.earlier card front.vectors won.vectors wider.vectors so.best refl child_front.front best in
+    record {
+      so = record {
+        earlier = so.earlier ++ card ∷ [];
+        are = cards_more (choices n) so.earlier rest card (with_next so next);
+        width = same_width ∙ so.width;
+        best = front_is;
+        written = written_next so card grown refl refl number_is numbers_are;
+      };
+      short = root_length so.earlier card nodes mid after root.short few fits;
+      fit = root_fits n (moves - 1) nodes so.earlier rest card mid after sound (with_next so next) grown fits root.fit;
+    }

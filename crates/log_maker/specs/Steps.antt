@@ -1,8 +1,14 @@
 -- A log that is being written.
-use Rattle.std.specs.Prelude.{ℕ, List}
-use Rattle.trick_rules.specs.Nodes.{NodeValue}
+use Rattle.std.specs.Prelude.{◌≡◌, ◌≤◌, ◌<◌, ◌+◌, ◌-◌, ℕ, List, Contains}
+use Rattle.trick_rules.specs.Nodes.{NodeValue, choices, child}
+use Rattle.strategy_games.specs.Plans.{tree_size}
+use Rattle.strategy_games.specs.Choosing.{IsFirstOf}
+use Rattle.strategy_tree.specs.Bridge.{bridge}
+use Rattle.pareto_fronts.specs.FrontValue.{FrontValue}
+use Rattle.front_table.specs.Proven.{IsFrontAt}
 use Rattle.log_check.specs.declared.lines.LogLine.{LogLine}
 use Rattle.log_texts.specs.Written.{WrittenLog, IsLongerBy}
+use Rattle.log_maker.specs.declared.tree_writer.TreeWriter.{TreeWriter}
 use Rattle.log_maker.specs.LogsFor.{IsLogFrom}
 
 -- it has grown by the lines of a node
@@ -11,3 +17,32 @@ pub record HasGrown (n : NodeValue) (moves : ℕ) (path : List ℕ) (before afte
   pub lines : List LogLine
   pub longer : IsLongerBy lines before after
   pub are : IsLogFrom n moves path before.count lines
+
+-- the writer goes on with the same log, which may have grown, and with the same limit
+pub record IsSameWriter (before after : TreeWriter) : Type 0 where
+  pub log : after.log.ghost_name ≡ before.log.ghost_name
+  pub limit : after.limit ≡ before.limit
+
+-- the node's front was found, and the log has grown by the node's lines and keeps to the limit
+pub record IsWritten (n : NodeValue) (moves : ℕ) (path : List ℕ) (before after : TreeWriter)
+    (found : FrontValue) : Type 0 where
+  pub front : IsFrontAt n moves found
+  pub grown : HasGrown n moves path before.log.now after.log.now
+  pub fits : after.log.now.count ≤ before.limit
+
+-- a line for each of the node's tree would be more than the limit allows
+abbrev pub IsTooLong : NodeValue → ℕ → TreeWriter → Type 0
+IsTooLong n moves writer = writer.limit < writer.log.now.count + tree_size bridge n moves
+
+-- the tree after a root card, with a move less, has more nodes than this
+abbrev pub IsTooLarge : NodeValue → ℕ → ℕ → ℕ → Type 0
+IsTooLarge n moves nodes card = nodes < tree_size bridge (child n card) (moves - 1)
+
+-- no tree after a root card is too large
+abbrev pub AllFit : NodeValue → ℕ → ℕ → Type 0
+AllFit n moves nodes = (card : ℕ) → Contains (choices n) card
+    → tree_size bridge (child n card) (moves - 1) ≤ nodes
+
+-- this root card is the first after which the tree is too large
+abbrev pub IsFirstSpentAt : NodeValue → ℕ → ℕ → ℕ → Type 0
+IsFirstSpentAt n moves nodes card = IsFirstOf (IsTooLarge n moves nodes) (choices n) card

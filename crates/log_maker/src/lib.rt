@@ -7,5 +7,6 @@ pub mod laws;
 mod lines;
 mod root;
 mod tree;
+mod tree_writer;
 
 pub use root::{MOST_NODES, log_of};

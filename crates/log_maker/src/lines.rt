@@ -1,16 +1,12 @@
 //! A line of a log from its parts.
-ghost use Rattle.std.specs.Prelude.{◌≡◌, ◌≤◌, ◌<◌, ◌++◌, ◌∷◌, [], length, map, IfOk, IsErrOf, OnOk};
+ghost use Rattle.std.specs.Prelude.{◌≡◌, ◌<◌, ◌++◌, ◌∷◌, [], length, map, IfOk};
 ghost use Rattle.trick_rules.specs.Play.{makes};
 ghost use Rattle.trick_rules.specs.Nodes.{states};
-ghost use Rattle.log_check.specs.Limits.{most_lines};
-ghost use Rattle.log_texts.specs.Written.{IsLongerBy};
 ghost use Rattle.log_maker.specs.LogsFor.{line_of};
 
-use alphamu_core::SearchFault;
 use card_sets::Card;
 use dd_solver::Solver;
 use log_check::{LineList, LogLine, Rule, VectorList};
-use log_texts::LogWriter;
 use pareto_fronts::Front;
 use std::alloc::{AllocError, Global};
 use trick_rules::{CardLine, Node};
@@ -62,23 +58,4 @@ pub fn line_with(
         from,
         vectors,
     })
-}
-
-/// Writes a line at the end of a log that may have at most `limit` lines.
-pub fn push_within(
-    alloc: Global,
-    log: &mut LogWriter,
-    limit: u32,
-    line: &LogLine,
-) -> Result<(), SearchFault>
-    requires { limit ≤ most_lines }
-    ensures pushed { OnOk result (IsLongerBy (line.now ∷ []) log.old log.new) }
-    ensures fits { OnOk result (log.new.count ≤ limit) }
-    ensures spent { IsErrOf result SearchFault.Spent → limit ≤ log.old.count }
-{
-    if log.len() >= limit {
-        return Err(SearchFault::Spent);
-    }
-    log.push(alloc, line)?;
-    Ok(())
 }

@@ -1,19 +1,17 @@
 //! The log of a root, in which each card has its own number of nodes.
-ghost use Rattle.std.specs.Prelude.{◌≡◌, ◌≤◌, ◌<◌, ◌+◌, ◌-◌, ◌∷◌, [], ℕ, true, false, length};
+ghost use Rattle.std.specs.Prelude.{◌≡◌, ◌≤◌, ◌∷◌, [], ℕ, true, false};
 ghost use Rattle.std.specs.Prelude.{Contains, IfOk, IsErrOf};
 ghost use Rattle.trick_rules.specs.Positions.{to_play};
 ghost use Rattle.trick_rules.specs.Play.{is_declarers};
 ghost use Rattle.trick_rules.specs.Nodes.{IsNode, stops, choices, child, most_moves};
-ghost use Rattle.strategy_games.specs.Plans.{tree_size};
-ghost use Rattle.strategy_games.specs.Choosing.{IsFirstOf};
 ghost use Rattle.strategy_tree.specs.Bridge.{bridge};
-ghost use Rattle.front_table.specs.Proven.{IsFrontAt};
 ghost use Rattle.log_check.specs.Limits.{most_lines};
 ghost use Rattle.log_maker.specs.LogsFor.{IsLogTextFor};
-ghost use Rattle.log_maker.specs.Steps.{HasGrown};
+ghost use Rattle.log_maker.specs.Steps.{IsWritten, IsTooLong, IsSameWriter, AllFit, IsFirstSpentAt};
 
 use crate::lines::{line_with, path_after};
-use crate::tree::{leaf, write_node};
+use crate::tree::leaf;
+use crate::tree_writer::TreeWriter;
 use alphamu_core::{RootFault, SearchFault};
 use byte_text::Text;
 use card_sets::Card;
@@ -48,11 +46,9 @@ pub fn log_of(
     requires few_moves { moves ≤ most_moves }
     requires few_nodes { nodes ≤ MOST_NODES }
     ensures text { IfOk result (IsLogTextFor node.now moves) }
-    ensures fits { IfOk result (λ _. (card : ℕ) → Contains (choices node.now) card
-        → tree_size bridge (child node.now card) (moves - 1) ≤ nodes) }
+    ensures fits { IfOk result (λ _. AllFit node.now moves nodes) }
     ensures spent { (card : ℕ) → IsErrOf result (RootFault.Spent card)
-        → IsFirstOf (λ c. nodes < tree_size bridge (child node.now c) (moves - 1))
-        (choices node.now) card }
+        → IsFirstSpentAt node.now moves nodes card }
 {
     if node.stops(moves) {
         log_where_decided(alloc, solver, node, moves, nodes)
@@ -72,11 +68,9 @@ fn log_where_decided(
     requires some_moves { 1 ≤ moves }
     requires stops { stops node.now moves ≡ true }
     ensures text { IfOk result (IsLogTextFor node.now moves) }
-    ensures fits { IfOk result (λ _. (card : ℕ) → Contains (choices node.now) card
-        → tree_size bridge (child node.now card) (moves - 1) ≤ nodes) }
+    ensures fits { IfOk result (λ _. AllFit node.now moves nodes) }
     ensures spent { (card : ℕ) → IsErrOf result (RootFault.Spent card)
-        → IsFirstOf (λ c. nodes < tree_size bridge (child node.now c) (moves - 1))
-        (choices node.now) card }
+        → IsFirstSpentAt node.now moves nodes card }
 {
     let mut cards = node.choices();
     if let Some(card) = cards.pop_first() {
@@ -103,18 +97,23 @@ fn log_by_cards(
     requires goes_on { stops node.now moves ≡ false }
     requires few_nodes { nodes ≤ MOST_NODES }
     ensures text { IfOk result (IsLogTextFor node.now moves) }
-    ensures fits { IfOk result (λ _. (card : ℕ) → Contains (choices node.now) card
-        → tree_size bridge (child node.now card) (moves - 1) ≤ nodes) }
+    ensures fits { IfOk result (λ _. AllFit node.now moves nodes) }
     ensures spent { (card : ℕ) → IsErrOf result (RootFault.Spent card)
-        → IsFirstOf (λ c. nodes < tree_size bridge (child node.now c) (moves - 1))
-        (choices node.now) card }
+        → IsFirstSpentAt node.now moves nodes card }
 {
     let mut log = LogWriter::new(alloc)?;
     let mut front = Front::new(alloc, node.width());
     let mut from = LineList::new(alloc);
     let mut cards = node.choices();
     'cards: while let Some(card) = cards.pop_first() {
-        let won = write_after(alloc, solver, node, card, moves - 1, nodes, &mut log)?;
+        let limit = log.len() + nodes;
+        let mut writer = TreeWriter {
+            alloc,
+            solver,
+            log: &mut log,
+            limit,
+        };
+        let won = writer.write_after(node, card, moves - 1)?;
         front.union(&won)?;
         from.push(log.len())?;
     }
@@ -124,32 +123,24 @@ fn log_by_cards(
     Ok(text)
 }
 
-// The lines after a root card, with `moves` moves left.
-fn write_after(
-    alloc: Global,
-    solver: &mut Solver,
-    node: &Node,
-    card: Card,
-    moves: u8,
-    nodes: u32,
-    log: &mut LogWriter,
-) -> Result<Front, RootFault>
-    requires a_node { IsNode node.now }
-    requires card { Contains (choices node.now) card }
-    requires room { log.old.count + nodes ≤ most_lines }
-    ensures front { IfOk result (IsFrontAt (child node.now card) moves) }
-    ensures grown { IfOk result (λ _.
-        HasGrown (child node.now card) moves (card ∷ []) log.old log.new) }
-    ensures fits { IfOk result (λ _. log.new.count ≤ log.old.count + nodes) }
-    ensures spent { (other : ℕ) → IsErrOf result (RootFault.Spent other)
-        → (other ≡ card) × (nodes < tree_size bridge (child node.now card) moves) }
-{
-    let (child, _) = node.child(alloc, card)?;
-    let behind = path_after(&CardLine::new(), card);
-    let limit = log.len() + nodes;
-    match write_node(alloc, solver, &child, moves, behind, limit, log) {
-        Ok(front) => Ok(front),
-        Err(SearchFault::Spent) => Err(RootFault::Spent(card)),
-        Err(SearchFault::Memory) => Err(RootFault::Memory),
+impl TreeWriter<'_> {
+    // The lines after a root card, with `moves` moves left.
+    fn write_after(&mut self, node: &Node, card: Card, moves: u8) -> Result<Front, RootFault>
+        requires a_node { IsNode node.now }
+        requires card { Contains (choices node.now) card }
+        requires limit { self.old.limit ≤ most_lines }
+        ensures written { IfOk result
+            (IsWritten (child node.now card) moves (card ∷ []) self.old self.new) }
+        ensures spent { (other : ℕ) → IsErrOf result (RootFault.Spent other)
+            → (other ≡ card) × IsTooLong (child node.now card) moves self.old }
+        ensures same { IsSameWriter self.old self.new }
+    {
+        let (child, _) = node.child(self.alloc, card)?;
+        let behind = path_after(&CardLine::new(), card);
+        match self.write_node(&child, moves, behind) {
+            Ok(front) => Ok(front),
+            Err(SearchFault::Spent) => Err(RootFault::Spent(card)),
+            Err(SearchFault::Memory) => Err(RootFault::Memory),
+        }
     }
 }

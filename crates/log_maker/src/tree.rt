@@ -1,55 +1,117 @@
-//! The lines of a node behind those of its children.
-ghost use Rattle.std.specs.Prelude.{◌≡◌, ◌≤◌, ◌<◌, ◌+◌, [], true, false, length, IfOk, IsErrOf};
+//! αμ without cuts, line by line: a union at declarer's nodes and a join at a defender's, each behind
+//! the lines of the node's children.
+ghost use Rattle.std.specs.Prelude.{◌≡◌, ◌≤◌, ◌+◌, [], true, false, length, IfOk, IsErrOf};
 ghost use Rattle.trick_rules.specs.Positions.{to_play};
 ghost use Rattle.trick_rules.specs.Play.{is_declarers, cards_left};
 ghost use Rattle.trick_rules.specs.Nodes.{IsNode, stops};
-ghost use Rattle.strategy_games.specs.Plans.{tree_size};
-ghost use Rattle.strategy_tree.specs.Bridge.{bridge};
 ghost use Rattle.front_table.specs.Proven.{IsFrontAt};
 ghost use Rattle.log_check.specs.Limits.{most_lines};
 ghost use Rattle.log_maker.specs.LogsFor.{line_of};
-ghost use Rattle.log_maker.specs.Steps.{HasGrown};
+ghost use Rattle.log_maker.specs.Steps.{IsWritten, IsTooLong, IsSameWriter};
 
-use crate::lines::{line_with, path_after, push_within, results};
+use crate::lines::{line_with, path_after, results};
+use crate::tree_writer::TreeWriter;
 use alphamu_core::SearchFault;
 use dd_solver::Solver;
 use front_join::joined_front;
 use log_check::{LineList, LogLine, Rule};
-use log_texts::LogWriter;
 use pareto_fronts::Front;
 use std::alloc::{AllocError, Global};
 use trick_rules::{CardLine, Node};
 use win_vectors::WinVector;
 
-/// Writes the lines of a node with `moves` moves, which the path leads to, at the end of a log of
-/// at most `limit` lines, and gives the node's front.
-///
-/// Each front comes from the lines just written. If an error comes, some of the lines may have been
-/// written.
-#[cycle(tree)]
-pub fn write_node(
-    alloc: Global,
-    solver: &mut Solver,
-    node: &Node,
-    moves: u8,
-    path: CardLine,
-    limit: u32,
-    log: &mut LogWriter,
-) -> Result<Front, SearchFault>
-    requires path { length path + cards_left node.now.position ≤ 52 }
-    requires limit { limit ≤ most_lines }
-    ensures front { IfOk result (IsFrontAt node.now moves) }
-    ensures grown { IfOk result (λ _. HasGrown node.now moves path log.old log.new) }
-    ensures fits { IfOk result (λ _. log.new.count ≤ limit) }
-    ensures spent { IsErrOf result SearchFault.Spent
-        → limit < log.old.count + tree_size bridge node.now moves }
-{
-    if node.stops(moves) {
-        write_leaf(alloc, solver, node, moves, path, limit, log)
-    } else if node.is_ours() {
-        write_union(alloc, solver, node, moves, path, limit, log)
-    } else {
-        write_join(alloc, solver, node, moves, path, limit, log)
+impl TreeWriter<'_> {
+    /// Writes the lines of a node with `moves` moves, which the path leads to, at the end of the
+    /// log, and gives the node's front.
+    ///
+    /// Each front comes from the lines just written. If an error comes, some of the lines may have
+    /// been written.
+    #[cycle(tree)]
+    pub fn write_node(
+        &mut self,
+        node: &Node,
+        moves: u8,
+        path: CardLine,
+    ) -> Result<Front, SearchFault>
+        requires path { length path + cards_left node.now.position ≤ 52 }
+        requires limit { self.old.limit ≤ most_lines }
+        ensures written { IfOk result (IsWritten node.now moves path self.old self.new) }
+        ensures spent { IsErrOf result SearchFault.Spent → IsTooLong node.now moves self.old }
+        ensures same { IsSameWriter self.old self.new }
+    {
+        if node.stops(moves) {
+            self.write_leaf(node, moves, path)
+        } else if node.is_ours() {
+            self.write_union(node, moves, path)
+        } else {
+            self.write_join(node, moves, path)
+        }
+    }
+
+    // Where strategies stop: a leaf.
+    fn write_leaf(&mut self, node: &Node, moves: u8, path: CardLine) -> Result<Front, SearchFault>
+        requires stops { stops node.now moves ≡ true }
+        requires limit { self.old.limit ≤ most_lines }
+        ensures written { IfOk result (IsWritten node.now moves path self.old self.new) }
+        ensures spent { IsErrOf result SearchFault.Spent → IsTooLong node.now moves self.old }
+        ensures same { IsSameWriter self.old self.new }
+    {
+        let (line, front) = leaf(self.alloc, self.solver, node, moves, path)?;
+        self.push(&line)?;
+        Ok(front)
+    }
+
+    // At declarer's side: the lines after each card, with a move less, and then a union of them.
+    #[cycle(tree)]
+    fn write_union(&mut self, node: &Node, moves: u8, path: CardLine) -> Result<Front, SearchFault>
+        requires goes_on { stops node.now moves ≡ false }
+        requires ours { is_declarers (to_play node.now.position) ≡ true }
+        requires path { length path + cards_left node.now.position ≤ 52 }
+        requires limit { self.old.limit ≤ most_lines }
+        ensures written { IfOk result (IsWritten node.now moves path self.old self.new) }
+        ensures spent { IsErrOf result SearchFault.Spent → IsTooLong node.now moves self.old }
+        ensures same { IsSameWriter self.old self.new }
+    {
+        let mut front = Front::new(self.alloc, node.width());
+        let mut from = LineList::new(self.alloc);
+        let mut cards = node.choices();
+        'cards: while let Some(card) = cards.pop_first() {
+            let (child, _) = node.child(self.alloc, card)?;
+            let behind = path_after(&path, card);
+            let won = self.write_node(&child, moves - 1, behind)?;
+            front.union(&won)?;
+            from.push(self.log.len())?;
+        }
+        let line = line_with(self.alloc, Rule::Union, path, moves, from, &front)?;
+        self.push(&line)?;
+        Ok(front)
+    }
+
+    // At a defender: the lines after each card, with the same moves, and then a join of them.
+    #[cycle(tree)]
+    fn write_join(&mut self, node: &Node, moves: u8, path: CardLine) -> Result<Front, SearchFault>
+        requires goes_on { stops node.now moves ≡ false }
+        requires theirs { is_declarers (to_play node.now.position) ≡ false }
+        requires path { length path + cards_left node.now.position ≤ 52 }
+        requires limit { self.old.limit ≤ most_lines }
+        ensures written { IfOk result (IsWritten node.now moves path self.old self.new) }
+        ensures spent { IsErrOf result SearchFault.Spent → IsTooLong node.now moves self.old }
+        ensures same { IsSameWriter self.old self.new }
+    {
+        let mut front = Front::new(self.alloc, node.width());
+        front.insert(WinVector::all(node.width()))?;
+        let mut from = LineList::new(self.alloc);
+        let mut cards = node.choices();
+        'cards: while let Some(card) = cards.pop_first() {
+            let (child, mask) = node.child(self.alloc, card)?;
+            let behind = path_after(&path, card);
+            let won = self.write_node(&child, moves, behind)?;
+            front = joined_front(self.alloc, &front, &won, mask)?;
+            from.push(self.log.len())?;
+        }
+        let line = line_with(self.alloc, Rule::Join, path, moves, from, &front)?;
+        self.push(&line)?;
+        Ok(front)
     }
 }
 
@@ -71,100 +133,4 @@ pub fn leaf(
     let none = LineList::new(alloc);
     let line = line_with(alloc, Rule::Leaf, path, moves, none, &front)?;
     Ok((line, front))
-}
-
-// The same at the end of a log.
-fn write_leaf(
-    alloc: Global,
-    solver: &mut Solver,
-    node: &Node,
-    moves: u8,
-    path: CardLine,
-    limit: u32,
-    log: &mut LogWriter,
-) -> Result<Front, SearchFault>
-    requires stops { stops node.now moves ≡ true }
-    requires limit { limit ≤ most_lines }
-    ensures front { IfOk result (IsFrontAt node.now moves) }
-    ensures grown { IfOk result (λ _. HasGrown node.now moves path log.old log.new) }
-    ensures fits { IfOk result (λ _. log.new.count ≤ limit) }
-    ensures spent { IsErrOf result SearchFault.Spent
-        → limit < log.old.count + tree_size bridge node.now moves }
-{
-    let (line, front) = leaf(alloc, solver, node, moves, path)?;
-    push_within(alloc, log, limit, &line)?;
-    Ok(front)
-}
-
-// At declarer's side: the lines after each card, with a move less, and then a union of them.
-#[cycle(tree)]
-fn write_union(
-    alloc: Global,
-    solver: &mut Solver,
-    node: &Node,
-    moves: u8,
-    path: CardLine,
-    limit: u32,
-    log: &mut LogWriter,
-) -> Result<Front, SearchFault>
-    requires goes_on { stops node.now moves ≡ false }
-    requires ours { is_declarers (to_play node.now.position) ≡ true }
-    requires path { length path + cards_left node.now.position ≤ 52 }
-    requires limit { limit ≤ most_lines }
-    ensures front { IfOk result (IsFrontAt node.now moves) }
-    ensures grown { IfOk result (λ _. HasGrown node.now moves path log.old log.new) }
-    ensures fits { IfOk result (λ _. log.new.count ≤ limit) }
-    ensures spent { IsErrOf result SearchFault.Spent
-        → limit < log.old.count + tree_size bridge node.now moves }
-{
-    let mut front = Front::new(alloc, node.width());
-    let mut from = LineList::new(alloc);
-    let mut cards = node.choices();
-    'cards: while let Some(card) = cards.pop_first() {
-        let (child, _) = node.child(alloc, card)?;
-        let behind = path_after(&path, card);
-        let won = write_node(alloc, solver, &child, moves - 1, behind, limit, log)?;
-        front.union(&won)?;
-        from.push(log.len())?;
-    }
-    let line = line_with(alloc, Rule::Union, path, moves, from, &front)?;
-    push_within(alloc, log, limit, &line)?;
-    Ok(front)
-}
-
-// At a defender: the lines after each card, with the same moves, and then a join of them.
-#[cycle(tree)]
-fn write_join(
-    alloc: Global,
-    solver: &mut Solver,
-    node: &Node,
-    moves: u8,
-    path: CardLine,
-    limit: u32,
-    log: &mut LogWriter,
-) -> Result<Front, SearchFault>
-    requires goes_on { stops node.now moves ≡ false }
-    requires theirs { is_declarers (to_play node.now.position) ≡ false }
-    requires path { length path + cards_left node.now.position ≤ 52 }
-    requires limit { limit ≤ most_lines }
-    ensures front { IfOk result (IsFrontAt node.now moves) }
-    ensures grown { IfOk result (λ _. HasGrown node.now moves path log.old log.new) }
-    ensures fits { IfOk result (λ _. log.new.count ≤ limit) }
-    ensures spent { IsErrOf result SearchFault.Spent
-        → limit < log.old.count + tree_size bridge node.now moves }
-{
-    let mut front = Front::new(alloc, node.width());
-    front.insert(WinVector::all(node.width()))?;
-    let mut from = LineList::new(alloc);
-    let mut cards = node.choices();
-    'cards: while let Some(card) = cards.pop_first() {
-        let (child, mask) = node.child(alloc, card)?;
-        let behind = path_after(&path, card);
-        let won = write_node(alloc, solver, &child, moves, behind, limit, log)?;
-        front = joined_front(alloc, &front, &won, mask)?;
-        from.push(log.len())?;
-    }
-    let line = line_with(alloc, Rule::Join, path, moves, from, &front)?;
-    push_within(alloc, log, limit, &line)?;
-    Ok(front)
 }

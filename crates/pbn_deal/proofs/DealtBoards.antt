@@ -48,41 +48,29 @@ length-rest own dummy own_set dummy_set apart =
 
 -- ---- places
 
+each_compass : (test : Compass → Bool) → test N ≡ false → test E ≡ false → test S ≡ false → test W ≡ false → (declarer : Compass) → test declarer ≡ false
+each_compass test n e s w N = n
+each_compass test n e s w E = e
+each_compass test n e s w S = s
+each_compass test n e s w W = w
+
 partners_differ : (declarer : Compass) → (compass_place declarer == compass_place (compass_of declarer Dummy)) ≡ false
-partners_differ N = refl
-partners_differ E = refl
-partners_differ S = refl
-partners_differ W = refl
+partners_differ = each_compass (λ declarer. compass_place declarer == compass_place (compass_of declarer Dummy)) refl refl refl refl
 
 left_differs : (declarer : Compass) → (compass_place declarer == compass_place (compass_of declarer Left)) ≡ false
-left_differs N = refl
-left_differs E = refl
-left_differs S = refl
-left_differs W = refl
+left_differs = each_compass (λ declarer. compass_place declarer == compass_place (compass_of declarer Left)) refl refl refl refl
 
 right_differs : (declarer : Compass) → (compass_place declarer == compass_place (compass_of declarer Right)) ≡ false
-right_differs N = refl
-right_differs E = refl
-right_differs S = refl
-right_differs W = refl
+right_differs = each_compass (λ declarer. compass_place declarer == compass_place (compass_of declarer Right)) refl refl refl refl
 
 dummy_and_left : (declarer : Compass) → (compass_place (compass_of declarer Dummy) == compass_place (compass_of declarer Left)) ≡ false
-dummy_and_left N = refl
-dummy_and_left E = refl
-dummy_and_left S = refl
-dummy_and_left W = refl
+dummy_and_left = each_compass (λ declarer. compass_place (compass_of declarer Dummy) == compass_place (compass_of declarer Left)) refl refl refl refl
 
 dummy_and_right : (declarer : Compass) → (compass_place (compass_of declarer Dummy) == compass_place (compass_of declarer Right)) ≡ false
-dummy_and_right N = refl
-dummy_and_right E = refl
-dummy_and_right S = refl
-dummy_and_right W = refl
+dummy_and_right = each_compass (λ declarer. compass_place (compass_of declarer Dummy) == compass_place (compass_of declarer Right)) refl refl refl refl
 
 left_and_right : (declarer : Compass) → (compass_place (compass_of declarer Left) == compass_place (compass_of declarer Right)) ≡ false
-left_and_right N = refl
-left_and_right E = refl
-left_and_right S = refl
-left_and_right W = refl
+left_and_right = each_compass (λ declarer. compass_place (compass_of declarer Left) == compass_place (compass_of declarer Right)) refl refl refl refl
 
 -- ---- boards
 

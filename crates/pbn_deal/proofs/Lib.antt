@@ -10,3 +10,4 @@ pub mod CourseSteps
 pub mod PlaySound
 pub mod DealtBoards
 pub mod ReadBack
+pub mod Split

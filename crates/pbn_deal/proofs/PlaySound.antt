@@ -196,27 +196,21 @@ dummy_step course Left card a_set fair = same_hand course.dummy a_set
 dummy_step course Dummy card a_set fair = card_falls course.trick.cards course.dummy card a_set fair
 dummy_step course Right card a_set fair = same_hand course.dummy a_set
 
-declarer_falls : (trump : Trump) (plays : List Played) (course : Course) → IsCardSet course.declarer → IsCourse trump course plays
-    → HandFalls course.declarer (course_after trump course plays).declarer (plays_by is_declarer plays)
-unfolding plays_by
-declarer_falls trump [] course a_set fair = same_hand course.declarer a_set
-declarer_falls trump (play ∷ plays) course a_set fair =
-    let turn = fair.0 in
-    let here = declarer_step course play.seat play.card a_set fair.1 in
-    let moved : declarer_without play.seat play.card course.declarer ≡ (next_course trump course play.card).declarer = ap (λ s. declarer_without s play.card course.declarer) turn in
-    let later = declarer_falls trump plays (next_course trump course play.card) (subst IsCardSet moved here.a_set) fair.2 in
-    record { a_set = later.a_set; count = omega (arith, later.count, here.count, ap length moved) }
-
-dummy_falls : (trump : Trump) (plays : List Played) (course : Course) → IsCardSet course.dummy → IsCourse trump course plays
-    → HandFalls course.dummy (course_after trump course plays).dummy (plays_by is_dummy plays)
-unfolding plays_by
-dummy_falls trump [] course a_set fair = same_hand course.dummy a_set
-dummy_falls trump (play ∷ plays) course a_set fair =
-    let turn = fair.0 in
-    let here = dummy_step course play.seat play.card a_set fair.1 in
-    let moved : dummy_without play.seat play.card course.dummy ≡ (next_course trump course play.card).dummy = ap (λ s. dummy_without s play.card course.dummy) turn in
-    let later = dummy_falls trump plays (next_course trump course play.card) (subst IsCardSet moved here.a_set) fair.2 in
-    record { a_set = later.a_set; count = omega (arith, later.count, here.count, ap length moved) }
+-- one of declarer's side's hands falls with the plays by its seat
+module _ (hand : Course → List ℕ) (without : Seat → ℕ → List ℕ → List ℕ) (by : Seat → ℕ)
+    (step : (course : Course) (seat : Seat) (card : ℕ) → IsCardSet (hand course) → IsFair course seat card → HandFalls (hand course) (without seat card (hand course)) (by seat))
+    (goes : (trump : Trump) (course : Course) (card : ℕ) → without (turn_in course.trick) card (hand course) ≡ hand (next_course trump course card)) where
+  falls : (trump : Trump) (plays : List Played) (course : Course) → IsCardSet (hand course) → IsCourse trump course plays
+      → HandFalls (hand course) (hand (course_after trump course plays)) (plays_by by plays)
+  unfolding plays_by
+  falls trump [] course a_set fair = same_hand (hand course) a_set
+  falls trump (play ∷ plays) course a_set fair =
+      let turn = fair.0 in
+      let here = step course play.seat play.card a_set fair.1 in
+      let moved : without play.seat play.card (hand course) ≡ hand (next_course trump course play.card)
+      = ap (λ s. without s play.card (hand course)) turn ∙ goes trump course play.card in
+      let later = falls trump plays (next_course trump course play.card) (subst IsCardSet moved here.a_set) fair.2 in
+      record { a_set = later.a_set; count = omega (arith, later.count, here.count, ap length moved) }
 
 -- ---- a whole trick
 
@@ -226,19 +220,21 @@ record IsWholeTrick (trump : Trump) (course : Course) (plays : List Played) : Ty
   declarer_once : plays_by is_declarer plays ≡ 1
   dummy_once : plays_by is_dummy plays ≡ 1
 
-one_of_four : (leader : Seat) → is_declarer leader + (is_declarer (next_seat leader) + (is_declarer (next_seat (next_seat leader)) + (is_declarer (next_seat (next_seat (next_seat leader))) + 0))) ≡ 1
-unfolding is_declarer
-one_of_four Declarer = refl
-one_of_four Left = refl
-one_of_four Dummy = refl
-one_of_four Right = refl
+-- of the four seats from a leader on, one passes a test that one of the four seats passes
+one_of_four : (by : Seat → ℕ) → by Declarer + (by Left + (by Dummy + (by Right + 0))) ≡ 1 → (leader : Seat)
+    → by leader + (by (next_seat leader) + (by (next_seat (next_seat leader)) + (by (next_seat (next_seat (next_seat leader))) + 0))) ≡ 1
+one_of_four by one Declarer = one
+one_of_four by one Left = omega arith
+one_of_four by one Dummy = omega arith
+one_of_four by one Right = omega arith
 
-one_of_four_dummy : (leader : Seat) → is_dummy leader + (is_dummy (next_seat leader) + (is_dummy (next_seat (next_seat leader)) + (is_dummy (next_seat (next_seat (next_seat leader))) + 0))) ≡ 1
+declarer_of_four : is_declarer Declarer + (is_declarer Left + (is_declarer Dummy + (is_declarer Right + 0))) ≡ 1
+unfolding is_declarer
+declarer_of_four = refl
+
+dummy_of_four : is_dummy Declarer + (is_dummy Left + (is_dummy Dummy + (is_dummy Right + 0))) ≡ 1
 unfolding is_dummy
-one_of_four_dummy Declarer = refl
-one_of_four_dummy Left = refl
-one_of_four_dummy Dummy = refl
-one_of_four_dummy Right = refl
+dummy_of_four = refl
 
 trick_from_start : (trump : Trump) (declarer dummy : List ℕ) (leader : Seat) (plays : List Played) → length plays ≡ 4
     → IsCourse trump (record { declarer = declarer; dummy = dummy; trick = record { leader = leader; cards = [] } }) plays
@@ -251,8 +247,8 @@ trick_from_start trump declarer dummy leader (a ∷ b ∷ c ∷ d ∷ []) four f
     let fourth : d.seat ≡ next_seat (next_seat (next_seat leader)) = fair.2.2.2.0 in
     record {
       lead = refl;
-      declarer_once = omega (arith, ap is_declarer first, ap is_declarer second, ap is_declarer third, ap is_declarer fourth, one_of_four leader);
-      dummy_once = omega (arith, ap is_dummy first, ap is_dummy second, ap is_dummy third, ap is_dummy fourth, one_of_four_dummy leader);
+      declarer_once = omega (arith, ap is_declarer first, ap is_declarer second, ap is_declarer third, ap is_declarer fourth, one_of_four is_declarer declarer_of_four leader);
+      dummy_once = omega (arith, ap is_dummy first, ap is_dummy second, ap is_dummy third, ap is_dummy fourth, one_of_four is_dummy dummy_of_four leader);
     }
 trick_from_start trump declarer dummy leader [] four fair = absurd (omega arith)
 trick_from_start trump declarer dummy leader (a ∷ []) four fair = absurd (omega arith)
@@ -268,8 +264,8 @@ next_start trump tricks course plays start four fair =
     let same : course ≡ bare = ap (λ cs. record { declarer = course.declarer; dummy = course.dummy; trick = record { leader = course.trick.leader; cards = cs } }) start.lead in
     let whole = subst (λ (k : Course). IsWholeTrick trump k plays) (sym same)
     (trick_from_start trump course.declarer course.dummy course.trick.leader plays four (subst (λ (k : Course). IsCourse trump k plays) same fair)) in
-    let own = declarer_falls trump plays course start.declarer_set fair in
-    let dummy = dummy_falls trump plays course start.dummy_set fair in
+    let own = falls (λ k. k.declarer) (λ seat card hand. declarer_without seat card hand) is_declarer declarer_step (λ t k card. refl) trump plays course start.declarer_set fair in
+    let dummy = falls (λ k. k.dummy) (λ seat card hand. dummy_without seat card hand) is_dummy dummy_step (λ t k card. refl) trump plays course start.dummy_set fair in
     record {
       lead = whole.lead;
       declarer_set = own.a_set;

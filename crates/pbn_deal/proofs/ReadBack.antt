@@ -60,7 +60,7 @@ all_filter q t (x ∷ xs) each =
       kept false one rest = rest
 
 -- each letter of a suit passes a test that the letters of all ranks pass
-suit_text-passes : (q : ℕ → Bool) (cards : List ℕ) (suit : Suit) → list_all (λ rank. q (rank_letter rank)) ranks_down ≡ true → list_all q (suit_text cards suit) ≡ true
+pub suit_text-passes : (q : ℕ → Bool) (cards : List ℕ) (suit : Suit) → list_all (λ rank. q (rank_letter rank)) ranks_down ≡ true → list_all q (suit_text cards suit) ≡ true
 unfolding suit_text
 suit_text-passes q cards suit each =
     list_all-map q rank_letter (filter (λ rank. has_card cards (card_of suit rank)) ranks_down) ∙ all_filter (λ rank. q (rank_letter rank)) (λ rank. has_card cards (card_of suit rank)) ranks_down each

@@ -13,47 +13,27 @@ use Rattle.pbn_deal.specs.Marks.{mark_of}
 -- a star, which ends the section
 abbrev pub is_end : Mark → Bool
 is_end End = true
-is_end Plus = false
-is_end Gap = false
-is_end Note = false
-is_end (Card card) = false
-is_end Other = false
+is_end _ = false
 
 -- a plus sign
 abbrev pub is_plus : Mark → Bool
-is_plus End = false
 is_plus Plus = true
-is_plus Gap = false
-is_plus Note = false
-is_plus (Card card) = false
-is_plus Other = false
+is_plus _ = false
 
 -- a note, which is skipped
 abbrev pub is_skipped_mark : Mark → Bool
-is_skipped_mark End = false
-is_skipped_mark Plus = false
-is_skipped_mark Gap = false
 is_skipped_mark Note = true
-is_skipped_mark (Card card) = false
-is_skipped_mark Other = false
+is_skipped_mark _ = false
 
 -- neither a card nor anything else that the section may have
 abbrev pub is_other : Mark → Bool
-is_other End = false
-is_other Plus = false
-is_other Gap = false
-is_other Note = false
-is_other (Card card) = false
 is_other Other = true
+is_other _ = false
 
 -- the card that a token says
 abbrev pub card_marked : Mark → Option ℕ
-card_marked End = None
-card_marked Plus = None
-card_marked Gap = None
-card_marked Note = None
 card_marked (Card card) = Some card
-card_marked Other = None
+card_marked _ = None
 
 -- whether a token is a card
 abbrev pub is_card : TokenValue → Bool

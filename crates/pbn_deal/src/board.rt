@@ -2,6 +2,7 @@
 ghost use Rattle.std.specs.Prelude.{◌≡◌};
 ghost use Rattle.pbn_deal.specs.Boards.{compass_of, seat_of, dealt_board, IsDealt, IsBoard, turn_of};
 
+use crate::tags::Ending;
 use card_sets::{Card, CardSet, Compass, Seat};
 use std::alloc::Global;
 use std::marker::Model;
@@ -39,6 +40,15 @@ pub fn seat_of(declarer: Compass, place: Compass) -> Seat
     } else {
         Seat::Right
     }
+}
+
+/// The hands as they were dealt: declarer's, dummy's, and what the two defenders hold together, if
+/// the file tells it.
+#[derive(Clone, Copy, Debug)]
+pub(crate) struct DealtHands {
+    pub declarer: CardSet,
+    pub dummy: CardSet,
+    pub unseen: Option<CardSet>,
 }
 
 /// A sound board: hands, need, leader and unseen cards are those before the first played card.
@@ -86,29 +96,27 @@ impl Model for Board {
 }
 
 impl Board {
-    /// A board of which no card has been played.
-    pub fn new(
+    // A board of which no card has been played.
+    pub(crate) fn new(
         alloc: Global,
         declarer: Compass,
         trump: Trump,
-        need: u8,
-        leader: Seat,
-        declarer_hand: CardSet,
-        dummy_hand: CardSet,
-        unseen: Option<CardSet>,
+        ending: Ending,
+        hands: DealtHands,
     ) -> Board
-        requires { IsDealt
-            (dealt_board declarer trump need leader declarer_hand dummy_hand unseen) }
-        ensures { result ≡ dealt_board declarer trump need leader declarer_hand dummy_hand unseen }
+        requires { IsDealt (dealt_board declarer trump ending.need ending.leader
+            hands.declarer hands.dummy hands.unseen) }
+        ensures { result ≡ dealt_board declarer trump ending.need ending.leader
+            hands.declarer hands.dummy hands.unseen }
     {
         Board {
             declarer,
             trump,
-            need,
-            leader,
-            declarer_hand,
-            dummy_hand,
-            unseen,
+            need: ending.need,
+            leader: ending.leader,
+            declarer_hand: hands.declarer,
+            dummy_hand: hands.dummy,
+            unseen: hands.unseen,
             plays: Vec::new(alloc),
         }
     }

@@ -8,7 +8,7 @@ ghost use Rattle.pbn_deal.specs.Sections.{IsRefusalOf};
 ghost use Rattle.pbn_deal.specs.Tags.{seat_named};
 ghost use Rattle.pbn_deal.specs.BoardRead.{line_named, unseen_in, is_place, dealt_in, is_led_wrongly, section_played, entries_played, plays_in, board_read};
 
-use crate::board::{Board, Played, compass_of};
+use crate::board::{Board, DealtHands, Played, compass_of};
 use crate::course::Course;
 use crate::deal::DealValue;
 use crate::fault::{BoardFault, BoardRefusal};
@@ -85,17 +85,12 @@ fn deal_board(
         find_tag(game, b"EndNeed"),
         find_tag(game, b"EndLead"),
     )?;
-    let unseen = unseen_cards(deal, declarer, own, dummy);
-    Ok(Board::new(
-        alloc,
-        declarer,
-        contract.trump,
-        ending.need,
-        ending.leader,
-        own,
+    let hands = DealtHands {
+        declarer: own,
         dummy,
-        unseen,
-    ))
+        unseen: unseen_cards(deal, declarer, own, dummy),
+    };
+    Ok(Board::new(alloc, declarer, contract.trump, ending, hands))
 }
 
 // Whether a value is the letter of this place.

@@ -1,18 +1,12 @@
 use Rattle.std.proofs.Common.{◌≡◌, ℕ, ◌<◌, ◌+◌, List, ◌∷◌, None, length, drop, get_or, suc, sym, ap, ap₂, ◌∙◌, subst, arith}
-use Rattle.std.proofs.Math.Seq.{drop-cons}
 use Rattle.trick_rules.specs.Positions.{State, IsState}
 use Rattle.trick_rules.specs.Play.{after}
 use Rattle.pbn_deal.specs.declared.board.Played.{Played}
 use Rattle.pbn_deal.specs.Boards.{IsCourse}
 use Rattle.layout_list.specs.Verdicts.{cause_of, or_later, contradiction, position_after, hand_after, course_of}
 use Rattle.layout_list.proofs.Follow.{Onward, onward}
+use Rattle.pbn_deal.proofs.Split.{split_at}
 use Rattle.layout_list.proofs.verdict.follow.Goals as goal
-
--- the plays left begin with the one at hand
-split_at : (plays : List Played) (i : ℕ) (play : Played) → i < length plays → play ≡ get_or plays i play → drop i plays ≡ play ∷ drop (i + 1) plays
-split_at plays i play lt is =
-    let next : suc i ≡ i + 1 = omega arith in
-    drop-cons plays i play lt ∙ ap (λ x. x ∷ drop (suc i) plays) (sym is) ∙ ap (λ k. play ∷ drop k plays) next
 
 pub play-position-requires : goal.play-position-requires
 play-position-requires c =

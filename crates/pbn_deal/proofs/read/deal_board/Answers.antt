@@ -14,5 +14,5 @@ new-requires c =
     let own_is = sym c.hand.ensures ∙ some_from_ok_or c.hand.result _ _ (sym c.ok_or.ensures.value ∙ c.in_ok-own.was) in
     let dummy_is = ap (hand_at c.args.deal.now) (sym c.compass_of.ensures) ∙ sym c.hand-2.ensures ∙ some_from_ok_or c.hand-2.result _ _ (sym c.ok_or-2.ensures.value ∙ c.in_ok-dummy.was) in
     subst (λ (u : Option (List ℕ)). IsDealt (dealt_board c.args.declarer c.args.contract.trump c.in_ok-ending.ending.need c.in_ok-ending.ending.leader c.in_ok-own.own c.in_ok-dummy.dummy u))
-    (sym c.unseen_cards-unseen.ensures)
+    (sym c.unseen_cards.ensures)
     (dealt c.args.deal.now c.args.declarer c.args.contract.trump c.in_ok-ending.ending.need c.in_ok-ending.ending.leader c.in_ok-own.own c.in_ok-dummy.dummy c.requires.sound own_is dummy_is c.in_ok-ending.ensures.fits)

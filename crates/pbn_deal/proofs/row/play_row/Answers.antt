@@ -1,9 +1,9 @@
 use Rattle.std.proofs.Common.{◌≡◌, ◌<◌, ◌+◌, [], ◌∷◌, ◌++◌, length, drop, suc, sym, ap, ◌∙◌, arith, true}
 use Rattle.std.specs.Prelude.{is_ok, cond}
-use Rattle.std.proofs.Math.Seq.{drop-cons}
 use Rattle.pbn_deal.specs.Boards.{next_course, course_after}
 use Rattle.pbn_deal.proofs.CourseSteps.{course_after-append}
 use Rattle.pbn_deal.proofs.RowSteps.{row_more}
+use Rattle.pbn_deal.proofs.Split.{split_at}
 use Rattle.pbn_deal.proofs.row.play_row.Goals as goal
 
 pub loop-entry-preserved : goal.loop-entry-preserved
@@ -11,9 +11,7 @@ loop-entry-preserved c =
     let entry = c.entry-item.result in
     let row = c.args.row.now in
     let i = c.loop-entry.entry-index in
-    let lt : i < length row = omega arith in
-    let next : suc i ≡ i + 1 = omega arith in
-    let split = drop-cons row i entry lt ∙ ap (λ x. x ∷ drop (suc i) row) (sym c.entry-item.is) ∙ ap (λ k. entry ∷ drop k row) next in
+    let split = split_at row i entry (omega arith) c.entry-item.is in
     let ok : is_ok c.push.result ≡ true = sym c.map_err.ensures.variant ∙ ap is_ok c.in_ok-map_err.was in
     let pushed = c.push.ensures.items ∙ ap (λ b. cond b (c.loop-entry.plays.items ++ record { seat = c.to_play-seat.result; card = c.in-Some.card } ∷ []) c.loop-entry.plays.items) ok in
     let fair = sym c.card_fault.ensures ∙ c.in_default-card_fault.is in

@@ -1,6 +1,5 @@
 use Rattle.std.proofs.Common.{◌≡◌, ℕ, ◌<◌, ◌+◌, ◌-◌, List, ◌∷◌, ◌++◌, [], ◌∙◌, ap, sym, arith, length, drop, get_or, suc, refl, Ok, Option, true, false}
 use Rattle.std.specs.Prelude.{count_by, is_ok, is_some, cond}
-use Rattle.std.proofs.Math.Seq.{drop-cons}
 use Rattle.std.proofs.lemmas.List.{append-nil}
 use Rattle.pbn_text.specs.Games.{TokenValue}
 use Rattle.pbn_deal.specs.declared.mark.Mark.{Mark}
@@ -9,14 +8,9 @@ use Rattle.pbn_deal.specs.declared.section.Entry.{Entry}
 use Rattle.pbn_deal.specs.Marks.{mark_of}
 use Rattle.pbn_deal.specs.Sections.{section_read, prepend, is_end, is_plus, is_skipped_mark, is_other, is_card, before_end, card_marked}
 use Rattle.pbn_deal.proofs.SectionSteps.{section_read-last_plus, count-before_end, entry_more, plus_no_card}
+use Rattle.pbn_deal.proofs.Split.{split_at}
 use Rattle.pbn_deal.proofs.section.read_section.Goals as goal
 use Rattle.pbn_deal.proofs.section.read_section.Goals.{in-Card, in-Plus-2, in-Gap}
-
--- the tokens left begin with the one at hand
-split_at : (tokens : List TokenValue) (i : ℕ) (t : TokenValue) → i < length tokens → t ≡ get_or tokens i t → drop i tokens ≡ t ∷ drop (i + 1) tokens
-split_at tokens i t lt is =
-    let next : suc i ≡ i + 1 = omega arith in
-    drop-cons tokens i t lt ∙ ap (λ x. x ∷ drop (suc i) tokens) (sym is) ∙ ap (λ k. t ∷ drop k tokens) next
 
 -- what the token at hand says
 mark_at : {t inside : TokenValue} (bytes : List ℕ) (read m : Mark) → inside ≡ t → bytes ≡ inside.text → read ≡ mark_of bytes → read ≡ m → mark_of t.text ≡ m
@@ -27,8 +21,7 @@ returns-in-Plus c =
     let t = c.token-item.result in
     let tokens = c.args.tokens.now in
     let i = c.loop-token.token-index in
-    let lt : i < length tokens = omega arith in
-    let split = split_at tokens i t lt c.token-item.is in
+    let split = split_at tokens i t (omega arith) c.token-item.is in
     let is = mark_at _ _ Plus c.token.view_is c.bytes.ensures c.read_mark.ensures c.in-Plus.is in
     let counted = ap (λ ts. count_by is_card (before_end ts)) split ∙ count-before_end t (drop (i + 1) tokens) Plus is refl in
     let none : count_by is_card (before_end (drop (i + 1) tokens)) ≡ 0 = omega (arith, counted, c.loop-token.invariant.cards) in
@@ -58,8 +51,7 @@ loop-token-preserved c =
     let t = c.token-item.result in
     let tokens = c.args.tokens.now in
     let i = c.loop-token.token-index in
-    let lt : i < length tokens = omega arith in
-    let split = split_at tokens i t lt c.token-item.is in
+    let split = split_at tokens i t (omega arith) c.token-item.is in
     let ok : is_ok c.push.result ≡ true = sym c.map_err.ensures.variant ∙ ap is_ok c.in_ok-map_err.was in
     let pushed = c.push.ensures.items ∙ ap (λ b. cond b (c.loop-token.entries.items ++ record { card = c.match-read_mark.card; line = c.token.inside.line } ∷ []) c.loop-token.entries.items) ok in
     elim c.match-read_mark.branch [
