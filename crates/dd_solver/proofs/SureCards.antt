@@ -17,7 +17,7 @@ use Rattle.sure_tricks.specs.declared.count.Counts.{Counts}
 use Rattle.dd_solver.specs.Sure.{number_in, AreWinners}
 use Rattle.sure_tricks.proofs.Hands.{hand_set, next_three}
 use Rattle.sure_tricks.proofs.Crossing.{safe_at_no_trump}
-use Rattle.sure_tricks.proofs.Picking.{picked, in_suit, picked_high, by_suits}
+use Rattle.sure_tricks.proofs.Picking.{picked, in_suit, picked_high, length_by_suits}
 use Rattle.sure_tricks.proofs.Counted.{high_against, part_of_suit, ours, partners, ruffs_in, length_counted, ours_sure, partners_sure, IsOver, over}
 use Rattle.equivalent_positions.specs.Alike.{IsClosedUp, HasAnswer}
 use Rattle.equivalent_positions.proofs.RankWinners.{WinnersCount, our_winners_answer, their_winners_answer, our_winners_answer_together, their_winners_answer_together}
@@ -66,13 +66,7 @@ module _ (s : State) (ok : IsState s) (counting : List ℕ) (closed : IsClosedUp
       ∙ min-eq_left (let one = few suit in let two = part_of_suit s ok (to_play s.position) (ruffs_in s ok) suit in omega arith)
 
   length_needed : length needed ≡ number Spades + number Hearts + number Diamonds + number Clubs
-  length_needed =
-      let all = by_suits needed in
-      let a = needed_in Spades in
-      let b = needed_in Hearts in
-      let c = needed_in Diamonds in
-      let d = needed_in Clubs in
-      omega arith
+  length_needed = length_by_suits needed number needed_in
 
   needed_sure : AreSure s (to_play s.position) needed
   needed_sure = record {

@@ -10,12 +10,12 @@ use Rattle.card_sets.specs.SetWords.{has_card}
 use Rattle.trick_rules.specs.Positions.{State, seat_after, to_play, IsState}
 use Rattle.trick_rules.specs.Play.{hand_of, legal_in, after, after_card, is_over, is_declarers, cards_left, makes}
 use Rattle.trick_rules.proofs.CardLists.{list_any-from_card, card_from_list_any, list_all-from_cards, cards_from_list_all}
-use Rattle.trick_rules.proofs.Soundness.{Apart-sym, held_low}
+use Rattle.trick_rules.proofs.Soundness.{Apart-sym, held_low, with_card}
 use Rattle.trick_rules.proofs.States.{after-IsState, legal_can_play, legal_cards-low, cards_left-after, right_of-low, right_of-not_left}
 use Rattle.trick_rules.proofs.PlayLaws.{makes_at_the_end, makes_by_some_card, makes_against_each_card, hands_are_apart, the_trick_is_not_held}
 use Rattle.double_dummy.specs.Equals.{AreEqual}
 use Rattle.double_dummy.proofs.Swap.{swap, swap-first, swap-second, swap-other, swap-swap, each_card}
-use Rattle.double_dummy.proofs.Mirror.{Renamed, Mirrored, Follows, with_card, renamed_back, legal-mirrored, legal_back, turn-mirrored, mirrored-after, follows-after, follows-with_card, hand-gone, hand-after, absent-after, with_card-absent, trick-after-short, turn-put}
+use Rattle.double_dummy.proofs.Mirror.{Renamed, Mirrored, Follows, renamed_back, legal-mirrored, legal_back, turn-mirrored, mirrored-after, follows-after, follows-with_card, hand-gone, hand-after, absent-after, with_card-absent, trick-after-short, turn-put}
 
 -- ---- choices under new names
 

@@ -1,9 +1,7 @@
 -- Two states of which one becomes the other where two cards exchange their names.
-use Rattle.std.proofs.Common.{◌≡◌, ◌≢◌, ℕ, zero, suc, ◌+◌, ◌<◌, Bool, true, false, not, ◌&&◌, ◌||◌, cond, eqb, List, [], ◌∷◌, ◌++◌, length, map, get_or, All, AllPairs, refl, sym, ap, subst, ◌∙◌, inl, inr, arith}
-use Rattle.std.proofs.lemmas.Bool.{false≢true, eq-eqb, ne_eqb, cases_eq, cases_Bool, or_cases, or_parts, or_from, or_left, or_right, cond_both}
+use Rattle.std.proofs.Common.{◌≡◌, ◌≢◌, ℕ, suc, ◌+◌, ◌<◌, Bool, true, false, not, ◌&&◌, ◌||◌, cond, eqb, List, [], ◌∷◌, length, map, All, AllPairs, refl, sym, ap, subst, ◌∙◌, inl, inr, arith}
+use Rattle.std.proofs.lemmas.Bool.{false≢true, eq-eqb, ne_eqb, cases_eq, or_cases, or_parts, or_from, or_left, or_right, cond_both}
 use Rattle.std.proofs.lemmas.List.{map-append, length-map, length_push}
-use Rattle.std.proofs.lemmas.List.Elements.{All-push}
-use Rattle.std.proofs.lemmas.List.Quantifiers.{all_pairs_push}
 use Rattle.card_sets.specs.declared.card.Suit.{Suit}
 use Rattle.card_sets.specs.declared.seat.Seat.{Seat}
 use Rattle.card_sets.specs.declared.seat.Seat.TheVariants.{Declarer, Left, Dummy, Right}
@@ -14,7 +12,7 @@ use Rattle.trick_rules.specs.Positions.{PositionValue, State, seat_after, to_pla
 use Rattle.trick_rules.specs.Play.{of_suit, or_whole, legal_cards, legal_in, hand_of, held_by, take_out, put_card, end_trick, after_card, after, winner_of, CanPlay}
 use Rattle.trick_rules.proofs.CardLists.{has_card-take_out, has_card-append, take_out-gone}
 use Rattle.trick_rules.proofs.Turns.{seat_after_more}
-use Rattle.trick_rules.proofs.Soundness.{after_short, after_third, held_low, trick_held}
+use Rattle.trick_rules.proofs.Soundness.{with_card, with_card-low, with_card-differ, after_short, after_third}
 use Rattle.trick_rules.proofs.States.{after_card-declarer, after_card-dummy, after_card-unseen, tricks_left-after, legal_cards-low, legal_can_play}
 use Rattle.double_dummy.specs.Equals.{in_play}
 use Rattle.double_dummy.proofs.Swap.{swap, swap-swap, swap-eqb, swap-suit, TrickOf, winner-swap}
@@ -95,10 +93,6 @@ record SameTrick (a b : ℕ) (t u : PositionValue) : Type 0 where
   pub need : u.need ≡ t.need
   pub trump : u.trump ≡ t.trump
 
--- the cards of a trick with the card of the seat to play
-abbrev pub with_card : PositionValue → ℕ → List ℕ
-with_card t c = t.trick.cards ++ c ∷ []
-
 put_mirrored : (a b c : ℕ) (s m : State) → Mirrored a b s m → SameTrick a b (put_card s.position c) (put_card m.position (swap a b c))
 put_mirrored a b c s m r = record {
   leader = r.leader;
@@ -163,22 +157,6 @@ absent-after t c d can out =
     (trick-after t c (λ cards. has_card cards d ≡ false) (with_card-absent t c d parts.1 (absent_other t c d can out)) refl)
 
 -- ---- a trick with its last card
-
-absent_differs : (xs : List ℕ) (card : ℕ) → has_card xs card ≡ false → (k : ℕ) (d : ℕ) → k < length xs → get_or xs k d ≡ card → ⊥
-absent_differs [] card h k d low e = absurd (omega arith)
-absent_differs (x ∷ xs) card h zero d low e = false≢true (sym h ∙ rw (eq-eqb x card e) refl)
-absent_differs (x ∷ xs) card h (suc k) d low e =
-    elim (cases_Bool (eqb x card)) as (λ _. ⊥) [
-      | inl same ↦ false≢true (sym h ∙ rw same refl)
-      | inr other ↦ absent_differs xs card (rw other at h) k d (omega arith) e
-    ]
-
-with_card-low : (t : PositionValue) (c : ℕ) → IsSound t → CanPlay t c → All (λ d. d < 52) (with_card t c)
-with_card-low t c sound can = All-push (λ d. d < 52) t.trick.cards c sound.trick_cards (held_low t sound c (to_play t) can)
-
-with_card-differ : (t : PositionValue) (c : ℕ) → IsSound t → CanPlay t c → AllPairs (λ d e. d ≢ e) (with_card t c)
-with_card-differ t c sound can =
-    all_pairs_push (λ d e. d ≢ e) t.trick.cards c sound.trick_differs (absent_differs t.trick.cards c (trick_held t sound (to_play t) c can))
 
 with_card-in_play : (t : PositionValue) (c d : ℕ) → CanPlay t c → has_card (with_card t c) d ≡ true → in_play t d ≡ true
 with_card-in_play t c d can h =

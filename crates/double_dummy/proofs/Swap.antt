@@ -120,11 +120,11 @@ order-swap a b order =
 -- ---- who takes a trick
 
 -- what one card's beating another comes to: whether each is a trump, whether each is of the suit led, and whether the first is the higher
-abbrev beaten : Bool → Bool → Bool → Bool → Bool → Bool
+abbrev pub beaten : Bool → Bool → Bool → Bool → Bool → Bool
 beaten tc td fc fd higher = cond td (tc && higher) (tc || fc && (not fd || higher))
 
 -- of two suits the ranks don't matter
-beaten_apart : (tc td fc fd h k : Bool) → (tc && td) ≡ false → (fc && fd) ≡ false → beaten tc td fc fd h ≡ beaten tc td fc fd k
+pub beaten_apart : (tc td fc fd h k : Bool) → (tc && td) ≡ false → (fc && fd) ≡ false → beaten tc td fc fd h ≡ beaten tc td fc fd k
 beaten_apart true true fc fd h k t f = absurd (false≢true (sym t))
 beaten_apart false true fc fd h k t f = refl
 beaten_apart true false fc fd h k t f = refl
@@ -132,13 +132,13 @@ beaten_apart false false true true h k t f = absurd (false≢true (sym f))
 beaten_apart false false true false h k t f = refl
 beaten_apart false false false fd h k t f = refl
 
-two_suits : (x y suit : Suit) → same_suit x y ≡ false → (same_suit x suit && same_suit y suit) ≡ false
+pub two_suits : (x y suit : Suit) → same_suit x y ≡ false → (same_suit x suit && same_suit y suit) ≡ false
 two_suits x y suit differ =
     false_from_ne_true (same_suit x suit && same_suit y suit) (λ h.
     let both = and_parts (same_suit x suit) (same_suit y suit) h in
     false≢true (sym differ ∙ ap (same_suit x) (same_suit-true y suit both.1) ∙ both.0))
 
-two_trumps : (trump : Trump) (c d : ℕ) → same_suit (suit_of c) (suit_of d) ≡ false → (is_trump trump c && is_trump trump d) ≡ false
+pub two_trumps : (trump : Trump) (c d : ℕ) → same_suit (suit_of c) (suit_of d) ≡ false → (is_trump trump c && is_trump trump d) ≡ false
 two_trumps NoTrump c d differ = refl
 two_trumps (Suited suit) c d differ = two_suits (suit_of c) (suit_of d) suit differ
 

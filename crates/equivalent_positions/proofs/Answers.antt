@@ -36,29 +36,24 @@ an_alike_state_answers counting s t made a answer = λ u ok b. answer u ok (alik
 pub more_cards_answer : (part counting : List ℕ) (s : State) (made : Bool) → IsSubset part counting → HasAnswer part s made → HasAnswer counting s made
 more_cards_answer part counting s made within answer = λ t ok a. answer t ok (alike_less part counting s t within a)
 
-pub more_cards_give_the_answer : (part counting : List ℕ) (s : State) (card : ℕ) (made : Bool) → IsSubset part counting → GivesAnswer part s card made → GivesAnswer counting s card made
-more_cards_give_the_answer part counting s card made within g = record {
+-- a like card gives the answer, by more cards too
+gives_the_answer : (part counting : List ℕ) (s : State) (card other : ℕ) (made : Bool) → IsSubset part counting → IsLike part card other → GivesAnswer part s card made → GivesAnswer counting s other made
+gives_the_answer part counting s card other made within like g = record {
   part = g.part;
   within = λ c h. within c (g.within c h);
   closed = g.closed;
   tried = g.tried;
   legal = g.legal;
-  like = g.like;
+  like = like_on g.part g.tried card other g.like (like_less g.part part card other g.within like);
   settles = g.settles;
   answer = g.answer;
 }
 
+pub more_cards_give_the_answer : (part counting : List ℕ) (s : State) (card : ℕ) (made : Bool) → IsSubset part counting → GivesAnswer part s card made → GivesAnswer counting s card made
+more_cards_give_the_answer part counting s card made within = gives_the_answer part counting s card card made within (inl refl)
+
 pub like_cards_give_the_answer : (counting : List ℕ) (s : State) (card other : ℕ) (made : Bool) → IsLike counting card other → GivesAnswer counting s card made → GivesAnswer counting s other made
-like_cards_give_the_answer counting s card other made like g = record {
-  part = g.part;
-  within = g.within;
-  closed = g.closed;
-  tried = g.tried;
-  legal = g.legal;
-  like = like_on g.part g.tried card other g.like (like_less g.part counting card other g.within like);
-  settles = g.settles;
-  answer = g.answer;
-}
+like_cards_give_the_answer counting s card other made = gives_the_answer counting counting s card other made (λ c h. h)
 
 -- ---- answers from those after a card
 

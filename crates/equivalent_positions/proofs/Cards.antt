@@ -1,10 +1,8 @@
 -- Cards played in alike states.
-use Rattle.std.proofs.Common.{◌≡◌, ◌≢◌, ℕ, zero, suc, ◌+◌, ◌-◌, ◌<◌, Bool, true, false, not, ◌&&◌, eqb, cond, List, [], ◌∷◌, ◌++◌, length, filter, get_or, All, AllPairs, refl, sym, ap, ap₂, subst, ◌∙◌, inl, inr, arith}
-use Rattle.std.proofs.lemmas.Bool.{false≢true, both_ways, cases_Bool, cases_eq, cases_lt, eq-eqb, ne_eqb, and_parts, not-true}
+use Rattle.std.proofs.Common.{◌≡◌, ℕ, ◌+◌, ◌-◌, ◌<◌, Bool, true, false, not, ◌&&◌, eqb, cond, List, [], ◌∷◌, ◌++◌, length, filter, get_or, refl, sym, ap, ap₂, subst, ◌∙◌, inl, inr, arith}
+use Rattle.std.proofs.lemmas.Bool.{both_ways, cases_Bool, cases_eq, cases_lt, ne_eqb, and_parts, not-true}
 use Rattle.std.proofs.lemmas.List.{length_push}
-use Rattle.std.proofs.lemmas.List.Elements.{All-push}
 use Rattle.std.proofs.lemmas.List.Filters.{length-filter_both}
-use Rattle.std.proofs.lemmas.List.Quantifiers.{all_pairs_push}
 use Rattle.std.proofs.Math.ListN.{get_or-append}
 use Rattle.std.proofs.Math.Seq.{get_or-append_seam}
 use Rattle.card_sets.specs.declared.card.Suit.{Suit}
@@ -15,10 +13,10 @@ use Rattle.card_sets.proofs.Sets.{has_card-filter, IsCardSet-filter, same_set}
 use Rattle.card_sets.proofs.SetCounts.{has_card-length, some_card}
 use Rattle.card_sets.proofs.Suits.{same_suit-true, same_suit-refl}
 use Rattle.trick_rules.specs.declared.trump.Trump.{Trump}
-use Rattle.trick_rules.specs.Positions.{PositionValue, State, to_play, IsSound, IsState}
-use Rattle.trick_rules.specs.Play.{of_suit, or_whole, legal_cards, legal_in, hand_of, take_out, put_card, end_trick, after_card, after, winner_of, is_declarers, CanPlay}
+use Rattle.trick_rules.specs.Positions.{PositionValue, State, to_play, IsState}
+use Rattle.trick_rules.specs.Play.{of_suit, or_whole, legal_cards, legal_in, hand_of, take_out, put_card, end_trick, after_card, after, winner_of, is_declarers}
 use Rattle.trick_rules.proofs.CardLists.{has_card-take_out}
-use Rattle.trick_rules.proofs.Soundness.{after_short, after_third, held_low, trick_held}
+use Rattle.trick_rules.proofs.Soundness.{with_card, with_card-low, with_card-differ, after_short, after_third}
 use Rattle.trick_rules.proofs.States.{legal_cards-low, legal_can_play}
 use Rattle.sure_tricks.proofs.Counting.{count_in, count_out}
 use Rattle.sure_tricks.proofs.Hands.{seat_cases, hand_after, hand_stays, hand_set}
@@ -184,26 +182,6 @@ push_likes counting xs ys c d as_many likes like k h =
           let second : d ≡ get_or (ys ++ d ∷ []) k 0 = sym (ap (λ n. get_or (ys ++ d ∷ []) n 0) (sym at_y) ∙ get_or-append_seam ys d [] 0) in
           subst (λ x. IsLike counting x (get_or (ys ++ d ∷ []) k 0)) first (subst (λ y. IsLike counting c y) second like))
     ]
-
-absent_differs : (xs : List ℕ) (card : ℕ) → has_card xs card ≡ false → (k : ℕ) (d : ℕ) → k < length xs → get_or xs k d ≡ card → ⊥
-absent_differs [] card h k d low e = absurd (omega arith)
-absent_differs (x ∷ xs) card h zero d low e = false≢true (sym h ∙ rw (eq-eqb x card e) refl)
-absent_differs (x ∷ xs) card h (suc k) d low e =
-    elim (cases_Bool (eqb x card)) as (λ _. ⊥) [
-      | inl same ↦ false≢true (sym h ∙ rw same refl)
-      | inr other ↦ absent_differs xs card (rw other at h) k d (omega arith) e
-    ]
-
--- the cards of a trick with one card more
-abbrev with_card : PositionValue → ℕ → List ℕ
-with_card t c = t.trick.cards ++ c ∷ []
-
-with_card-low : (t : PositionValue) (c : ℕ) → IsSound t → CanPlay t c → All (λ d. d < 52) (with_card t c)
-with_card-low t c sound can = All-push (λ d. d < 52) t.trick.cards c sound.trick_cards (held_low t sound c (to_play t) can)
-
-with_card-differ : (t : PositionValue) (c : ℕ) → IsSound t → CanPlay t c → AllPairs (λ d e. d ≢ e) (with_card t c)
-with_card-differ t c sound can =
-    all_pairs_push (λ d e. d ≢ e) t.trick.cards c sound.trick_differs (absent_differs t.trick.cards c (trick_held t sound (to_play t) c can))
 
 module _ (counting : List ℕ) (closed : IsClosedUp counting) (s t : State) (ok : IsState s) (ok' : IsState t) (a : AreAlike counting s t) (c d : ℕ)
     (legal : has_card (legal_in s) c ≡ true) (legal' : has_card (legal_in t) d ≡ true) (like : IsLike counting c d) where

@@ -1,17 +1,17 @@
 -- Who takes a trick, told by the cards that count.
-use Rattle.std.proofs.Common.{◌≡◌, ◌≢◌, ◌⊎◌, ℕ, ◌<◌, ◌≤◌, Bool, true, false, not, ◌&&◌, ◌||◌, cond, ltb, List, length, get_or, All, AllPairs, refl, sym, ap, subst, ◌∙◌, inl, inr, arith}
-use Rattle.std.proofs.lemmas.Bool.{false≢true, cases_Bool, lt-ltb, and_parts, false_from_ne_true}
+use Rattle.std.proofs.Common.{◌≡◌, ◌≢◌, ◌⊎◌, ℕ, ◌<◌, ◌≤◌, true, ltb, List, length, get_or, All, AllPairs, refl, sym, ap, subst, ◌∙◌, inl, inr, arith}
+use Rattle.std.proofs.lemmas.Bool.{cases_Bool, lt-ltb}
 use Rattle.card_sets.specs.declared.card.Suit.{Suit}
 use Rattle.card_sets.specs.declared.seat.Seat.{Seat}
 use Rattle.card_sets.specs.Cards.{suit_of, rank_of, same_suit, suit_place}
 use Rattle.card_sets.specs.SetWords.{has_card}
 use Rattle.card_sets.proofs.Suits.{card_of-suit_of, same_suit-true}
 use Rattle.trick_rules.specs.declared.trump.Trump.{Trump}
-use Rattle.trick_rules.specs.declared.trump.Trump.TheVariants.{NoTrump, Suit as Suited}
 use Rattle.trick_rules.specs.Positions.{seat_after}
 use Rattle.trick_rules.specs.Play.{is_trump, beats, IsWonBy, winner_of}
 use Rattle.trick_rules.proofs.TrickLemmas.{one_winner}
 use Rattle.sure_tricks.proofs.Holding.{trump_of_suit}
+use Rattle.double_dummy.proofs.Swap.{beaten_apart, two_suits, two_trumps}
 use Rattle.equivalent_positions.specs.Alike.{IsClosedUp, IsLike, SettlesTrick}
 use Rattle.equivalent_positions.proofs.Likes.{like_suit, like_counts, below_counting}
 
@@ -24,29 +24,6 @@ rank_less c d one other suit less =
     omega (arith, e, f, g)
 
 -- ---- one card and another
-
--- what one card's beating another comes to: whether each is a trump, whether each is of the suit led, and whether the first is the higher
-abbrev beaten : Bool → Bool → Bool → Bool → Bool → Bool
-beaten tc td fc fd higher = cond td (tc && higher) (tc || fc && (not fd || higher))
-
--- of two suits the ranks don't matter
-beaten_apart : (tc td fc fd h k : Bool) → (tc && td) ≡ false → (fc && fd) ≡ false → beaten tc td fc fd h ≡ beaten tc td fc fd k
-beaten_apart true true fc fd h k t f = absurd (false≢true (sym t))
-beaten_apart false true fc fd h k t f = refl
-beaten_apart true false fc fd h k t f = refl
-beaten_apart false false true true h k t f = absurd (false≢true (sym f))
-beaten_apart false false true false h k t f = refl
-beaten_apart false false false fd h k t f = refl
-
-two_suits : (x y suit : Suit) → same_suit x y ≡ false → (same_suit x suit && same_suit y suit) ≡ false
-two_suits x y suit differ =
-    false_from_ne_true (same_suit x suit && same_suit y suit) (λ h.
-    let both = and_parts (same_suit x suit) (same_suit y suit) h in
-    false≢true (sym differ ∙ ap (same_suit x) (same_suit-true y suit both.1) ∙ both.0))
-
-two_trumps : (trump : Trump) (c d : ℕ) → same_suit (suit_of c) (suit_of d) ≡ false → (is_trump trump c && is_trump trump d) ≡ false
-two_trumps NoTrump c d differ = refl
-two_trumps (Suited suit) c d differ = two_suits (suit_of c) (suit_of d) suit differ
 
 -- two cards beat as two others of their suits do, where cards of one suit are in the same order
 beats_alike : (trump : Trump) (led : Suit) (c d c' d' : ℕ) → suit_of c ≡ suit_of c' → suit_of d ≡ suit_of d'

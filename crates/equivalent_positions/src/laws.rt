@@ -6,9 +6,9 @@ ghost use Rattle.card_sets.specs.declared.seat.Seat.{Seat};
 ghost use Rattle.card_sets.specs.SetWords.{has_card, cards_where, IsSubset};
 ghost use Rattle.trick_rules.specs.declared.trump.Trump.{Trump};
 ghost use Rattle.trick_rules.specs.declared.trump.Trump.TheVariants.{NoTrump};
-ghost use Rattle.trick_rules.specs.Positions.{State, seat_after, to_play, tricks_left, IsState};
-ghost use Rattle.trick_rules.specs.Play.{after, decided, hand_of, is_declarers, is_over, legal_in, IsWonBy};
-ghost use Rattle.sure_tricks.specs.Sure.{AreSure, AreTopTrumps};
+ghost use Rattle.trick_rules.specs.Positions.{State, to_play, tricks_left, IsState};
+ghost use Rattle.trick_rules.specs.Play.{after, decided, is_declarers, is_over, legal_in, IsWonBy};
+ghost use Rattle.sure_tricks.specs.Sure.{AreSure, AreSureTogether, AreTopTrumps};
 ghost use Rattle.sure_tricks.specs.Stoppers.{AreStoppers};
 ghost use Rattle.sure_tricks.specs.Headed.{HeadsSuitLed, AreBeyondRuffs};
 ghost use Rattle.double_dummy.specs.Needs.{with_need};
@@ -145,24 +145,14 @@ pub fn sure_cards_answer()
 
 /// At no trump, so do the sure cards of both hands of the side on lead, if a card leads over.
 pub fn sure_cards_answer_together()
-    ensures ours { (counting : List ℕ) (s : State) (sure partners : List ℕ) (link card : ℕ)
+    ensures ours { (counting : List ℕ) (s : State) (sure partners : List ℕ)
         → IsClosedUp counting → IsSubset sure counting → IsSubset partners counting → IsState s
-        → s.position.trick.cards ≡ [] → s.position.trump ≡ NoTrump
-        → AreSure s (to_play s.position) sure
-        → AreSure s (seat_after 2 (to_play s.position)) partners
-        → has_card (hand_of s (to_play s.position)) link ≡ true → has_card partners card ≡ true
-        → suit_of card ≡ suit_of link
-        → is_declarers (to_play s.position) ≡ true
+        → AreSureTogether s sure partners → is_declarers (to_play s.position) ≡ true
         → s.position.need ≤ min (tricks_left s.position) (length sure + length partners)
         → HasAnswer counting s true }
-    ensures theirs { (counting : List ℕ) (s : State) (sure partners : List ℕ) (link card : ℕ)
+    ensures theirs { (counting : List ℕ) (s : State) (sure partners : List ℕ)
         → IsClosedUp counting → IsSubset sure counting → IsSubset partners counting → IsState s
-        → s.position.trick.cards ≡ [] → s.position.trump ≡ NoTrump
-        → AreSure s (to_play s.position) sure
-        → AreSure s (seat_after 2 (to_play s.position)) partners
-        → has_card (hand_of s (to_play s.position)) link ≡ true → has_card partners card ≡ true
-        → suit_of card ≡ suit_of link
-        → is_declarers (to_play s.position) ≡ false
+        → AreSureTogether s sure partners → is_declarers (to_play s.position) ≡ false
         → tricks_left s.position
         < s.position.need + min (tricks_left s.position) (length sure + length partners)
         → HasAnswer counting s false }

@@ -18,3 +18,4 @@ pub use local::LocalStore;
 pub use proven::ProvenFront;
 pub use store::{FrontStore, Look, NoStore, Put};
 pub use stored_front::{MOST_ENTRY_VECTORS, StoredFront};
+pub use stored_vectors::fill_empty;

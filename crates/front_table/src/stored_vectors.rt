@@ -48,8 +48,9 @@ fn fill_narrow(vectors: &[NarrowVector], out: &mut Front)
     }
 }
 
-// Puts the vectors into an empty front.
-fn fill_wide(vectors: &[WinVector], out: &mut Front)
+/// Puts the vectors into an empty front that has room for them. They must be their own reduced
+/// list.
+pub fn fill_empty(vectors: &[WinVector], out: &mut Front)
     requires width { HaveWidth out.old.width vectors.now }
     requires reduced { IsReduced vectors.now vectors.now }
     requires empty { out.old.vectors ≡ [] }
@@ -87,7 +88,7 @@ impl StoredVectors {
         out.clear();
         match self {
             StoredVectors::Narrow(vectors) => fill_narrow(vectors.as_slice(), out),
-            StoredVectors::Wide(vectors) => fill_wide(vectors.as_slice(), out),
+            StoredVectors::Wide(vectors) => fill_empty(vectors.as_slice(), out),
         }
     }
 }

@@ -60,21 +60,22 @@ module _ (plan : TablePlan) (i : ℕ) where
             (at_set vs me j (seen list false got busy) u there);
       }
 
+  -- a free shard stays free while each pass is outside
+  still_free : (home : Option (Option E)) (vs later : List SeenShard) (f : IsFree plan i home vs) → ((j : ℕ) (x : SeenShard) → get_elem? later j ≡ some x → IsOutside f.list x) → IsFree plan i home later
+  still_free home vs later f each = record { list = f.list; home_is = f.home_is; good = f.good; each = each }
+
   -- a pass that is outside changes what it has seen, from what two passes that are outside had seen
   pub change_one : (word : ℕ) (home : Option (Option E)) (vs : List SeenShard) (me other : ℕ) (v u w : SeenShard) → get_elem? vs me ≡ some v → get_elem? vs other ≡ some u → v.inside ≡ false → u.inside ≡ false
       → ((list : E) → IsOutside list v → IsOutside list u → IsOutside list w) → IsOneShard plan i word home vs → IsOneShard plan i word home (set vs me w)
-  change_one word home vs me other v u w at there out out' keeps (inl h) = let f = h.1 in inl (
-    h.0,
-    record {
-      list = f.list;
-      home_is = f.home_is;
-      good = f.good;
-      each = λ j x is. ⊎_elim
-          (λ (s : (j ≡ me) × (w ≡ x)). subst (IsOutside f.list) s.1 (keeps f.list (f.each me v at) (f.each other u there)))
-          (λ (s : (j ≢ me) × (get_elem? vs j ≡ some x)). f.each j x s.1)
-          (at_set vs me j w x is);
-    },
-  )
+  change_one word home vs me other v u w at there out out' keeps (inl h) =
+      let f = h.1 in
+      inl (
+        h.0,
+        still_free home vs (set vs me w) f (λ j x is. ⊎_elim
+            (λ (s : (j ≡ me) × (w ≡ x)). subst (IsOutside f.list) s.1 (keeps f.list (f.each me v at) (f.each other u there)))
+            (λ (s : (j ≢ me) × (get_elem? vs j ≡ some x)). f.each j x s.1)
+            (at_set vs me j w x is)),
+      )
   change_one word home vs me other v u w at there out out' keeps (inr h) =
       let t = h.1 in
       let apart : (k : ℕ) (x : SeenShard) → get_elem? vs k ≡ some x → x.inside ≡ false → k ≢ t.by =
@@ -97,18 +98,15 @@ module _ (plan : TablePlan) (i : ℕ) where
   -- a new pass is outside, by what one that is outside has seen
   pub push_one : (word : ℕ) (home : Option (Option E)) (vs : List SeenShard) (me : ℕ) (v w : SeenShard) → get_elem? vs me ≡ some v → v.inside ≡ false → ((list : E) → IsOutside list v → IsOutside list w)
       → IsOneShard plan i word home vs → IsOneShard plan i word home (vs ++ w ∷ [])
-  push_one word home vs me v w at out keeps (inl h) = let f = h.1 in inl (
-    h.0,
-    record {
-      list = f.list;
-      home_is = f.home_is;
-      good = f.good;
-      each = λ j x is. ⊎_elim
-          (λ (s : get_elem? vs j ≡ some x). f.each j x s)
-          (λ (s : w ≡ x). subst (IsOutside f.list) s (keeps f.list (f.each me v at)))
-          (at_snoc vs w x j is);
-    },
-  )
+  push_one word home vs me v w at out keeps (inl h) =
+      let f = h.1 in
+      inl (
+        h.0,
+        still_free home vs (vs ++ w ∷ []) f (λ j x is. ⊎_elim
+            (λ (s : get_elem? vs j ≡ some x). f.each j x s)
+            (λ (s : w ≡ x). subst (IsOutside f.list) s (keeps f.list (f.each me v at)))
+            (at_snoc vs w x j is)),
+      )
   push_one word home vs me v w at out keeps (inr h) =
       let t = h.1 in
       let apart : me ≢ t.by = λ e. not_both t.holder.inside t.inside (ap (λ (y : SeenShard). y.inside) (some-injective t.holder v (sym t.at ∙ subst (λ n. get_elem? vs n ≡ some v) e at)) ∙ out) in

@@ -1,12 +1,13 @@
 -- What a look and a put tell.
-use Rattle.std.proofs.Common.{◌≡◌, ℕ, ◌+◌, ◌<◌, true, false, [], ◌∷◌, ◌++◌, length, length-set, get_or, sym, ap, ◌∙◌, subst, inl, inr, arith, Contains}
-use Rattle.std.proofs.lemmas.List.{get_or_push, get_or_append_left, get_or_default, length_push}
+use Rattle.std.proofs.Common.{◌≡◌, ℕ, ◌+◌, ◌<◌, true, false, [], ◌∷◌, ◌++◌, length, length-set, sym, ap, ◌∙◌, subst, inl, inr, arith, Contains}
+use Rattle.std.proofs.lemmas.List.{get_or_push, get_or_append_left, length_push}
 use Rattle.std.proofs.lemmas.Bool.{cases_order}
 use mathlib.Core.List.{IsPrefix, prefix-append}
 use Rattle.front_table.specs.Proven.{ProvenFrontValue}
 use Rattle.front_table.specs.declared.store.Put.{Put}
 use Rattle.front_table.specs.declared.store.Put.TheVariants.{Kept, Present, Full, TooWide, Busy, Memory}
-use Rattle.front_table.specs.Entries.{StoredFrontValue, stored_front_of, HasKey, HasKeysOnce, IsOfKey, IsTooWide, PutLeaves}
+use Rattle.front_table.specs.Entries.{StoredFrontValue, stored_front_of, HasKey, IsTooWide, PutLeaves}
+use Rattle.front_table.proofs.Keeping.{once-push}
 use Rattle.shared_table.specs.declared.rule.TablePlan.{TablePlan}
 use Rattle.shared_table.specs.declared.rule.SeenShard.{SeenShard}
 use Rattle.shared_table.specs.declared.rule.TableView.{TableView}
@@ -66,25 +67,11 @@ end_or_before list e x (k, within, is) P before last =
       | inr (inr above) ↦ absurd (omega arith)
     ]
 
-once_push : (list : E) (e : StoredFrontValue) → HasKeysOnce list → (¬ HasKey list e.node e.moves) → HasKeysOnce (list ++ e ∷ [])
-once_push list e once new i j d before within same =
-    let long = length_push list e in
-    let first : get_or (list ++ e ∷ []) i d ≡ get_or list i d = get_or_append_left list (e ∷ []) d i (omega arith) in
-    elim (cases_order j (length list)) [
-      | inl last ↦
-          let there : get_or (list ++ e ∷ []) j d ≡ e = get_or_push list e d j (sym last) in
-          let f = get_or list i d in
-          let key : IsOfKey f.node f.moves e = rw (← there) (rw (← first) same) in
-          new (f, (i, omega arith, get_or_default list i f d (omega arith)), record { node = sym key.node; moves = sym key.moves })
-      | inr (inl below) ↦ once i j d before below (rw (← get_or_append_left list (e ∷ []) d j below) (rw (← first) same))
-      | inr (inr above) ↦ absurd (omega arith)
-    ]
-
 kept_good : (plan : TablePlan) (i : ℕ) (list : E) (e : StoredFrontValue) → IsShard plan i list → shard_of plan.shards e.node e.moves ≡ i → length list < plan.room → (¬ HasKey list e.node e.moves) → IsShard plan i (list ++ e ∷ [])
 kept_good plan i list e good here room new = record {
   fits = let long = length_push list e in omega arith;
   here = λ x there. end_or_before list e x there (λ y. shard_of plan.shards y.node y.moves ≡ i) good.here here;
-  once = once_push list e good.once new;
+  once = once-push list e good.once new;
 }
 
 abbrev Stays : TablePlan → ℕ → E → E → Type 0

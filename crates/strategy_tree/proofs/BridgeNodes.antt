@@ -5,7 +5,7 @@ use Rattle.std.proofs.lemmas.List.{length-map}
 use Rattle.card_sets.specs.SetWords.{has_card}
 use Rattle.std.proofs.Math.Path.{fun_ext}
 use Rattle.win_vectors.specs.Vectors.{ones_of}
-use Rattle.win_vectors.specs.Fronts.{Vector, CoversAll, IsFrontOf, IsReduced, spreads}
+use Rattle.win_vectors.specs.Fronts.{Vector, CoversAll, IsReduced, spreads}
 use Rattle.trick_rules.specs.Positions.{PositionValue, State, to_play}
 use Rattle.trick_rules.specs.Play.{legal_in, is_declarers, is_over, decided, take_out, cards_left}
 use Rattle.trick_rules.specs.Nodes as nodes
@@ -14,7 +14,7 @@ use Rattle.trick_rules.proofs.PlayLaws as play
 use Rattle.strategy_games.proofs.Lists.{All-at, Contains-here, Contains-there}
 use Rattle.strategy_games.specs.Games.{mask}
 use Rattle.strategy_games.specs.Plans.{stops, size_within, tree_size, IsFront, IsBelow}
-use Rattle.strategy_games.specs.Joins.{joins, AreFronts, WinsByReply}
+use Rattle.strategy_games.specs.Joins.{joins, AreFronts}
 use Rattle.strategy_games.specs.Choosing.{Keeps, misses}
 use Rattle.strategy_tree.specs.Bridge.{bridge}
 use Rattle.strategy_tree.proofs.BridgeLaws.{recursion, cuts, enough_cards, misses_tell}
@@ -125,21 +125,6 @@ pub one_reply : (n : NodeValue) (moves card : ℕ) (beta alpha : List Vector) �
 one_reply n moves card beta alpha sound open_result theirs choice below covers =
     enough_cards.one_reply n moves card beta alpha sound open_result theirs choice below
     (subst (λ (bits : Vector). CoversAll alpha (spreads bits beta)) (sym (mask-bridge n card)) covers)
-
--- one of equal replies is enough, with the masks of the node
-pub equal_replies : (n : NodeValue) (moves : ℕ) (cards : List ℕ) (front : List Vector) → IsNode n
-    → is_over n.position ≡ false → is_declarers (to_play n.position) ≡ false
-    → ((card : ℕ) → Contains cards card → Contains (choices n) card)
-    → ((card : ℕ) → Contains (choices n) card → (kept : ℕ) × Contains cards kept
-    × (child_mask n card ≡ child_mask n kept)
-    × ((other : List Vector) → IsFront bridge (child n kept) (suc moves) other
-    → IsFront bridge (child n card) (suc moves) other))
-    → IsFrontOf (WinsByReply bridge n (suc moves) cards) front → IsFront bridge n (suc moves) front
-equal_replies n moves cards front sound going theirs within equal =
-    enough_cards.equal_replies n moves cards front sound going theirs within
-    (λ card choice.
-    let kept = equal card choice in
-    (kept.0, kept.1, mask-bridge n card ∙ kept.2 ∙ sym (mask-bridge n kept.0), kept.3))
 
 -- the vectors that miss a 1, with the layouts of the child
 pub misses_below : (n : NodeValue) (moves card : ℕ) (u : Vector) → IsNode (child n card)

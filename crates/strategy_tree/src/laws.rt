@@ -1,8 +1,8 @@
 //! The laws of strategies at bridge. A call does nothing: its contract is the law, for every node
 //! and every number of moves.
-ghost use Rattle.std.specs.Prelude.{◌≡◌, ◌≢◌, ◌⊎◌, ◌↔◌, ℕ, suc, ◌+◌, ◌<◌, ◌≤◌, ◌==◌, true, false, is_some, Some, None, List, [], ◌∷◌, ◌++◌, map, replicate, length, sum_by, Contains};
+ghost use Rattle.std.specs.Prelude.{◌≡◌, ◌≢◌, ◌⊎◌, ◌↔◌, ℕ, suc, ◌+◌, ◌<◌, ◌≤◌, ◌==◌, true, false, is_some, Some, None, List, [], ◌∷◌, map, replicate, length, sum_by, Contains};
 ghost use Rattle.win_vectors.specs.Vectors.{ones_of};
-ghost use Rattle.win_vectors.specs.Fronts.{Vector, Dominates, Covers, CoversAll, IsFrontOf, IsFirstAbove, IsReduced, meets, spreads};
+ghost use Rattle.win_vectors.specs.Fronts.{Vector, Dominates, Covers, CoversAll, IsFrontOf, IsReduced, meets, spreads};
 ghost use Rattle.win_vectors.specs.Weights.{IsMonotone};
 ghost use Rattle.trick_rules.specs.Positions.{State, to_play};
 ghost use Rattle.trick_rules.specs.Play.{is_declarers, is_over, decided, makes};
@@ -10,6 +10,7 @@ ghost use Rattle.trick_rules.specs.Nodes.{NodeValue, IsNode, states, stops, choi
 ghost use Rattle.strategy_games.specs.Plans.{Plan, Play, Fits, ends, wins_vector, IsComplete, IsFront, IsBelow, tree_size};
 ghost use Rattle.strategy_games.specs.Joins.{unions, joins, AreFronts, WinsByCard, WinsByReply};
 ghost use Rattle.strategy_games.specs.Choosing.{Keeps, IsChosenPlan, IsBestCount, IsNamedCard, misses};
+ghost use Rattle.strategy_games.specs.Laws.{HasMoreMoves, HasChosenPlan, HasBestCount};
 ghost use Rattle.strategy_games.specs.SearchLaws.{HasLeaders};
 ghost use Rattle.strategy_games.specs.Misfits.{node_count, first_misfit};
 ghost use Rattle.strategy_tree.specs.Bridge.{bridge};
@@ -72,16 +73,7 @@ pub fn front_at_defender()
 /// Each vector of the front with a move more, or with any number of moves more, is dominated by one
 /// with fewer, and the best count doesn't rise.
 pub fn front_more_moves()
-    ensures vectors { (n : NodeValue) (moves : ℕ) (more less : List Vector) → IsNode n
-        → IsFront bridge n (suc moves) more → IsFront bridge n moves less → CoversAll less more }
-    ensures counts { (n : NodeValue) (moves more less : ℕ) → IsNode n
-        → IsBestCount bridge n (suc moves) more → IsBestCount bridge n moves less → more ≤ less }
-    ensures fewer { (n : NodeValue) (moves extra : ℕ) (more less : List Vector) → IsNode n
-        → IsFront bridge n (moves + extra) more → IsFront bridge n moves less
-        → CoversAll less more }
-    ensures fewer_counts { (n : NodeValue) (moves extra more less : ℕ) → IsNode n
-        → IsBestCount bridge n (moves + extra) more → IsBestCount bridge n moves less
-        → more ≤ less }
+    ensures { HasMoreMoves bridge IsNode }
 {}
 
 // ---- the plan that is printed, and the card that is named
@@ -89,31 +81,13 @@ pub fn front_more_moves()
 /// For a target that the front dominates exactly one plan is the chosen one. It is a strategy, and
 /// it wins the first vector of the front that dominates the target.
 pub fn chosen_plan_wins()
-    ensures exists { (n : NodeValue) (moves : ℕ) (target : Vector) (front : List Vector) → IsNode n
-        → IsFront bridge n moves front → Covers front target
-        → (plan : Plan ℕ) × IsChosenPlan bridge plan n moves target }
-    ensures unique { (plan other : Plan ℕ) (n : NodeValue) (moves : ℕ) (target : Vector)
-        → IsChosenPlan bridge plan n moves target → IsChosenPlan bridge other n moves target
-        → plan ≡ other }
-    ensures wins { (plan : Plan ℕ) (n : NodeValue) (moves : ℕ) (target : Vector)
-        (front : List Vector) → IsNode n
-        → IsFront bridge n moves front → Covers front target
-        → IsChosenPlan bridge plan n moves target
-        → Fits bridge plan n moves × IsFirstAbove front target (wins_vector bridge plan n) }
+    ensures { HasChosenPlan bridge IsNode }
 {}
 
 /// Exactly one count is the best. No strategy wins more layouts, and the first vector of the front
 /// has as many.
 pub fn best_count()
-    ensures exists { (n : NodeValue) (moves : ℕ) → IsNode n
-        → (best : ℕ) × IsBestCount bridge n moves best }
-    ensures unique { (n : NodeValue) (moves best other : ℕ) → IsBestCount bridge n moves best
-        → IsBestCount bridge n moves other → best ≡ other }
-    ensures most { (n : NodeValue) (moves best : ℕ) (plan : Plan ℕ)
-        → IsBestCount bridge n moves best
-        → Fits bridge plan n moves → ones_of (wins_vector bridge plan n) ≤ best }
-    ensures first { (n : NodeValue) (moves : ℕ) (vector : Vector) (rest : List Vector)
-        → IsFront bridge n moves (vector ∷ rest) → IsBestCount bridge n moves (ones_of vector) }
+    ensures { HasBestCount bridge IsNode }
 {}
 
 /// If declarer's side is to play and play isn't over, exactly one card is named, and some strategy

@@ -16,7 +16,7 @@ use Rattle.trick_rules.specs.Positions.{State, seat_after, to_play, IsState}
 use Rattle.trick_rules.specs.Play.{of_suit, is_trump, hand_of}
 use Rattle.sure_tricks.specs.Sure.{trumps_of, is_suit, AreHigh, AreSafe, AreSure, high_count, taken_from, sure_against, sure_in, sure_trumps, may_ruff, sure_of, partners_of, leads_over}
 use Rattle.sure_tricks.proofs.Hands.{next_three, hand_set}
-use Rattle.sure_tricks.proofs.Picking.{picked, in_suit, picked_high, by_suits, high_count-part}
+use Rattle.sure_tricks.proofs.Picking.{picked, in_suit, picked_high, length_by_suits, high_count-part}
 use Rattle.sure_tricks.proofs.Crossing.{safe_at_no_trump}
 
 -- ---- what is taken from a hand
@@ -70,13 +70,7 @@ module _ (s : State) (ok : IsState s) (x : Seat) (flags : Suit → Seat → Bool
   counted_in suit = in_suit (λ u. sure_in s x (flags u) u) (hand_of s x) (hand_set s ok x) suit ∙ min-eq_left (part_of_suit suit)
 
   pub length_counted : length counted ≡ sure_in s x (flags Spades) Spades + sure_in s x (flags Hearts) Hearts + sure_in s x (flags Diamonds) Diamonds + sure_in s x (flags Clubs) Clubs
-  length_counted =
-      let all = by_suits counted in
-      let a = counted_in Spades in
-      let b = counted_in Hearts in
-      let c = counted_in Diamonds in
-      let d = counted_in Clubs in
-      omega arith
+  length_counted = length_by_suits counted (λ suit. sure_in s x (flags suit) suit) counted_in
 
   counted_high : (y : Seat) → y ≢ x → AreHigh counted (hand_of s y)
   counted_high y differ = picked_high (λ u. sure_in s x (flags u) u) (hand_of s x) (hand_set s ok x) (hand_of s y) (λ suit. high_against suit y differ)

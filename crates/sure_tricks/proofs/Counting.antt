@@ -1,5 +1,5 @@
 -- How many cards of a kind are left when one is taken out.
-use Rattle.std.proofs.Common.{◌≡◌, ℕ, ◌+◌, ◌≤◌, Bool, true, false, not, ◌&&◌, eqb, cond, List, [], ◌∷◌, length, filter, refl, ap, ◌∙◌, inl, inr, arith}
+use Rattle.std.proofs.Common.{◌≡◌, ◌⊎◌, ℕ, ◌+◌, ◌≤◌, Bool, true, false, not, ◌&&◌, eqb, cond, List, [], ◌∷◌, length, filter, refl, ap, ◌∙◌, subst, inl, inr, arith}
 use Rattle.std.proofs.lemmas.Bool.{cases_Bool, cases_lt, cases_eq, ne_eqb, false≢true}
 use Rattle.card_sets.specs.SetWords.{has_card, IsCardSet}
 use Rattle.card_sets.proofs.Sets.{has_card-filter, IsCardSet-filter}
@@ -59,35 +59,50 @@ module _ (p : ℕ → Bool) where
   pub one_of : (xs : List ℕ) (c : ℕ) → has_card xs c ≡ true → p c ≡ true → 1 ≤ length (filter p xs)
   one_of xs c held e = has_card-length (filter p xs) c (has_card-filter p xs c ∙ rw (held, e) refl)
 
--- a list that isn't empty has a greatest member
-pub greatest_of : (xs : List ℕ) → 1 ≤ length xs → (w : ℕ) × (has_card xs w ≡ true) × ((c : ℕ) → has_card xs c ≡ true → c ≤ w)
-greatest_of [] some = absurd (omega arith)
-greatest_of (x ∷ []) some = (x, first_has x [], λ c h. single c h)
-  where
-    single : (c : ℕ) → has_card (x ∷ []) c ≡ true → c ≤ x
-    single c h = elim (cases_eq x c) as (λ _. c ≤ x) [
-      | inl e ↦ omega arith
+-- a list that isn't empty has a member that comes first, by any order
+module _ (Before : ℕ → ℕ → Type 0) (itself : (x : ℕ) → Before x x) (either : (x y : ℕ) → Before x y ⊎ Before y x) (on : (x y z : ℕ) → Before x y → Before y z → Before x z) where
+  pub first_of : (xs : List ℕ) → 1 ≤ length xs → (w : ℕ) × (has_card xs w ≡ true) × ((c : ℕ) → has_card xs c ≡ true → Before w c)
+  first_of [] some = absurd (omega arith)
+  first_of (x ∷ []) some = (
+    x,
+    first_has x [],
+    λ c h. elim (cases_eq x c) as (λ _. Before x c) [
+      | inl e ↦ subst (Before x) e (itself x)
       | inr e ↦ absurd (false≢true (rw (ne_eqb x c e) at h))
-    ]
-greatest_of (x ∷ y ∷ xs) some = go (greatest_of (y ∷ xs) (omega arith))
-  where
-    go : (w : ℕ) × (has_card (y ∷ xs) w ≡ true) × ((c : ℕ) → has_card (y ∷ xs) c ≡ true → c ≤ w)
-        → (w : ℕ) × (has_card (x ∷ y ∷ xs) w ≡ true) × ((c : ℕ) → has_card (x ∷ y ∷ xs) c ≡ true → c ≤ w)
-    go r = elim (cases_lt r.0 x) as (λ _. (w : ℕ) × (has_card (x ∷ y ∷ xs) w ≡ true) × ((c : ℕ) → has_card (x ∷ y ∷ xs) c ≡ true → c ≤ w)) [
-      | inl more ↦ (
-        x,
-        first_has x (y ∷ xs),
-        λ c h. elim (cases_eq x c) as (λ _. c ≤ x) [
-          | inl e ↦ omega arith
-          | inr e ↦ (let low = r.2 c (rw (ne_eqb x c e) at h) in omega arith)
-        ],
-      )
-      | inr less ↦ (
-        r.0,
-        rw r.1 (or_true (eqb x r.0)),
-        λ c h. elim (cases_eq x c) as (λ _. c ≤ r.0) [
-          | inl e ↦ omega arith
-          | inr e ↦ r.2 c (rw (ne_eqb x c e) at h)
-        ],
-      )
-    ]
+    ],
+  )
+  first_of (x ∷ y ∷ xs) some = go (first_of (y ∷ xs) (omega arith))
+    where
+      go : (w : ℕ) × (has_card (y ∷ xs) w ≡ true) × ((c : ℕ) → has_card (y ∷ xs) c ≡ true → Before w c)
+          → (w : ℕ) × (has_card (x ∷ y ∷ xs) w ≡ true) × ((c : ℕ) → has_card (x ∷ y ∷ xs) c ≡ true → Before w c)
+      go r = elim (either x r.0) as (λ _. (w : ℕ) × (has_card (x ∷ y ∷ xs) w ≡ true) × ((c : ℕ) → has_card (x ∷ y ∷ xs) c ≡ true → Before w c)) [
+        | inl here ↦ (
+          x,
+          first_has x (y ∷ xs),
+          λ c h. elim (cases_eq x c) as (λ _. Before x c) [
+            | inl e ↦ subst (Before x) e (itself x)
+            | inr e ↦ on x r.0 c here (r.2 c (rw (ne_eqb x c e) at h))
+          ],
+        )
+        | inr there ↦ (
+          r.0,
+          rw r.1 (or_true (eqb x r.0)),
+          λ c h. elim (cases_eq x c) as (λ _. Before r.0 c) [
+            | inl e ↦ subst (Before r.0) e there
+            | inr e ↦ r.2 c (rw (ne_eqb x c e) at h)
+          ],
+        )
+      ]
+
+in_order : (x y : ℕ) → (x ≤ y) ⊎ (y ≤ x)
+in_order x y = elim (cases_lt x y) as (λ _. (x ≤ y) ⊎ (y ≤ x)) [
+  | inl less ↦ inl (omega arith)
+  | inr more ↦ inr more
+]
+
+-- a greatest one, and a least
+pub greatest_of : (xs : List ℕ) → 1 ≤ length xs → (w : ℕ) × (has_card xs w ≡ true) × ((c : ℕ) → has_card xs c ≡ true → c ≤ w)
+greatest_of = first_of (λ x y. y ≤ x) (λ x. omega arith) (λ x y. in_order y x) (λ x y z h k. omega arith)
+
+pub least_of : (xs : List ℕ) → 1 ≤ length xs → (w : ℕ) × (has_card xs w ≡ true) × ((c : ℕ) → has_card xs c ≡ true → w ≤ c)
+least_of = first_of (λ x y. x ≤ y) (λ x. omega arith) in_order (λ x y z h k. omega arith)

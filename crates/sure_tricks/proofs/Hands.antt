@@ -1,22 +1,22 @@
 -- Seats round the table, hands after a card, and what decides a state.
 use Rattle.std.proofs.Common.{◌≡◌, ◌≢◌, ◌⊎◌, ℕ, zero, suc, ◌+◌, ◌-◌, ◌%◌, ◌<◌, ◌≤◌, Bool, true, false, not, eqb, cond, List, [], ◌∷◌, length, filter, refl, sym, ap, ◌∙◌, inl, inr, arith}
 use Rattle.std.specs.List.{list_any, list_all}
-use Rattle.std.proofs.lemmas.Bool.{eq-eqb, ne_eqb, lt-ltb, both_ways, false_from_ne_true}
+use Rattle.std.proofs.lemmas.Bool.{cases_eq, eq-eqb, ne_eqb, lt-ltb, both_ways, false_from_ne_true}
 use Rattle.card_sets.specs.declared.seat.Seat.{Seat}
 use Rattle.card_sets.specs.declared.seat.Seat.TheVariants.{Declarer, Left, Dummy, Right}
 use Rattle.card_sets.specs.SetWords.{has_card, IsCardSet}
 use Rattle.card_sets.proofs.Sets.{IsCardSet-filter}
 use Rattle.card_sets.proofs.SetCounts.{take_out-absent}
-use Rattle.trick_rules.specs.Positions.{PositionValue, State, seat_after, seat_place, to_play, tricks_left, IsSound, IsState}
+use Rattle.trick_rules.specs.Positions.{PositionValue, State, seat_after, seat_place, places_on, to_play, tricks_left, IsSound, IsState}
 use Rattle.trick_rules.specs.Play.{take_out, put_card, after_card, after, hand_of, legal_in, is_declarers, is_over, winner_of, CanPlay, makes}
-use Rattle.trick_rules.proofs.CardLists.{has_card-take_out, list_any-from_card, card_from_list_any, list_all-from_cards, cards_from_list_all}
+use Rattle.trick_rules.proofs.CardLists.{has_card-take_out, take_out-low, list_any-from_card, card_from_list_any, list_all-from_cards, cards_from_list_all}
 use Rattle.trick_rules.proofs.States.{after_card-declarer, after_card-dummy, after_card-unseen, tricks_left-after, some_legal}
 use Rattle.trick_rules.proofs.Soundness.{after_short, after_third}
 use Rattle.trick_rules.proofs.PlayLaws.{hands_are_apart, makes_by_some_card, makes_against_each_card, makes_where_decided}
 
 -- ---- seats
 
-place-after : (i : ℕ) (x : Seat) → i < 4 → seat_place (seat_after i x) ≡ (seat_place x + i) % 4
+pub place-after : (i : ℕ) (x : Seat) → i < 4 → seat_place (seat_after i x) ≡ (seat_place x + i) % 4
 place-after zero Declarer h = refl
 place-after zero Left h = refl
 place-after zero Dummy h = refl
@@ -35,7 +35,7 @@ place-after (suc (suc (suc zero))) Dummy h = refl
 place-after (suc (suc (suc zero))) Right h = refl
 place-after (suc (suc (suc (suc i)))) x h = absurd (omega arith)
 
-place_low : (x : Seat) → seat_place x < 4
+pub place_low : (x : Seat) → seat_place x < 4
 place_low Declarer = omega arith
 place_low Left = omega arith
 place_low Dummy = omega arith
@@ -50,43 +50,48 @@ seats_differ i j x low_i low_j differ e =
     let low = place_low x in
     differ (omega arith)
 
--- each other seat is one of the next three
-pub next_three : (x y : Seat) → y ≢ x → (i : ℕ) × (1 ≤ i) × (i < 4) × (seat_after i x ≡ y)
-next_three Declarer Declarer differ = absurd (differ refl)
-next_three Declarer Left differ = (1, omega arith, omega arith, refl)
-next_three Declarer Dummy differ = (2, omega arith, omega arith, refl)
-next_three Declarer Right differ = (3, omega arith, omega arith, refl)
-next_three Left Left differ = absurd (differ refl)
-next_three Left Dummy differ = (1, omega arith, omega arith, refl)
-next_three Left Right differ = (2, omega arith, omega arith, refl)
-next_three Left Declarer differ = (3, omega arith, omega arith, refl)
-next_three Dummy Dummy differ = absurd (differ refl)
-next_three Dummy Right differ = (1, omega arith, omega arith, refl)
-next_three Dummy Declarer differ = (2, omega arith, omega arith, refl)
-next_three Dummy Left differ = (3, omega arith, omega arith, refl)
-next_three Right Right differ = absurd (differ refl)
-next_three Right Declarer differ = (1, omega arith, omega arith, refl)
-next_three Right Left differ = (2, omega arith, omega arith, refl)
-next_three Right Dummy differ = (3, omega arith, omega arith, refl)
+seat_at : ℕ → Seat
+seat_at zero = Declarer
+seat_at (suc zero) = Left
+seat_at (suc (suc zero)) = Dummy
+seat_at (suc (suc (suc n))) = Right
+
+at_place : (x : Seat) → seat_at (seat_place x) ≡ x
+at_place Declarer = refl
+at_place Left = refl
+at_place Dummy = refl
+at_place Right = refl
+
+-- one place, one seat
+one_place : (x y : Seat) → seat_place x ≡ seat_place y → x ≡ y
+one_place x y e = sym (at_place x) ∙ ap seat_at e ∙ at_place y
 
 -- one seat or two
 pub seat_cases : (x y : Seat) → (x ≡ y) ⊎ (x ≢ y)
-seat_cases Declarer Declarer = inl refl
-seat_cases Declarer Left = inr (λ e. cc)
-seat_cases Declarer Dummy = inr (λ e. cc)
-seat_cases Declarer Right = inr (λ e. cc)
-seat_cases Left Declarer = inr (λ e. cc)
-seat_cases Left Left = inl refl
-seat_cases Left Dummy = inr (λ e. cc)
-seat_cases Left Right = inr (λ e. cc)
-seat_cases Dummy Declarer = inr (λ e. cc)
-seat_cases Dummy Left = inr (λ e. cc)
-seat_cases Dummy Dummy = inl refl
-seat_cases Dummy Right = inr (λ e. cc)
-seat_cases Right Declarer = inr (λ e. cc)
-seat_cases Right Left = inr (λ e. cc)
-seat_cases Right Dummy = inr (λ e. cc)
-seat_cases Right Right = inl refl
+seat_cases x y = elim (cases_eq (seat_place x) (seat_place y)) as (λ _. (x ≡ y) ⊎ (x ≢ y)) [
+  | inl same ↦ inl (one_place x y same)
+  | inr differ ↦ inr (λ e. differ (ap seat_place e))
+]
+
+-- places round the table
+places_low : (n : ℕ) → n % 4 < 4
+places_low n = omega arith
+
+places_apart : (p q : ℕ) → p < 4 → q < 4 → q ≢ p → 1 ≤ (q + 4 - p) % 4
+places_apart p q low_p low_q differ = omega arith
+
+places_there : (p q : ℕ) → p < 4 → q < 4 → (p + (q + 4 - p) % 4) % 4 ≡ q
+places_there p q low_p low_q = omega arith
+
+-- each other seat is one of the next three
+pub next_three : (x y : Seat) → y ≢ x → (i : ℕ) × (1 ≤ i) × (i < 4) × (seat_after i x ≡ y)
+next_three x y differ =
+    let low = places_low (seat_place y + 4 - seat_place x) in (
+      places_on x y,
+      places_apart (seat_place x) (seat_place y) (place_low x) (place_low y) (λ e. differ (one_place y x e)),
+      low,
+      one_place (seat_after (places_on x y) x) y (place-after (places_on x y) x low ∙ places_there (seat_place x) (seat_place y) (place_low x) (place_low y)),
+    )
 
 -- ---- hands
 
@@ -108,6 +113,10 @@ hand_after s c Declarer = after_card-declarer s.position c
 hand_after s c Left = refl
 hand_after s c Dummy = after_card-dummy s.position c
 hand_after s c Right = ap (λ (u : List ℕ). filter (λ d. not (has_card (take_out c s.left) d)) u) (after_card-unseen s.position c) ∙ rights_out c s.left s.position.unseen
+
+-- what a hand has after a card it had before
+pub was_held : (s : State) (c : ℕ) (y : Seat) (d : ℕ) → has_card (hand_of (after s c) y) d ≡ true → has_card (hand_of s y) d ≡ true
+was_held s c y d h = take_out-low c (hand_of s y) d (sym (ap (λ (l : List ℕ). has_card l d) (hand_after s c y)) ∙ h)
 
 -- the hands of the others stay as they are
 pub hand_stays : (s : State) (c : ℕ) (y : Seat) → IsState s → has_card (hand_of s (to_play s.position)) c ≡ true → y ≢ to_play s.position → hand_of (after s c) y ≡ hand_of s y

@@ -1,5 +1,5 @@
 -- What becomes of a hand when it plays to the lead of a sure card.
-use Rattle.std.proofs.Common.{◌≡◌, ◌≢◌, ◌⊎◌, ℕ, ◌+◌, ◌<◌, ◌≤◌, Bool, true, false, not, ◌&&◌, eqb, nat_lt, cond, List, [], ◌∷◌, length, refl, sym, ap, ◌∙◌, subst, inl, inr, ⊎_elim, arith}
+use Rattle.std.proofs.Common.{◌≡◌, ◌≢◌, ◌⊎◌, ℕ, ◌+◌, ◌<◌, ◌≤◌, Bool, true, false, not, ◌&&◌, eqb, nat_lt, cond, List, [], ◌∷◌, length, get_or, refl, sym, ap, ◌∙◌, subst, inl, inr, ⊎_elim, arith}
 use Rattle.std.proofs.lemmas.Bool.{cases_Bool, eqb-false, false≢true, and_parts, not-true, lt-ltb, le-ltb}
 use Rattle.card_sets.specs.declared.card.Suit.{Suit}
 use Rattle.card_sets.specs.Cards.{suit_of, rank_of, same_suit, card_of}
@@ -56,6 +56,13 @@ may_follow w ds hand c legal = go (of_suit (suit_of w) hand) refl legal
         let both = and_parts (has_card hand c) (same_suit (suit_of c) (suit_of w))
         (sym (has_card-filter (λ d. same_suit (suit_of d) (suit_of w)) hand c) ∙ ap (λ (l : List ℕ). has_card l c) e ∙ h) in
         record { held = both.0; suit = inl (same_suit-true (suit_of c) (suit_of w) both.1) }
+
+-- the same by the suit led
+pub follows_suit : (cards hand : List ℕ) (v : Suit) (c : ℕ) → 1 ≤ length cards → suit_of (get_or cards 0 0) ≡ v → has_card (legal_cards cards hand) c ≡ true
+    → (suit_of c ≡ v) ⊎ ((d : ℕ) → has_card hand d ≡ true → same_suit (suit_of d) v ≡ false)
+follows_suit [] hand v c some led legal = absurd (omega arith)
+follows_suit (w ∷ ds) hand v c some led legal =
+    subst (λ u. (suit_of c ≡ u) ⊎ ((d : ℕ) → has_card hand d ≡ true → same_suit (suit_of d) u ≡ false)) led (may_follow w ds hand c legal).suit
 
 -- a hand with none of the suit
 pub none_in_hand : (w : ℕ) (hand : List ℕ) → ((d : ℕ) → has_card hand d ≡ true → same_suit (suit_of d) (suit_of w) ≡ false) → length (of_suit (suit_of w) hand) ≡ 0

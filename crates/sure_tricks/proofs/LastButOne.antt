@@ -1,8 +1,6 @@
 -- The last trick but one, if only one seat of a side can win it: the other side keeps a card that is higher than this seat's last.
-use Rattle.std.proofs.Common.{◌≡◌, ◌≢◌, ◌⊎◌, ℕ, zero, suc, ◌+◌, ◌<◌, ◌≤◌, Bool, true, false, not, eqb, cond, List, [], ◌∷◌, ◌++◌, length, filter, get_or, refl, sym, ap, ◌∙◌, subst, inl, inr, arith}
+use Rattle.std.proofs.Common.{◌≡◌, ◌≢◌, ◌⊎◌, ℕ, zero, suc, ◌+◌, ◌<◌, ◌≤◌, Bool, true, false, not, eqb, cond, List, [], ◌∷◌, length, filter, get_or, refl, sym, ap, ◌∙◌, subst, inl, inr, arith}
 use Rattle.std.proofs.lemmas.Bool.{cases_Bool, cases_eq, cases_lt, eq-eqb, ne_eqb, false≢true, and_parts}
-use Rattle.std.proofs.lemmas.List.{get_or_append_left}
-use Rattle.std.proofs.Math.Seq.{get_or-append_seam}
 use Rattle.card_sets.specs.declared.card.Suit.{Suit}
 use Rattle.card_sets.specs.declared.seat.Seat.{Seat}
 use Rattle.card_sets.specs.declared.seat.Seat.TheVariants.{Declarer, Left, Dummy, Right}
@@ -13,18 +11,18 @@ use Rattle.card_sets.proofs.SetCounts.{some_card, length-take_out}
 use Rattle.trick_rules.specs.declared.trump.Trump.{Trump}
 use Rattle.trick_rules.specs.declared.trump.Trump.TheVariants.{NoTrump}
 use Rattle.trick_rules.specs.Positions.{TrickValue, PositionValue, State, seat_after, to_play, played_count, tricks_left, IsState}
-use Rattle.trick_rules.specs.Play.{legal_cards, take_out, put_card, after, hand_of, legal_in, is_declarers, winner_of, CanPlay, makes}
-use Rattle.trick_rules.proofs.CardLists.{has_card-take_out, take_out-low}
+use Rattle.trick_rules.specs.Play.{take_out, put_card, after, hand_of, legal_in, is_declarers, winner_of, CanPlay, makes}
+use Rattle.trick_rules.proofs.CardLists.{has_card-take_out}
 use Rattle.trick_rules.proofs.States.{after-IsState, after_card-trump, legal_can_play, legal_cards-low, hand_length, cards_more}
-use Rattle.trick_rules.proofs.Soundness.{after_short, after_third}
+use Rattle.trick_rules.proofs.Soundness.{with_card, after_short, after_third}
 use Rattle.trick_rules.proofs.Turns.{count_in-turn}
 use Rattle.trick_rules.proofs.PlayLaws.{hands_are_apart, the_need_never_rises, the_need_falls_by_one_at_most}
 use Rattle.sure_tricks.specs.Stoppers.{has_suit}
-use Rattle.sure_tricks.proofs.Holding.{may_follow, suit_test}
-use Rattle.sure_tricks.proofs.Hands.{seats_differ, hand_after, hand_stays, hand_set, next_three, seat_cases, by_card, by_each, Suffices, settled, tricks_within, tricks_last, suffices_within, suffices_after}
+use Rattle.sure_tricks.proofs.Holding.{follows_suit, suit_test}
+use Rattle.sure_tricks.proofs.Hands.{seats_differ, hand_after, was_held, hand_stays, hand_set, next_three, seat_cases, by_card, by_each, Suffices, settled, tricks_within, tricks_last, suffices_within, suffices_after}
 use Rattle.sure_tricks.proofs.Cash.{going}
 use Rattle.sure_tricks.proofs.TopTrumps.{sides, two_sides}
-use Rattle.sure_tricks.proofs.StoppedSuit.{AreLowerAt, not_won_by, stop_led}
+use Rattle.sure_tricks.proofs.StoppedSuit.{AreLowerAt, not_won_by, kept_at, last_at, stop_led}
 use Rattle.sure_tricks.proofs.Stoppers.{card_had, throw_from}
 
 -- ---- seats
@@ -107,20 +105,11 @@ pub record IsEnding (b : Bool) (w : ℕ) (v : Suit) (z l : Seat) (s : State) : T
       ⊎ ((length s.position.trick.cards ≤ place) × (has_card (hand_of s z) best ≡ true) × ((c : ℕ) → has_card (hand_of s z) c ≡ true → (c ≡ best) ⊎ (suit_of c ≡ suit_of w)))
 
 module _ (b : Bool) (w : ℕ) (v : Suit) (z l : Seat) (s : State) (e : IsEnding b w v z l s) (c : ℕ) (legal : has_card (legal_in s) c ≡ true) (keeps : has_card (w ∷ []) c ≡ false) where
-  abbrev now : List ℕ
-  now = s.position.trick.cards ++ c ∷ []
-
   in_hand : has_card (hand_of s (to_play s.position)) c ≡ true
   in_hand = legal_cards-low s.position.trick.cards (hand_of s (to_play s.position)) c legal
 
   can : CanPlay s.position c
   can = legal_can_play s e.ok c legal
-
-  count : length now ≡ suc (length s.position.trick.cards)
-  count = cards_more s.position c
-
-  was : (seat : Seat) (d : ℕ) → has_card (hand_of (after s c) seat) d ≡ true → has_card (hand_of s seat) d ≡ true
-  was seat d h = take_out-low c (hand_of s seat) d (sym (ap (λ (xs : List ℕ). has_card xs d) (hand_after s c seat)) ∙ h)
 
   not_c : w ≢ c
   not_c i = false≢true (sym keeps ∙ subst (λ d. has_card (w ∷ []) d ≡ true) i (own w))
@@ -131,47 +120,35 @@ module _ (b : Bool) (w : ℕ) (v : Suit) (z l : Seat) (s : State) (e : IsEnding 
   held_after : (seat : Seat) × (is_declarers seat ≡ not b) × (has_card (hand_of (after s c) seat) w ≡ true)
   held_after = ((e.held).0, (e.held).1, ap (λ (xs : List ℕ). has_card xs w) (hand_after s c (e.held).0) ∙ has_card-take_out c (hand_of s (e.held).0) w ∙ rw ((e.held).2, ne_eqb w c not_c) refl)
 
-  kept_at : (k : ℕ) → k < length s.position.trick.cards → get_or now k 0 ≡ get_or s.position.trick.cards k 0
-  kept_at k before = get_or_append_left s.position.trick.cards (c ∷ []) 0 k before
-
-  last_at : get_or now (length s.position.trick.cards) 0 ≡ c
-  last_at = get_or-append_seam s.position.trick.cards c [] 0
-
-  lower_more : AreLowerAt (λ seat. seat ≡ l) e.best s.position.trick.leader now
-  lower_more k low whose suit = elim (cases_lt k (length s.position.trick.cards)) as (λ _. rank_of (get_or now k 0) < rank_of e.best) [
-    | inl before ↦ (let same = kept_at k before in
+  lower_more : AreLowerAt (λ seat. seat ≡ l) e.best s.position.trick.leader (with_card s.position c)
+  lower_more k low whose suit = elim (cases_lt k (length s.position.trick.cards)) as (λ _. rank_of (get_or (with_card s.position c) k 0) < rank_of e.best) [
+    | inl before ↦ (let same = kept_at s.position c k before in
         subst (λ d. rank_of d < rank_of e.best) (sym same) (e.lower k before whose (ap suit_of (sym same) ∙ suit)))
-    | inr past ↦ (let i : k ≡ length s.position.trick.cards = omega (arith, low, past, count) in
-        let same : get_or now k 0 ≡ c = ap (λ j. get_or now j 0) i ∙ last_at in
+    | inr past ↦ (let i : k ≡ length s.position.trick.cards = omega (arith, low, past, cards_more s.position c) in
+        let same : get_or (with_card s.position c) k 0 ≡ c = ap (λ j. get_or (with_card s.position c) j 0) i ∙ last_at s.position c in
         let turn : to_play s.position ≡ l = ap (λ j. seat_after j s.position.trick.leader) (sym i) ∙ whose in
         subst (λ d. rank_of d < rank_of e.best) (sym same)
         (e.lower_held c (subst (λ seat. has_card (hand_of s seat) c ≡ true) turn in_hand) (ap suit_of (sym same) ∙ suit ∙ e.best_suit)))
   ]
 
-  led_more : suit_of (get_or now 0 0) ≡ v
-  led_more = ap suit_of (kept_at 0 e.some) ∙ e.led
+  led_more : suit_of (get_or (with_card s.position c) 0 0) ≡ v
+  led_more = ap suit_of (kept_at s.position c 0 e.some) ∙ e.led
 
   follows : (suit_of c ≡ v) ⊎ ((d : ℕ) → has_card (hand_of s (to_play s.position)) d ≡ true → same_suit (suit_of d) v ≡ false)
-  follows = go s.position.trick.cards e.some e.led legal
-    where
-      go : (cards : List ℕ) → 1 ≤ length cards → suit_of (get_or cards 0 0) ≡ v → has_card (legal_cards cards (hand_of s (to_play s.position))) c ≡ true
-          → (suit_of c ≡ v) ⊎ ((d : ℕ) → has_card (hand_of s (to_play s.position)) d ≡ true → same_suit (suit_of d) v ≡ false)
-      go [] some suit held = absurd (omega arith)
-      go (d ∷ ds) some suit held = subst (λ u. (suit_of c ≡ u) ⊎ ((x : ℕ) → has_card (hand_of s (to_play s.position)) x ≡ true → same_suit (suit_of x) u ≡ false)) suit
-          (may_follow d ds (hand_of s (to_play s.position)) c held).suit
+  follows = follows_suit s.position.trick.cards (hand_of s (to_play s.position)) v c e.some e.led legal
 
   -- the seat that can win has played its card of the suit led, or will have to
   abbrev IsThere : Type 0
-  IsThere = ((e.place < length now) × (get_or now e.place 0 ≡ e.best) × ((d : ℕ) → has_card (hand_of (after s c) z) d ≡ true → suit_of d ≡ suit_of w))
-      ⊎ ((length now ≤ e.place) × (has_card (hand_of (after s c) z) e.best ≡ true) × ((d : ℕ) → has_card (hand_of (after s c) z) d ≡ true → (d ≡ e.best) ⊎ (suit_of d ≡ suit_of w)))
+  IsThere = ((e.place < length (with_card s.position c)) × (get_or (with_card s.position c) e.place 0 ≡ e.best) × ((d : ℕ) → has_card (hand_of (after s c) z) d ≡ true → suit_of d ≡ suit_of w))
+      ⊎ ((length (with_card s.position c) ≤ e.place) × (has_card (hand_of (after s c) z) e.best ≡ true) × ((d : ℕ) → has_card (hand_of (after s c) z) d ≡ true → (d ≡ e.best) ⊎ (suit_of d ≡ suit_of w)))
 
   there_more : IsThere
   there_more = elim e.there as (λ _. IsThere) [
-    | inl (before, is, all) ↦ inl (omega (arith, before, count), kept_at e.place before ∙ is, λ d h. all d (was z d h))
+    | inl (before, is, all) ↦ inl (omega (arith, before, cards_more s.position c), kept_at s.position c e.place before ∙ is, λ d h. all d (was_held s c z d h))
     | inr (past, held, all) ↦ elim (cases_eq e.place (length s.position.trick.cards)) as (λ _. IsThere) [
-      | inl i ↦ inl (omega (arith, i, count), ap (λ j. get_or now j 0) i ∙ last_at ∙ plays i held all, λ d h. rest i held all d h)
+      | inl i ↦ inl (omega (arith, i, cards_more s.position c), ap (λ j. get_or (with_card s.position c) j 0) i ∙ last_at s.position c ∙ plays i held all, λ d h. rest i held all d h)
       | inr differ ↦ (let stays = hand_stays s c z e.ok in_hand (λ j. seats_differ e.place (length s.position.trick.cards) s.position.trick.leader e.low e.ok.sound.trick_short differ (e.at ∙ j)) in
-          inr (omega (arith, past, differ, count), ap (λ (xs : List ℕ). has_card xs e.best) stays ∙ held, λ d h. all d (was z d h)))
+          inr (omega (arith, past, differ, cards_more s.position c), ap (λ (xs : List ℕ). has_card xs e.best) stays ∙ held, λ d h. all d (was_held s c z d h)))
     ]
   ]
     where
@@ -189,7 +166,7 @@ module _ (b : Bool) (w : ℕ) (v : Suit) (z l : Seat) (s : State) (e : IsEnding 
 
       rest : e.place ≡ length s.position.trick.cards → has_card (hand_of s z) e.best ≡ true → ((d : ℕ) → has_card (hand_of s z) d ≡ true → (d ≡ e.best) ⊎ (suit_of d ≡ suit_of w))
           → (d : ℕ) → has_card (hand_of (after s c) z) d ≡ true → suit_of d ≡ suit_of w
-      rest i held all d h = elim (all d (was z d h)) as (λ _. suit_of d ≡ suit_of w) [
+      rest i held all d h = elim (all d (was_held s c z d h)) as (λ _. suit_of d ≡ suit_of w) [
         | inl same ↦ absurd (
             let parts = and_parts (has_card (hand_of s z) d) (not (eqb d c)) (sym (has_card-take_out c (hand_of s z) d) ∙ sym (ap (λ (xs : List ℕ). has_card xs d) (hand_after s c z)) ∙ h) in
             false≢true (sym (ap not (eq-eqb d c (same ∙ sym (plays i held all)))) ∙ parts.1))
@@ -198,23 +175,23 @@ module _ (b : Bool) (w : ℕ) (v : Suit) (z l : Seat) (s : State) (e : IsEnding 
 
   ending_on : length s.position.trick.cards < 3 → IsEnding b w v z l (after s c)
   ending_on short =
-      let is : (after s c).position.trick ≡ record { leader = s.position.trick.leader; cards = now } = ap (λ (u : PositionValue). u.trick) (after_short s.position c short) in
+      let is : (after s c).position.trick ≡ record { leader = s.position.trick.leader; cards = with_card s.position c } = ap (λ (u : PositionValue). u.trick) (after_short s.position c short) in
       let tricks = tricks_within s.position c e.ok.sound can short in
       record {
         ok = after-IsState s e.ok c legal;
         two = let two = e.two in omega (arith, two, tricks);
         trumps = after_card-trump s.position c ∙ e.trumps;
-        some = subst (λ (t : TrickValue). 1 ≤ length t.cards) (sym is) (omega (arith, count));
+        some = subst (λ (t : TrickValue). 1 ≤ length t.cards) (sym is) (omega (arith, cards_more s.position c));
         led = subst (λ (t : TrickValue). suit_of (get_or t.cards 0 0) ≡ v) (sym is) led_more;
         other = e.other;
         held = held_after;
-        highest = λ seat side d h suit. e.highest seat side d (was seat d h) suit;
+        highest = λ seat side d h suit. e.highest seat side d (was_held s c seat d h) suit;
         either = e.either;
         side = e.side;
         best = e.best;
         best_suit = e.best_suit;
         lower = subst (λ (t : TrickValue). AreLowerAt (λ seat. seat ≡ l) e.best t.leader t.cards) (sym is) lower_more;
-        lower_held = λ d h suit. e.lower_held d (was l d h) suit;
+        lower_held = λ d h suit. e.lower_held d (was_held s c l d h) suit;
         place = e.place;
         low = e.low;
         at = subst (λ (t : TrickValue). seat_after e.place t.leader ≡ z) (sym is) e.at;
@@ -231,9 +208,9 @@ module _ (b : Bool) (w : ℕ) (v : Suit) (z l : Seat) (s : State) (e : IsEnding 
           let two = e.two in
           let leads : (after s c).position.trick.leader ≡ z = ap (λ (u : PositionValue). u.trick.leader) (after_third s.position c third) ∙ wins before is ours in
           last_trick b w (after s c) ok_after (omega (arith, tricks, two)) (after_card-trump s.position c ∙ e.trumps) (ap (λ (u : PositionValue). u.trick.cards) (after_third s.position c third))
-          (ap is_declarers leads ∙ e.side) held_after (λ seat side d held suit. e.highest seat side d (was seat d held) suit)
+          (ap is_declarers leads ∙ e.side) held_after (λ seat side d held suit. e.highest seat side d (was_held s c seat d held) suit)
           (λ d held. all d (subst (λ seat. has_card (hand_of (after s c) seat) d ≡ true) leads held)) (one_left third (not b) h))
-      | inr (past, held, all) ↦ absurd (omega (arith, past, count, third, e.low))
+      | inr (past, held, all) ↦ absurd (omega (arith, past, cards_more s.position c, third, e.low))
     ]
   ]
     where
@@ -243,11 +220,11 @@ module _ (b : Bool) (w : ℕ) (v : Suit) (z l : Seat) (s : State) (e : IsEnding 
       ok_after : IsState (after s c)
       ok_after = after-IsState s e.ok c legal
 
-      wins : e.place < length now → get_or now e.place 0 ≡ e.best → is_declarers winner ≡ b → winner ≡ z
+      wins : e.place < length (with_card s.position c) → get_or (with_card s.position c) e.place 0 ≡ e.best → is_declarers winner ≡ b → winner ≡ z
       wins before is ours = elim (e.either winner ours) as (λ _. winner ≡ z) [
         | inl same ↦ same
-        | inr loser ↦ absurd (not_won_by (λ seat. seat ≡ l) s.position.trick.leader now e.place before (led_more ∙ sym (ap suit_of is ∙ e.best_suit))
-            (subst (λ d. AreLowerAt (λ seat. seat ≡ l) d s.position.trick.leader now) (sym is) lower_more)
+        | inr loser ↦ absurd (not_won_by (λ seat. seat ≡ l) s.position.trick.leader (with_card s.position c) e.place before (led_more ∙ sym (ap suit_of is ∙ e.best_suit))
+            (subst (λ d. AreLowerAt (λ seat. seat ≡ l) d s.position.trick.leader (with_card s.position c)) (sym is) lower_more)
             (ap (λ (u : Trump). winner_of u (put_card s.position c).trick) (sym e.trumps) ∙ loser))
       ]
 
@@ -266,7 +243,7 @@ module _ (b : Bool) (w : ℕ) (v : Suit) (z l : Seat) (s : State) (e : IsEnding 
   ]
 
   more : length s.position.trick.cards < 3 → length (after s c).position.trick.cards ≡ suc (length s.position.trick.cards)
-  more short = ap (λ (u : PositionValue). length u.trick.cards) (after_short s.position c short) ∙ count
+  more short = ap (λ (u : PositionValue). length u.trick.cards) (after_short s.position c short) ∙ cards_more s.position c
 
 pub endings : (n : ℕ) (b : Bool) (w : ℕ) (v : Suit) (z l : Seat) (s : State) → IsEnding b w v z l s → 4 ≤ length s.position.trick.cards + n → Suffices (not b) s.position 1 → makes s ≡ not b
 endings zero b w v z l s e few h = absurd (omega (arith, few, e.ok.sound.trick_short))

@@ -169,6 +169,10 @@ by_suits (x ∷ xs) = go (suit_of x) (by_suits xs)
     go Diamonds rest = omega arith
     go Clubs rest = omega arith
 
+-- the same, with a number for each suit
+pub length_by_suits : (xs : List ℕ) (number : Suit → ℕ) → ((suit : Suit) → length (of_suit suit xs) ≡ number suit) → length xs ≡ number Spades + number Hearts + number Diamonds + number Clubs
+length_by_suits xs number are = omega (arith, by_suits xs, are Spades, are Hearts, are Diamonds, are Clubs)
+
 -- what is high is no more than there is
 pub high_count-part : (own theirs : List ℕ) → high_count own theirs ≤ length own
 high_count-part own theirs = go (nat_lt (top_count own theirs) (length theirs)) (length-part (λ c. list_all (λ d. nat_lt d c) theirs) own)

@@ -15,7 +15,7 @@ use Rattle.trick_rules.specs.Play.{put_card, after, hand_of, legal_in, legal_car
 use Rattle.trick_rules.proofs.CardLists.{take_out-low}
 use Rattle.trick_rules.proofs.TrickLemmas.{IsHighest, winner_from_highest}
 use Rattle.trick_rules.proofs.States.{after-IsState, after_card-trump, legal_can_play, legal_cards-low, cards_more}
-use Rattle.trick_rules.proofs.Soundness.{after_short}
+use Rattle.trick_rules.proofs.Soundness.{with_card, after_short}
 use Rattle.sure_tricks.proofs.Holding.{suit_test}
 use Rattle.sure_tricks.proofs.Hands.{hand_after, hand_stays, seats_differ, next_three, by_card, by_each, Suffices, settled, tricks_within, suffices_within, suffices_after}
 use Rattle.sure_tricks.proofs.Cash.{going}
@@ -73,6 +73,12 @@ other_side_wins b leader cards p low suit lower =
 
 -- ---- while the cards are played
 
+pub kept_at : (t : PositionValue) (c k : ℕ) → k < length t.trick.cards → get_or (with_card t c) k 0 ≡ get_or t.trick.cards k 0
+kept_at t c k before = get_or_append_left t.trick.cards (c ∷ []) 0 k before
+
+pub last_at : (t : PositionValue) (c : ℕ) → get_or (with_card t c) (length t.trick.cards) 0 ≡ c
+last_at t c = get_or-append_seam t.trick.cards c [] 0
+
 -- a card of the suit led, above those of the side in the trick and in its hands, that lies in the trick or is still to come
 pub record IsStopped (b : Bool) (w : ℕ) (s : State) : Type 0 where
   pub ok : IsState s
@@ -89,56 +95,44 @@ pub record IsStopped (b : Bool) (w : ℕ) (s : State) : Type 0 where
       ⊎ ((length s.position.trick.cards ≤ place) × (has_card (hand_of s (seat_after place s.position.trick.leader)) w ≡ true))
 
 module _ (b : Bool) (w : ℕ) (s : State) (st : IsStopped b w s) (c : ℕ) (legal : has_card (legal_in s) c ≡ true) where
-  abbrev now : List ℕ
-  now = s.position.trick.cards ++ c ∷ []
-
   in_hand : has_card (hand_of s (to_play s.position)) c ≡ true
   in_hand = legal_cards-low s.position.trick.cards (hand_of s (to_play s.position)) c legal
 
   can : CanPlay s.position c
   can = legal_can_play s st.ok c legal
 
-  count : length now ≡ suc (length s.position.trick.cards)
-  count = cards_more s.position c
-
-  kept_at : (k : ℕ) → k < length s.position.trick.cards → get_or now k 0 ≡ get_or s.position.trick.cards k 0
-  kept_at k before = get_or_append_left s.position.trick.cards (c ∷ []) 0 k before
-
-  last_at : get_or now (length s.position.trick.cards) 0 ≡ c
-  last_at = get_or-append_seam s.position.trick.cards c [] 0
-
-  lower_more : AreLowerIn b w s.position.trick.leader now
-  lower_more k low side suit = elim (cases_lt k (length s.position.trick.cards)) as (λ _. rank_of (get_or now k 0) < rank_of w) [
-    | inl before ↦ (let same = kept_at k before in
+  lower_more : AreLowerIn b w s.position.trick.leader (with_card s.position c)
+  lower_more k low side suit = elim (cases_lt k (length s.position.trick.cards)) as (λ _. rank_of (get_or (with_card s.position c) k 0) < rank_of w) [
+    | inl before ↦ (let same = kept_at s.position c k before in
         subst (λ d. rank_of d < rank_of w) (sym same) (st.trick k before side (ap suit_of (sym same) ∙ suit)))
-    | inr past ↦ (let e : k ≡ length s.position.trick.cards = omega (arith, low, past, count) in
-        let same : get_or now k 0 ≡ c = ap (λ i. get_or now i 0) e ∙ last_at in
+    | inr past ↦ (let e : k ≡ length s.position.trick.cards = omega (arith, low, past, cards_more s.position c) in
+        let same : get_or (with_card s.position c) k 0 ≡ c = ap (λ i. get_or (with_card s.position c) i 0) e ∙ last_at s.position c in
         subst (λ d. rank_of d < rank_of w) (sym same)
         (st.hands (to_play s.position) (ap (λ i. is_declarers (seat_after i s.position.trick.leader)) (sym e) ∙ side) c in_hand (ap suit_of (sym same) ∙ suit)))
   ]
 
-  led_more : suit_of (get_or now 0 0) ≡ suit_of w
-  led_more = ap suit_of (kept_at 0 st.some) ∙ st.led
+  led_more : suit_of (get_or (with_card s.position c) 0 0) ≡ suit_of w
+  led_more = ap suit_of (kept_at s.position c 0 st.some) ∙ st.led
 
   -- where the card is now
   abbrev pub IsThere : Type 0
-  IsThere = ((st.place < length now) × (get_or now st.place 0 ≡ w))
-      ⊎ ((length now ≤ st.place) × (has_card (hand_of (after s c) (seat_after st.place s.position.trick.leader)) w ≡ true))
+  IsThere = ((st.place < length (with_card s.position c)) × (get_or (with_card s.position c) st.place 0 ≡ w))
+      ⊎ ((length (with_card s.position c) ≤ st.place) × (has_card (hand_of (after s c) (seat_after st.place s.position.trick.leader)) w ≡ true))
 
   stays_there : st.place < length s.position.trick.cards → get_or s.position.trick.cards st.place 0 ≡ w → IsThere
-  stays_there before is = inl (omega (arith, before, count), kept_at st.place before ∙ is)
+  stays_there before is = inl (omega (arith, before, cards_more s.position c), kept_at s.position c st.place before ∙ is)
 
   waits_there : length s.position.trick.cards < st.place → has_card (hand_of s (seat_after st.place s.position.trick.leader)) w ≡ true → IsThere
   waits_there later held = inr (
-    omega (arith, later, count),
+    omega (arith, later, cards_more s.position c),
     ap (λ (l : List ℕ). has_card l w) (hand_stays s c (seat_after st.place s.position.trick.leader) st.ok in_hand
         (seats_differ st.place (length s.position.trick.cards) s.position.trick.leader st.low (st.ok.sound.trick_short) (λ e. omega (arith, e, later)))) ∙ held,
   )
 
   comes_there : st.place ≡ length s.position.trick.cards → c ≡ w → IsThere
-  comes_there e is = inl (omega (arith, e, count), ap (λ i. get_or now i 0) e ∙ last_at ∙ is)
+  comes_there e is = inl (omega (arith, e, cards_more s.position c), ap (λ i. get_or (with_card s.position c) i 0) e ∙ last_at s.position c ∙ is)
 
-  trick_after : length s.position.trick.cards < 3 → (after s c).position.trick ≡ record { leader = s.position.trick.leader; cards = now }
+  trick_after : length s.position.trick.cards < 3 → (after s c).position.trick ≡ record { leader = s.position.trick.leader; cards = with_card s.position c }
   trick_after short = ap (λ (u : PositionValue). u.trick) (after_short s.position c short)
 
   stopped_on : length s.position.trick.cards < 3 → IsThere → IsStopped b w (after s c)
@@ -150,7 +144,7 @@ module _ (b : Bool) (w : ℕ) (s : State) (st : IsStopped b w s) (c : ℕ) (lega
         ok = after-IsState s st.ok c legal;
         on = omega arith;
         trumps = after_card-trump s.position c ∙ st.trumps;
-        some = subst (λ (t : TrickValue). 1 ≤ length t.cards) (sym is) (omega (arith, count));
+        some = subst (λ (t : TrickValue). 1 ≤ length t.cards) (sym is) (omega (arith, cards_more s.position c));
         led = subst (λ (t : TrickValue). suit_of (get_or t.cards 0 0) ≡ suit_of w) (sym is) led_more;
         trick = subst (λ (t : TrickValue). AreLowerIn b w t.leader t.cards) (sym is) lower_more;
         hands = λ seat side d held suit. st.hands seat side d (take_out-low c (hand_of s seat) d (sym (ap (λ (l : List ℕ). has_card l d) (hand_after s c seat)) ∙ held)) suit;
@@ -164,9 +158,9 @@ module _ (b : Bool) (w : ℕ) (s : State) (st : IsStopped b w s) (c : ℕ) (lega
   won : length s.position.trick.cards ≡ 3 → IsThere → is_declarers (winner_of s.position.trump (put_card s.position c).trick) ≡ not b
   won third there = elim there as (λ _. is_declarers (winner_of s.position.trump (put_card s.position c).trick) ≡ not b) [
     | inl at ↦ ap (λ (u : Trump). is_declarers (winner_of u (put_card s.position c).trick)) st.trumps
-        ∙ other_side_wins b s.position.trick.leader now st.place at.0 (led_more ∙ ap suit_of (sym at.1))
-        (subst (λ d. AreLowerIn b d s.position.trick.leader now) (sym at.1) lower_more)
-    | inr at ↦ absurd (let past = at.0 in omega (arith, past, count, third, st.low))
+        ∙ other_side_wins b s.position.trick.leader (with_card s.position c) st.place at.0 (led_more ∙ ap suit_of (sym at.1))
+        (subst (λ d. AreLowerIn b d s.position.trick.leader (with_card s.position c)) (sym at.1) lower_more)
+    | inr at ↦ absurd (let past = at.0 in omega (arith, past, cards_more s.position c, third, st.low))
   ]
 
   -- what the card comes to, where the trick goes on and where it ends
@@ -179,7 +173,7 @@ module _ (b : Bool) (w : ℕ) (s : State) (st : IsStopped b w s) (c : ℕ) (lega
   ]
 
   more_there : length s.position.trick.cards < 3 → length (after s c).position.trick.cards ≡ suc (length s.position.trick.cards)
-  more_there short = ap (λ (t : TrickValue). length t.cards) (trick_after short) ∙ count
+  more_there short = ap (λ (t : TrickValue). length t.cards) (trick_after short) ∙ cards_more s.position c
 
 -- its holder plays it to the suit led
 follow : (b : Bool) (w : ℕ) (s : State) (st : IsStopped b w s) → st.place ≡ length s.position.trick.cards

@@ -13,15 +13,15 @@ use Rattle.card_sets.proofs.Suits.{same_suit-true, same_suit-refl}
 use Rattle.trick_rules.specs.declared.trump.Trump.TheVariants.{NoTrump}
 use Rattle.trick_rules.specs.Positions.{TrickValue, PositionValue, State, seat_after, to_play, played_count, tricks_left, IsState}
 use Rattle.trick_rules.specs.Play.{of_suit, or_whole, legal_cards, put_card, after, hand_of, legal_in, is_declarers, winner_of, CanPlay, makes}
-use Rattle.trick_rules.proofs.CardLists.{has_card-take_out, take_out-low, first_has, or_true, list_any-from_card, card_from_list_any}
+use Rattle.trick_rules.proofs.CardLists.{has_card-take_out, first_has, or_true, list_any-from_card, card_from_list_any}
 use Rattle.trick_rules.proofs.States.{after-IsState, after_card-trump, legal_can_play, legal_cards-low, hand_length, cards_more}
 use Rattle.trick_rules.proofs.Soundness.{after_short, after_third}
 use Rattle.trick_rules.proofs.Turns.{count_in-turn}
 use Rattle.trick_rules.proofs.PlayLaws.{hands_are_apart, the_need_never_rises, the_need_falls_by_one_at_most}
 use Rattle.sure_tricks.specs.Stoppers.{has_suit}
 use Rattle.sure_tricks.proofs.Counting.{count_in, count_less, one_of}
-use Rattle.sure_tricks.proofs.Holding.{may_follow, suit_test}
-use Rattle.sure_tricks.proofs.Hands.{hand_after, hand_set, next_three, seat_cases, Suffices, settled, tricks_within, tricks_last, suffices_within, suffices_after}
+use Rattle.sure_tricks.proofs.Holding.{follows_suit, suit_test}
+use Rattle.sure_tricks.proofs.Hands.{hand_after, was_held, hand_set, next_three, seat_cases, Suffices, settled, tricks_within, tricks_last, suffices_within, suffices_after}
 use Rattle.sure_tricks.proofs.Crossing.{follows_legally}
 use Rattle.sure_tricks.proofs.TopTrumps.{sides, two_sides}
 use Rattle.sure_tricks.proofs.StoppedSuit.{stop_led}
@@ -138,9 +138,6 @@ module _ (b : Bool) (stoppers : List ℕ) (rounds : Suit → ℕ) (s : State) (r
     can : CanPlay s.position c
     can = legal_can_play s r.ok c legal
 
-    was : (seat : Seat) (d : ℕ) → has_card (hand_of (after s c) seat) d ≡ true → has_card (hand_of s seat) d ≡ true
-    was seat d h = take_out-low c (hand_of s seat) d (sym (ap (λ (l : List ℕ). has_card l d) (hand_after s c seat)) ∙ h)
-
     no_more : (p : ℕ → Bool) (seat : Seat) → length (filter p (hand_of (after s c) seat)) ≤ length (filter p (hand_of s seat))
     no_more p seat = subst (λ (l : List ℕ). length (filter p l) ≤ length (filter p (hand_of s seat))) (sym (hand_after s c seat)) (count_less p (hand_of s seat) c)
 
@@ -168,7 +165,7 @@ module _ (b : Bool) (stoppers : List ℕ) (rounds : Suit → ℕ) (s : State) (r
           trumps = after_card-trump s.position c ∙ r.trumps;
           side = ap (λ (u : PositionValue). is_declarers u.trick.leader) (after_short s.position c short) ∙ r.side;
           held = held_after;
-          highest = λ w stops seat side d h suit. r.highest w stops seat side d (was seat d h) suit;
+          highest = λ w stops seat side d h suit. r.highest w stops seat side d (was_held s c seat d h) suit;
           bound = λ seat side suit plain. let one = no_more (λ d. same_suit (suit_of d) suit) seat in let most = r.bound seat side suit plain in omega arith;
           few = let few = r.few in omega arith;
           room = λ seat. less_room seat (tricks_left (after s c).position) (total rounds) (omega (arith, tricks));
@@ -227,7 +224,7 @@ module _ (b : Bool) (stoppers : List ℕ) (rounds : Suit → ℕ) (s : State) (r
             trumps = after_card-trump s.position c ∙ r.trumps;
             side = ap (λ (u : PositionValue). is_declarers u.trick.leader) (after_third s.position c third) ∙ wins;
             held = held_after;
-            highest = λ w stops seat side d h suit. r.highest w stops seat side d (was seat d h) suit;
+            highest = λ w stops seat side d h suit. r.highest w stops seat side d (was_held s c seat d h) suit;
             bound = bound_next;
             few = let few = r.few in omega arith;
             room = λ seat. less_room seat (tricks_left (after s c).position) (total (fewer rounds v)) (omega (arith, tricks, fall));
@@ -309,10 +306,4 @@ module _ (b : Bool) (stoppers : List ℕ) (rounds : Suit → ℕ) (s : State) (r
         led = ap suit_of (get_or_append_left s.position.trick.cards (c ∷ []) 0 0 at.some) ∙ at.led
 
         follows : (suit_of c ≡ v) ⊎ ((d : ℕ) → has_card (hand_of s (to_play s.position)) d ≡ true → same_suit (suit_of d) v ≡ false)
-        follows = go s.position.trick.cards at.some at.led legal
-          where
-            go : (cards : List ℕ) → 1 ≤ length cards → suit_of (get_or cards 0 0) ≡ v → has_card (legal_cards cards (hand_of s (to_play s.position))) c ≡ true
-                → (suit_of c ≡ v) ⊎ ((d : ℕ) → has_card (hand_of s (to_play s.position)) d ≡ true → same_suit (suit_of d) v ≡ false)
-            go [] some suit l = absurd (omega arith)
-            go (d ∷ ds) some suit l = subst (λ u. (suit_of c ≡ u) ⊎ ((e : ℕ) → has_card (hand_of s (to_play s.position)) e ≡ true → same_suit (suit_of e) u ≡ false)) suit
-                (may_follow d ds (hand_of s (to_play s.position)) c l).suit
+        follows = follows_suit s.position.trick.cards (hand_of s (to_play s.position)) v c at.some at.led legal

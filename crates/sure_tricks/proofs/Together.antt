@@ -1,6 +1,6 @@
 -- The sure cards of the hand on lead and of its partner, as far as there are tricks.
-use Rattle.std.proofs.Common.{◌≡◌, ◌≢◌, ◌⊎◌, ℕ, zero, suc, ◌+◌, ◌-◌, ◌<◌, ◌≤◌, Bool, true, false, not, eqb, List, [], ◌∷◌, length, min, refl, sym, ap, ◌∙◌, subst, inl, inr, arith}
-use Rattle.std.proofs.lemmas.Bool.{cases_Bool, cases_eq, cases_lt, ne_eqb, eqb-false, false≢true, and_parts, not-true}
+use Rattle.std.proofs.Common.{◌≡◌, ◌≢◌, ◌⊎◌, ℕ, zero, suc, ◌+◌, ◌-◌, ◌<◌, ◌≤◌, Bool, true, false, not, eqb, List, [], length, min, refl, sym, ap, ◌∙◌, subst, inl, inr, arith}
+use Rattle.std.proofs.lemmas.Bool.{cases_Bool, cases_eq, cases_lt, ne_eqb, eqb-false, and_parts, not-true}
 use Rattle.card_sets.specs.Cards.{suit_of}
 use Rattle.card_sets.specs.SetWords.{has_card, IsSubset}
 use Rattle.card_sets.proofs.Sets.{IsCardSet-filter}
@@ -8,9 +8,10 @@ use Rattle.card_sets.proofs.SetCounts.{length-take_out, length-IsSubset, has_car
 use Rattle.trick_rules.specs.declared.trump.Trump.TheVariants.{NoTrump}
 use Rattle.trick_rules.specs.Positions.{State, seat_after, to_play, tricks_left, IsState}
 use Rattle.trick_rules.specs.Play.{take_out, hand_of, is_declarers, makes}
-use Rattle.trick_rules.proofs.CardLists.{has_card-take_out, take_out-low, first_has, or_true}
+use Rattle.trick_rules.proofs.CardLists.{has_card-take_out, take_out-low}
 use Rattle.trick_rules.proofs.States.{hand_length}
 use Rattle.sure_tricks.specs.Sure.{AreHigh, AreSure}
+use Rattle.sure_tricks.proofs.Counting.{least_of}
 use Rattle.sure_tricks.proofs.Holding.{IsLead}
 use Rattle.sure_tricks.proofs.Hands.{seats_differ, hand_set, Suffices}
 use Rattle.sure_tricks.proofs.Cash.{IsLeading, leading, sure_cards}
@@ -18,39 +19,6 @@ use Rattle.sure_tricks.proofs.Joint.{high-without, top_of_suit, apart_suits}
 use Rattle.sure_tricks.proofs.Both.{IsJoint, joint}
 
 -- ---- fewer of the partner's cards
-
-least_of : (xs : List ℕ) → 1 ≤ length xs → (w : ℕ) × (has_card xs w ≡ true) × ((c : ℕ) → has_card xs c ≡ true → w ≤ c)
-least_of [] some = absurd (omega arith)
-least_of (x ∷ []) some = (
-  x,
-  first_has x [],
-  λ c h. elim (cases_eq x c) as (λ _. x ≤ c) [
-    | inl e ↦ omega arith
-    | inr e ↦ absurd (false≢true (rw (ne_eqb x c e) at h))
-  ],
-)
-least_of (x ∷ y ∷ xs) some = go (least_of (y ∷ xs) (omega arith))
-  where
-    go : (w : ℕ) × (has_card (y ∷ xs) w ≡ true) × ((c : ℕ) → has_card (y ∷ xs) c ≡ true → w ≤ c)
-        → (w : ℕ) × (has_card (x ∷ y ∷ xs) w ≡ true) × ((c : ℕ) → has_card (x ∷ y ∷ xs) c ≡ true → w ≤ c)
-    go r = elim (cases_lt x r.0) as (λ _. (w : ℕ) × (has_card (x ∷ y ∷ xs) w ≡ true) × ((c : ℕ) → has_card (x ∷ y ∷ xs) c ≡ true → w ≤ c)) [
-      | inl less ↦ (
-        x,
-        first_has x (y ∷ xs),
-        λ c h. elim (cases_eq x c) as (λ _. x ≤ c) [
-          | inl e ↦ omega arith
-          | inr e ↦ (let low = r.2 c (rw (ne_eqb x c e) at h) in omega arith)
-        ],
-      )
-      | inr more ↦ (
-        r.0,
-        rw r.1 (or_true (eqb x r.0)),
-        λ c h. elim (cases_eq x c) as (λ _. r.0 ≤ c) [
-          | inl e ↦ omega arith
-          | inr e ↦ r.2 c (rw (ne_eqb x c e) at h)
-        ],
-      )
-    ]
 
 -- some of the cards, the top of one suit among them, high against whatever they are high against
 record IsFewer (theirs : List ℕ) (t m : ℕ) (fewer : List ℕ) : Type 0 where

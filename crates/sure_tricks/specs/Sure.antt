@@ -1,5 +1,5 @@
 -- Cards of the hand on lead that take a trick each, whatever the other hands do.
-use Rattle.std.specs.Prelude.{◌≡◌, ◌≢◌, ◌⊎◌, ℕ, ◌+◌, ◌<◌, ◌≤◌, Bool, true, false, not, ◌&&◌, List, length, filter, min, nat_lt, if◌then◌else◌}
+use Rattle.std.specs.Prelude.{◌≡◌, ◌≢◌, ◌⊎◌, ℕ, ◌+◌, ◌<◌, ◌≤◌, Bool, true, false, not, ◌&&◌, List, [], length, filter, min, nat_lt, if◌then◌else◌}
 use Rattle.std.specs.List.{list_all}
 use Rattle.card_sets.specs.declared.card.Suit.{Suit}
 use Rattle.card_sets.specs.declared.card.Suit.TheVariants.{Spades, Hearts, Diamonds, Clubs}
@@ -44,6 +44,19 @@ pub record AreSure (s : State) (x : Seat) (sure : List ℕ) : Type 0 where
   pub held : IsSubset sure (hand_of s x)
   pub high : (seat : Seat) → seat ≢ x → AreHigh sure (hand_of s seat)
   pub safe : (seat : Seat) → seat ≢ x → AreSafe s.position.trump sure (hand_of s seat)
+
+-- between two tricks at no trump, sure cards of the hand on lead and of its partner, and a card of
+-- the hand on lead that crosses, in a suit in which its partner has a sure card
+pub record AreSureTogether (s : State) (sure partners : List ℕ) : Type 0 where
+  pub between : s.position.trick.cards ≡ []
+  pub no_trump : s.position.trump ≡ NoTrump
+  pub own : AreSure s (to_play s.position) sure
+  pub across : AreSure s (seat_after 2 (to_play s.position)) partners
+  pub link : ℕ
+  pub linked : has_card (hand_of s (to_play s.position)) link ≡ true
+  pub card : ℕ
+  pub there : has_card partners card ≡ true
+  pub suit : suit_of card ≡ suit_of link
 
 -- ---- how many there are, by looking at each suit
 

@@ -1,13 +1,12 @@
 //! What sure cards come to. Each function does nothing: its contract is the law, proved from the
 //! definitions alone.
 ghost use Rattle.std.specs.Prelude.{◌≡◌, ℕ, suc, ◌+◌, ◌<◌, ◌≤◌, true, false, List, [], length, min};
-ghost use Rattle.trick_rules.specs.Positions.{State, seat_after, to_play, tricks_left, IsState};
-ghost use Rattle.trick_rules.specs.Play.{hand_of, is_declarers, makes};
+ghost use Rattle.trick_rules.specs.Positions.{State, to_play, tricks_left, IsState};
+ghost use Rattle.trick_rules.specs.Play.{is_declarers, makes};
 ghost use Rattle.trick_rules.specs.declared.trump.Trump.TheVariants.{NoTrump};
-ghost use Rattle.card_sets.specs.Cards.{suit_of};
 ghost use Rattle.card_sets.specs.declared.seat.Seat.{Seat};
 ghost use Rattle.card_sets.specs.SetWords.{has_card};
-ghost use Rattle.sure_tricks.specs.Sure.{AreSure, AreTopTrumps};
+ghost use Rattle.sure_tricks.specs.Sure.{AreSure, AreSureTogether, AreTopTrumps};
 ghost use Rattle.sure_tricks.specs.Stoppers.{AreStoppers};
 ghost use Rattle.sure_tricks.specs.Headed.{HeadsSuitLed, AreBeyondRuffs};
 
@@ -25,24 +24,13 @@ pub fn sure_cards_win()
 
 /// At no trump its partner's sure cards take a trick each too, up to the tricks left, if the hand
 /// on lead has a card of a suit in which its partner has one.
-#[tactic(auto, using(crate::proofs::Together::our_cards_win_together, crate::proofs::Together::their_cards_win_together))]
 pub fn sure_cards_win_together()
-    ensures ours { (s : State) (sure partners : List ℕ) (link card : ℕ) → IsState s
-        → s.position.trick.cards ≡ [] → s.position.trump ≡ NoTrump
-        → AreSure s (to_play s.position) sure
-        → AreSure s (seat_after 2 (to_play s.position)) partners
-        → has_card (hand_of s (to_play s.position)) link ≡ true → has_card partners card ≡ true
-        → suit_of card ≡ suit_of link
-        → is_declarers (to_play s.position) ≡ true
+    ensures ours { (s : State) (sure partners : List ℕ) → IsState s
+        → AreSureTogether s sure partners → is_declarers (to_play s.position) ≡ true
         → s.position.need ≤ min (tricks_left s.position) (length sure + length partners)
         → makes s ≡ true }
-    ensures theirs { (s : State) (sure partners : List ℕ) (link card : ℕ) → IsState s
-        → s.position.trick.cards ≡ [] → s.position.trump ≡ NoTrump
-        → AreSure s (to_play s.position) sure
-        → AreSure s (seat_after 2 (to_play s.position)) partners
-        → has_card (hand_of s (to_play s.position)) link ≡ true → has_card partners card ≡ true
-        → suit_of card ≡ suit_of link
-        → is_declarers (to_play s.position) ≡ false
+    ensures theirs { (s : State) (sure partners : List ℕ) → IsState s
+        → AreSureTogether s sure partners → is_declarers (to_play s.position) ≡ false
         → tricks_left s.position
         < s.position.need + min (tricks_left s.position) (length sure + length partners)
         → makes s ≡ false }

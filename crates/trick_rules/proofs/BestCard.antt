@@ -1,7 +1,8 @@
 -- The best card of a trick so far, and what one card more changes.
-use Rattle.std.proofs.Common.{◌≡◌, ◌≢◌, ℕ, suc, ◌+◌, ◌<◌, ◌≤◌, Bool, true, false, not, ◌&&◌, ◌||◌, cond, ltb, List, [], ◌∷◌, ◌++◌, length, map, get_or, refl, sym, ap, ◌∙◌, inl, inr, arith}
+use Rattle.std.proofs.Common.{◌≡◌, ◌≢◌, ℕ, suc, ◌+◌, ◌<◌, ◌≤◌, Bool, true, false, not, ◌&&◌, ◌||◌, cond, ltb, List, [], ◌∷◌, ◌++◌, length, map, get_or, refl, sym, ap, subst, ◌∙◌, inl, inr, arith}
 use Rattle.std.specs.Prelude.{◌⊎◌}
 use Rattle.std.proofs.lemmas.Bool.{false≢true, false_from_ne_true, cases_Bool, cases_lt, lt-ltb, le-ltb, ltb-true, ltb-false}
+use Rattle.std.proofs.lemmas.Grind.{get_or_default_zero}
 use Rattle.std.proofs.lemmas.List.{length-map, length_push, get_or_at}
 use Rattle.std.proofs.Math.ListN.{get_or-append}
 use Rattle.card_sets.specs.declared.card.Suit.{Suit}
@@ -100,36 +101,29 @@ module _ (trump : Trump) (led : ℕ) (rest : List ℕ) (card : ℕ) where
   count : length (strengths trump led rest) ≡ suc (length rest)
   count = length-map (led ∷ rest) (strength trump (suit_of led))
 
-  at_end : (place : ℕ) → IsHighest (strengths trump led rest ++ strength trump (suit_of led) card ∷ []) (suc (length rest) + 1) place → place ≡ winning_place trump (led ∷ rest ++ card ∷ [])
+  -- the strengths with that of one card more
+  abbrev longer : List ℕ
+  longer = strengths trump led rest ++ strength trump (suit_of led) card ∷ []
+
+  longer-highest : IsHighest longer (suc (length rest)) found.0
+  longer-highest = IsHighest-longer (strengths trump led rest) (strength trump (suit_of led) card) (suc (length rest)) found.0 (omega (arith, count)) found.1
+
+  longer-found : get_or longer found.0 0 ≡ strength trump (suit_of led) (get_or (led ∷ rest) found.0 0)
+  longer-found = get_or-append (strengths trump led rest) (strength trump (suit_of led) card ∷ []) 0 found.0 (omega (arith, count, found.1.within)) ∙ found-strength
+
+  longer-last : get_or longer (suc (length rest)) 0 ≡ strength trump (suit_of led) card
+  longer-last = omega (arith, get_or_at (strengths trump led rest) (strength trump (suit_of led) card) [] 0 (suc (length rest)) count)
+
+  at_end : (place : ℕ) → IsHighest longer (suc (length rest) + 1) place → place ≡ winning_place trump (led ∷ rest ++ card ∷ [])
   at_end place h =
       let size : length (led ∷ rest ++ card ∷ []) ≡ suc (length rest) + 1 = omega (arith, length_push rest card) in
       sym (winning_place-highest trump led (rest ++ card ∷ []) place (rw (map-push (strength trump (suit_of led)) rest card, size) h))
 
   takes_at_end : strength trump (suit_of led) (get_or (led ∷ rest) found.0 0) < strength trump (suit_of led) card → suc (length rest) ≡ winning_place trump (led ∷ rest ++ card ∷ [])
-  takes_at_end less =
-      let longer = strengths trump led rest ++ strength trump (suit_of led) card ∷ [] in
-      let before = IsHighest-longer (strengths trump led rest) (strength trump (suit_of led) card) (suc (length rest)) found.0 (omega (arith, count)) found.1 in
-      at_end (suc (length rest)) (IsHighest-takes longer (suc (length rest)) found.0 before
-      (omega (
-        arith,
-        less,
-        found-strength,
-        get_or-append (strengths trump led rest) (strength trump (suit_of led) card ∷ []) 0 found.0 (omega (arith, count, found.1.within)),
-        get_or_at (strengths trump led rest) (strength trump (suit_of led) card) [] 0 (suc (length rest)) count,
-      )))
+  takes_at_end less = at_end (suc (length rest)) (IsHighest-takes longer (suc (length rest)) found.0 longer-highest (omega (arith, less, longer-found, longer-last)))
 
   keeps_at_end : strength trump (suit_of led) card ≤ strength trump (suit_of led) (get_or (led ∷ rest) found.0 0) → found.0 ≡ winning_place trump (led ∷ rest ++ card ∷ [])
-  keeps_at_end low =
-      let longer = strengths trump led rest ++ strength trump (suit_of led) card ∷ [] in
-      let before = IsHighest-longer (strengths trump led rest) (strength trump (suit_of led) card) (suc (length rest)) found.0 (omega (arith, count)) found.1 in
-      at_end found.0 (IsHighest-keeps longer (suc (length rest)) found.0 before
-      (omega (
-        arith,
-        low,
-        found-strength,
-        get_or-append (strengths trump led rest) (strength trump (suit_of led) card ∷ []) 0 found.0 (omega (arith, count, found.1.within)),
-        get_or_at (strengths trump led rest) (strength trump (suit_of led) card) [] 0 (suc (length rest)) count,
-      )))
+  keeps_at_end low = at_end found.0 (IsHighest-keeps longer (suc (length rest)) found.0 longer-highest (omega (arith, low, longer-found, longer-last)))
 
 -- the best card so far is a trump or of the suit led
 pub best_strong : (trump : Trump) (cards : List ℕ) (best : ℕ) → 1 ≤ length cards → best ≡ winning_place trump cards
@@ -157,3 +151,23 @@ last_fails trump [] card best some e h = absurd (omega arith)
 last_fails trump (led ∷ rest) card best some e h =
     let place : best ≡ (found trump led rest card).0 = e ∙ found-place trump led rest card in
     place ∙ keeps_at_end trump led rest card (ltb-false _ _ (sym (beats-strength trump (suit_of led) card (get_or (led ∷ rest) (found trump led rest card).0 0)) ∙ (rw place at h)))
+
+-- the same for the cards as they lie in a slice, by the test of the next card against the best one
+module _ (trump : Trump) (cards slice : List ℕ) (best card last : ℕ) (test : Bool) (some : 1 ≤ length cards) (same : slice ≡ cards)
+    (place : best ≡ winning_place trump slice) (within : best < length slice) (is : card ≡ get_or slice best card)
+    (tests : (led : Suit) → (is_trump trump card ≡ true) ⊎ (suit_of card ≡ led) → test ≡ beats trump led last card) where
+  at_best : best ≡ winning_place trump cards
+  at_best = rw same at place
+
+  tested : test ≡ beats trump (suit_of (get_or cards 0 0)) last (get_or cards best 0)
+  tested =
+      let low : best < length cards = rw same at within in
+      let here : card ≡ get_or cards best 0 = (rw same at is) ∙ get_or_default_zero cards best card low in
+      tests (suit_of (get_or cards 0 0)) (subst (λ c. (is_trump trump c ≡ true) ⊎ (suit_of c ≡ suit_of (get_or cards 0 0))) (sym here) (best_strong trump cards best some at_best))
+      ∙ ap (λ c. beats trump (suit_of (get_or cards 0 0)) last c) here
+
+  pub tested_takes : test ≡ true → length cards ≡ winning_place trump (cards ++ last ∷ [])
+  tested_takes takes = last_takes trump cards last best some at_best (sym tested ∙ takes)
+
+  pub tested_fails : test ≡ false → best ≡ winning_place trump (cards ++ last ∷ [])
+  tested_fails fails = last_fails trump cards last best some at_best (sym tested ∙ fails)

@@ -7,7 +7,7 @@ use Rattle.std.proofs.lemmas.List.Quantifiers.{all_pairs_push}
 use Rattle.card_sets.specs.declared.seat.Seat.{Seat}
 use Rattle.card_sets.specs.declared.seat.Seat.TheVariants.{Declarer, Left, Dummy, Right}
 use Rattle.card_sets.specs.SetWords.{has_card, Apart}
-use Rattle.trick_rules.specs.Positions.{TrickValue, PositionValue, to_play, IsSound}
+use Rattle.trick_rules.specs.Positions.{TrickValue, PositionValue, seat_after, to_play, IsSound}
 use Rattle.trick_rules.specs.Play.{take_out, put_card, end_trick, after_card, held_by, CanPlay, is_declarers}
 use Rattle.card_sets.proofs.Sets.{IsCardSet-filter, has_card-below}
 use Rattle.trick_rules.proofs.CardLists.{has_card-append, has_card-take_out, take_out-low, take_out-gone}
@@ -79,7 +79,7 @@ trick_held t sound Dummy = Apart-sym t.trick.cards t.dummy sound.trick_dummy
 trick_held t sound Left = Apart-sym t.trick.cards t.unseen sound.trick_unseen
 trick_held t sound Right = Apart-sym t.trick.cards t.unseen sound.trick_unseen
 
-absent_differs : (xs : List ℕ) (card : ℕ) → has_card xs card ≡ false → (k : ℕ) (d : ℕ) → k < length xs → get_or xs k d ≡ card → ⊥
+pub absent_differs : (xs : List ℕ) (card : ℕ) → has_card xs card ≡ false → (k : ℕ) (d : ℕ) → k < length xs → get_or xs k d ≡ card → ⊥
 absent_differs [] card h k d low e = absurd (omega arith)
 absent_differs (x ∷ xs) card h zero d low e = false≢true (sym h ∙ rw (eq-eqb x card e) refl)
 absent_differs (x ∷ xs) card h (suc k) d low e =
@@ -87,6 +87,17 @@ absent_differs (x ∷ xs) card h (suc k) d low e =
       | inl same ↦ false≢true (sym h ∙ rw same refl)
       | inr other ↦ absent_differs xs card (rw other at h) k d (omega arith) e
     ]
+
+-- the cards of a trick with one card more
+abbrev pub with_card : PositionValue → ℕ → List ℕ
+with_card t c = t.trick.cards ++ c ∷ []
+
+pub with_card-low : (t : PositionValue) (c : ℕ) → IsSound t → CanPlay t c → All (λ d. d < 52) (with_card t c)
+with_card-low t c sound can = All-push (λ d. d < 52) t.trick.cards c sound.trick_cards (held_low t sound c (to_play t) can)
+
+pub with_card-differ : (t : PositionValue) (c : ℕ) → IsSound t → CanPlay t c → AllPairs (λ d e. d ≢ e) (with_card t c)
+with_card-differ t c sound can =
+    all_pairs_push (λ d e. d ≢ e) t.trick.cards c sound.trick_differs (absent_differs t.trick.cards c (trick_held t sound (to_play t) c can))
 
 pub after_short : (t : PositionValue) (card : ℕ) → length t.trick.cards < 3 → after_card t card ≡ put_card t card
 after_short t card h = rw (ne_eqb (length t.trick.cards) 3 (λ e. omega arith)) refl
@@ -124,35 +135,12 @@ counts_third t card next sound can third =
     let before = sound_counts t sound in
     let falls = hands_fall t sound card (to_play t) can in
     let low : n < 4 = omega arith in
-    let full : (seat : Seat) → count_in leader (suc n) seat ≡ 1 = λ seat. ap (λ m. count_in leader (suc m) seat) third ∙ count_in-all leader seat in
+    let full : (seat : Seat) → count_in leader n seat + same_seat (seat_after n leader) seat ≡ 1 =
+    λ seat. sym (count_in-suc n leader seat low) ∙ ap (λ m. count_in leader (suc m) seat) third ∙ count_in-all leader seat in
+    let none = count_in-none next in
     record {
-      dummy_count = omega (
-        arith,
-        before.dummy_count,
-        falls.declarer,
-        falls.dummy,
-        count_in-suc n leader Dummy low,
-        count_in-suc n leader Declarer low,
-        full Dummy,
-        full Declarer,
-        count_in-none next Dummy,
-        count_in-none next Declarer,
-      );
-      unseen_count = omega (
-        arith,
-        before.unseen_count,
-        falls.declarer,
-        falls.unseen,
-        count_in-suc n leader Left low,
-        count_in-suc n leader Right low,
-        count_in-suc n leader Declarer low,
-        full Left,
-        full Right,
-        full Declarer,
-        count_in-none next Left,
-        count_in-none next Right,
-        count_in-none next Declarer,
-      );
+      dummy_count = omega (arith, before.dummy_count, falls.declarer, falls.dummy, full Dummy, full Declarer, none Dummy, none Declarer);
+      unseen_count = omega (arith, before.unseen_count, falls.declarer, falls.unseen, full Left, full Right, full Declarer, none Left, none Right, none Declarer);
     }
 
 -- what holds of the hands after a card, whether or not the trick ends
@@ -188,8 +176,8 @@ put_sound t card sound can short =
     (Apart-push card t.trick.cards t.dummy sound.trick_dummy)
     (Apart-push card t.trick.cards t.unseen sound.trick_unseen)
     (omega (arith, long))
-    (All-push (λ c. c < 52) t.trick.cards card sound.trick_cards (held_low t sound card (to_play t) can))
-    (all_pairs_push (λ c d. c ≢ d) t.trick.cards card sound.trick_differs (absent_differs t.trick.cards card (trick_held t sound (to_play t) card can)))
+    (with_card-low t card sound can)
+    (with_card-differ t card sound can)
     sound.need_fits
     (rw (long, add-one) (counts_short t card sound can short))
 

@@ -6,6 +6,7 @@ pub mod Reduction
 mod WordBits
 mod WordVectors
 mod WordOrders
+mod Together
 mod Masks
 pub mod WeightLemmas
 mod NarrowWords

@@ -177,15 +177,18 @@ earlier_one-less (false ∷ us) (v ∷ vs) zero h = absurd (false≢true h.one)
 earlier_one-less (false ∷ us) (true ∷ vs) (suc place) h = absurd (false≢true (h.agree 0 (omega arith)))
 earlier_one-less (false ∷ us) (false ∷ vs) (suc place) h = earlier_one-less us vs place (DifferAt-rest false false us vs place h)
 
+-- the other way round
+earlier_one-back : (us vs : Vector) → earlier_one us vs ≡ Less → earlier_one vs us ≡ Greater
+earlier_one-back [] [] h = absurd cc
+earlier_one-back [] (v ∷ vs) h = absurd cc
+earlier_one-back (u ∷ us) [] h = refl
+earlier_one-back (true ∷ us) (false ∷ vs) h = refl
+earlier_one-back (false ∷ us) (true ∷ vs) h = absurd cc
+earlier_one-back (true ∷ us) (true ∷ vs) h = earlier_one-back us vs h
+earlier_one-back (false ∷ us) (false ∷ vs) h = earlier_one-back us vs h
+
 pub earlier_one-greater : (us vs : Vector) (place : ℕ) → DifferAt vs us place → earlier_one us vs ≡ Greater
-earlier_one-greater [] vs place h = absurd (omega arith)
-earlier_one-greater (u ∷ us) [] place h = absurd (omega arith)
-earlier_one-greater (false ∷ us) (true ∷ vs) place h = refl
-earlier_one-greater (true ∷ us) (true ∷ vs) zero h = absurd (true≢false h.zero)
-earlier_one-greater (true ∷ us) (true ∷ vs) (suc place) h = earlier_one-greater us vs place (DifferAt-rest true true vs us place h)
-earlier_one-greater (u ∷ us) (false ∷ vs) zero h = absurd (false≢true h.one)
-earlier_one-greater (true ∷ us) (false ∷ vs) (suc place) h = absurd (false≢true (h.agree 0 (omega arith)))
-earlier_one-greater (false ∷ us) (false ∷ vs) (suc place) h = earlier_one-greater us vs place (DifferAt-rest false false vs us place h)
+earlier_one-greater us vs place h = earlier_one-back vs us (earlier_one-less vs us place h)
 
 -- what the counts, and the first place at which two vectors differ, say of the order
 pub order-by_count : (us vs : Vector) → ones_of us ≢ ones_of vs → nat_cmp (ones_of vs) (ones_of us) ≡ vector_order us vs

@@ -285,50 +285,44 @@ length-each f (u ∷ us) (v ∷ vs) e = omega (arith, length-each f us vs (omega
 pub same_long : (w v : ℕ) (us vs : List ℕ) → AreVectorWords w us → AreVectorWords v vs → length us ≡ length vs
 same_long w v us vs h k = h.four ∙ sym k.four
 
-bit_of-both : (us vs : List ℕ) (i : ℕ) → length us ≡ length vs → bit_of (zip2 bit_and us vs) i ≡ (bit_of us i && bit_of vs i)
+-- an operation on each word is a test of each two bits
+bit_of-each : (op : ℕ → ℕ → ℕ) (test : Bool → Bool → Bool) → op 0 0 ≡ 0 → ((u v i : ℕ) → has_bit (op u v) i ≡ test (has_bit u i) (has_bit v i))
+    → (us vs : List ℕ) (i : ℕ) → length us ≡ length vs → bit_of (zip2 op us vs) i ≡ test (bit_of us i) (bit_of vs i)
 unfolding bit_of
-bit_of-both us vs i e =
-    ap (λ n. has_bit n (i % 64)) (get_or-each bit_and refl us vs e (i / 64)) ∙ has_bit-and (get_or us (i / 64) 0) (get_or vs (i / 64) 0) (i % 64)
+bit_of-each op test none each us vs i e =
+    ap (λ n. has_bit n (i % 64)) (get_or-each op none us vs e (i / 64)) ∙ each (get_or us (i / 64) 0) (get_or vs (i / 64) 0) (i % 64)
 
-bit_of-either : (us vs : List ℕ) (i : ℕ) → length us ≡ length vs → bit_of (zip2 bit_or us vs) i ≡ (bit_of us i || bit_of vs i)
-unfolding bit_of
-bit_of-either us vs i e =
-    ap (λ n. has_bit n (i % 64)) (get_or-each bit_or refl us vs e (i / 64)) ∙ has_bit-or (get_or us (i / 64) 0) (get_or vs (i / 64) 0) (i % 64)
+module _ (op : ℕ → ℕ → ℕ) (test : Bool → Bool → Bool) (none : op 0 0 ≡ 0) (each : (u v i : ℕ) → has_bit (op u v) i ≡ test (has_bit u i) (has_bit v i)) where
+  AreVectorWords-each : test false false ≡ false → ((u v : ℕ) → u < 2 ^ 64 → v < 2 ^ 64 → op u v < 2 ^ 64) → (w : ℕ) (us vs : List ℕ) → AreVectorWords w us → AreVectorWords w vs → AreVectorWords w (zip2 op us vs)
+  AreVectorWords-each dark fits w us vs h k =
+      let long = same_long w w us vs h k in
+      record {
+        low = h.low;
+        high = h.high;
+        four = length-each op us vs long ∙ h.four;
+        fit = λ word. rw (get_or-each op none us vs long word) (fits (get_or us word 0) (get_or vs word 0) (h.fit word) (k.fit word));
+        past = λ i past. bit_of-each op test none each us vs i long ∙ rw (h.past i past, k.past i past) dark;
+      }
+
+  -- the vector of these bits
+  bits_of-each : (combined : Vector → Vector → Vector) → ((xs ys : Vector) → length xs ≡ length ys → length (combined xs ys) ≡ length xs)
+      → ((xs ys : Vector) (i : ℕ) (d : Bool) → i < length xs → i < length ys → get_or (combined xs ys) i d ≡ test (get_or xs i d) (get_or ys i d))
+      → (w : ℕ) (us vs : List ℕ) → length us ≡ length vs → bits_of w (zip2 op us vs) ≡ combined (bits_of w us) (bits_of w vs)
+  bits_of-each combined as_long at w us vs e =
+      let long : length (combined (bits_of w us) (bits_of w vs)) ≡ w = as_long (bits_of w us) (bits_of w vs) (length-bits_of w us ∙ sym (length-bits_of w vs)) ∙ length-bits_of w us in
+      bits_of-from w (zip2 op us vs) (combined (bits_of w us) (bits_of w vs)) long (λ i d within.
+      let in_first : i < length (bits_of w us) = rw (length-bits_of w us) within in
+      let in_second : i < length (bits_of w vs) = rw (length-bits_of w vs) within in
+      at (bits_of w us) (bits_of w vs) i d in_first in_second ∙ rw (get_or-bits_of w us i d within, get_or-bits_of w vs i d within, bit_of-each op test none each us vs i e) refl)
 
 pub AreVectorWords-both : (w : ℕ) (us vs : List ℕ) → AreVectorWords w us → AreVectorWords w vs → AreVectorWords w (zip2 bit_and us vs)
-AreVectorWords-both w us vs h k =
-    let long = same_long w w us vs h k in
-    record {
-      low = h.low;
-      high = h.high;
-      four = length-each bit_and us vs long ∙ h.four;
-      fit = λ word. rw (get_or-each bit_and refl us vs long word) (omega (arith, and_le_l (get_or us word 0) (get_or vs word 0), h.fit word));
-      past = λ i past. bit_of-both us vs i long ∙ rw (h.past i past) refl;
-    }
+AreVectorWords-both = AreVectorWords-each bit_and (λ a b. a && b) refl has_bit-and refl (λ u v h k. omega (arith, and_le_l u v, h))
 
 pub AreVectorWords-either : (w : ℕ) (us vs : List ℕ) → AreVectorWords w us → AreVectorWords w vs → AreVectorWords w (zip2 bit_or us vs)
-AreVectorWords-either w us vs h k =
-    let long = same_long w w us vs h k in
-    record {
-      low = h.low;
-      high = h.high;
-      four = length-each bit_or us vs long ∙ h.four;
-      fit = λ word. rw (get_or-each bit_or refl us vs long word) (or_lt 64 (get_or us word 0) (get_or vs word 0) (h.fit word) (k.fit word));
-      past = λ i past. bit_of-either us vs i long ∙ rw (h.past i past, k.past i past) refl;
-    }
+AreVectorWords-either = AreVectorWords-each bit_or (λ a b. a || b) refl has_bit-or refl (or_lt 64)
 
 pub bits_of-both : (w : ℕ) (us vs : List ℕ) → length us ≡ length vs → bits_of w (zip2 bit_and us vs) ≡ meet_of (bits_of w us) (bits_of w vs)
-bits_of-both w us vs e =
-    let long : length (meet_of (bits_of w us) (bits_of w vs)) ≡ w = length-meet_of (bits_of w us) (bits_of w vs) (length-bits_of w us ∙ sym (length-bits_of w vs)) ∙ length-bits_of w us in
-    bits_of-from w (zip2 bit_and us vs) (meet_of (bits_of w us) (bits_of w vs)) long (λ i d within.
-    let in_first : i < length (bits_of w us) = rw (length-bits_of w us) within in
-    let in_second : i < length (bits_of w vs) = rw (length-bits_of w vs) within in
-    get_or-meet_of (bits_of w us) (bits_of w vs) i d in_first in_second ∙ rw (get_or-bits_of w us i d within, get_or-bits_of w vs i d within, bit_of-both us vs i e) refl)
+bits_of-both = bits_of-each bit_and (λ a b. a && b) refl has_bit-and meet_of length-meet_of get_or-meet_of
 
 pub bits_of-either : (w : ℕ) (us vs : List ℕ) → length us ≡ length vs → bits_of w (zip2 bit_or us vs) ≡ either_of (bits_of w us) (bits_of w vs)
-bits_of-either w us vs e =
-    let long : length (either_of (bits_of w us) (bits_of w vs)) ≡ w = length-either_of (bits_of w us) (bits_of w vs) (length-bits_of w us ∙ sym (length-bits_of w vs)) ∙ length-bits_of w us in
-    bits_of-from w (zip2 bit_or us vs) (either_of (bits_of w us) (bits_of w vs)) long (λ i d within.
-    let in_first : i < length (bits_of w us) = rw (length-bits_of w us) within in
-    let in_second : i < length (bits_of w vs) = rw (length-bits_of w vs) within in
-    get_or-either_of (bits_of w us) (bits_of w vs) i d in_first in_second ∙ rw (get_or-bits_of w us i d within, get_or-bits_of w vs i d within, bit_of-either us vs i e) refl)
+bits_of-either = bits_of-each bit_or (λ a b. a || b) refl has_bit-or either_of length-either_of get_or-either_of

@@ -1,9 +1,10 @@
-use Rattle.std.proofs.Common.{not, ◌&&◌, refl, ap, ◌∙◌}
+use Rattle.std.proofs.Common.{◌≡◌, ℕ, not, ◌&&◌, refl, ap, ◌∙◌}
+use Rattle.card_sets.specs.declared.card.Suit.{Suit}
 use Rattle.card_sets.specs.declared.card.Suit.TheVariants.{Spades, Hearts, Diamonds, Clubs}
 use Rattle.trick_rules.specs.Positions.{PositionValue, State, seat_after, to_play}
-use Rattle.trick_rules.specs.Play.{hand_of}
-use Rattle.sure_tricks.specs.Sure.{is_suit, may_ruff}
-use Rattle.sure_tricks.proofs.Summing.{IsLook, suit_is, few_in}
+use Rattle.trick_rules.specs.Play.{of_suit, hand_of}
+use Rattle.sure_tricks.specs.Sure.{is_suit, may_ruff, sure_of}
+use Rattle.sure_tricks.proofs.Summing.{IsLook, least_of, suit_is, few_in}
 use Rattle.sure_tricks.proofs.count.own_counts.Goals as goal
 use Rattle.sure_tricks.proofs.count.own_counts.Goals.{After-sure_after-4}
 
@@ -23,29 +24,28 @@ look c =
       some = c.drawn-drawn.ensures.some;
     }
 
-pub returns-clause-spades : goal.returns-clause-spades
-returns-clause-spades c = suit_is (record { position = c.args.position.now; left = c.args.left }) c.of-hands.result.own c.of-hands.result.next c.of-hands.result.partner c.of-hands.result.last
+-- the sure cards of one suit, as they are counted
+in_suit : (c : After-sure_after-4) (suit : Suit) (n : ℕ)
+    → n ≡ least_of (not (is_suit c.position.inside.trump suit) && c.ruffs-ruffs.result.next) (not (is_suit c.position.inside.trump suit) && c.ruffs-ruffs.result.partner)
+    (not (is_suit c.position.inside.trump suit) && c.ruffs-ruffs.result.last) (of_suit suit c.of-hands.result.own) (of_suit suit c.of-hands.result.next)
+    (of_suit suit c.of-hands.result.partner) (of_suit suit c.of-hands.result.last)
+    → n ≡ sure_of (record { position = c.args.position.now; left = c.args.left }) suit
+in_suit c suit n = suit_is (record { position = c.args.position.now; left = c.args.left }) c.of-hands.result.own c.of-hands.result.next c.of-hands.result.partner c.of-hands.result.last
     c.position.inside.trump c.drawn-drawn.result (look c) c.ruffs-ruffs.result c.ruffs-ruffs.ensures.next c.ruffs-ruffs.ensures.partner c.ruffs-ruffs.ensures.last
-    Spades c.sure_after.result (record { next = not (is_suit c.position.inside.trump Spades) && c.ruffs-ruffs.result.next; partner = not (is_suit c.position.inside.trump Spades) && c.ruffs-ruffs.result.partner; last = not (is_suit c.position.inside.trump Spades) && c.ruffs-ruffs.result.last })
-    refl refl refl c.sure_after.ensures
+    suit n (record { next = not (is_suit c.position.inside.trump suit) && c.ruffs-ruffs.result.next; partner = not (is_suit c.position.inside.trump suit) && c.ruffs-ruffs.result.partner; last = not (is_suit c.position.inside.trump suit) && c.ruffs-ruffs.result.last })
+    refl refl refl
+
+pub returns-clause-spades : goal.returns-clause-spades
+returns-clause-spades c = in_suit c Spades c.sure_after.result c.sure_after.ensures
 
 pub returns-clause-hearts : goal.returns-clause-hearts
-returns-clause-hearts c = suit_is (record { position = c.args.position.now; left = c.args.left }) c.of-hands.result.own c.of-hands.result.next c.of-hands.result.partner c.of-hands.result.last
-    c.position.inside.trump c.drawn-drawn.result (look c) c.ruffs-ruffs.result c.ruffs-ruffs.ensures.next c.ruffs-ruffs.ensures.partner c.ruffs-ruffs.ensures.last
-    Hearts c.sure_after-2.result (record { next = not (is_suit c.position.inside.trump Hearts) && c.ruffs-ruffs.result.next; partner = not (is_suit c.position.inside.trump Hearts) && c.ruffs-ruffs.result.partner; last = not (is_suit c.position.inside.trump Hearts) && c.ruffs-ruffs.result.last })
-    refl refl refl c.sure_after-2.ensures
+returns-clause-hearts c = in_suit c Hearts c.sure_after-2.result c.sure_after-2.ensures
 
 pub returns-clause-diamonds : goal.returns-clause-diamonds
-returns-clause-diamonds c = suit_is (record { position = c.args.position.now; left = c.args.left }) c.of-hands.result.own c.of-hands.result.next c.of-hands.result.partner c.of-hands.result.last
-    c.position.inside.trump c.drawn-drawn.result (look c) c.ruffs-ruffs.result c.ruffs-ruffs.ensures.next c.ruffs-ruffs.ensures.partner c.ruffs-ruffs.ensures.last
-    Diamonds c.sure_after-3.result (record { next = not (is_suit c.position.inside.trump Diamonds) && c.ruffs-ruffs.result.next; partner = not (is_suit c.position.inside.trump Diamonds) && c.ruffs-ruffs.result.partner; last = not (is_suit c.position.inside.trump Diamonds) && c.ruffs-ruffs.result.last })
-    refl refl refl c.sure_after-3.ensures
+returns-clause-diamonds c = in_suit c Diamonds c.sure_after-3.result c.sure_after-3.ensures
 
 pub returns-clause-clubs : goal.returns-clause-clubs
-returns-clause-clubs c = suit_is (record { position = c.args.position.now; left = c.args.left }) c.of-hands.result.own c.of-hands.result.next c.of-hands.result.partner c.of-hands.result.last
-    c.position.inside.trump c.drawn-drawn.result (look c) c.ruffs-ruffs.result c.ruffs-ruffs.ensures.next c.ruffs-ruffs.ensures.partner c.ruffs-ruffs.ensures.last
-    Clubs c.sure_after-4.result (record { next = not (is_suit c.position.inside.trump Clubs) && c.ruffs-ruffs.result.next; partner = not (is_suit c.position.inside.trump Clubs) && c.ruffs-ruffs.result.partner; last = not (is_suit c.position.inside.trump Clubs) && c.ruffs-ruffs.result.last })
-    refl refl refl c.sure_after-4.ensures
+returns-clause-clubs c = in_suit c Clubs c.sure_after-4.result c.sure_after-4.ensures
 
 pub returns-clause-few : goal.returns-clause-few
 returns-clause-few c =

@@ -1,5 +1,5 @@
 use Rattle.front_table.proofs.Filling.{IsFilled-reduced}
-use Rattle.front_table.proofs.stored_vectors.fill_wide.Goals as goal
+use Rattle.front_table.proofs.stored_vectors.fill_empty.Goals as goal
 
 pub append-requires-clause-reduced : goal.append-requires-clause-reduced
 append-requires-clause-reduced c =
