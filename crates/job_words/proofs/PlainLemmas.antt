@@ -169,26 +169,30 @@ module _ (job deal layouts : Text) where
 abbrev reads : List Text → Walk → Type 0
 reads all to = Leads (at [] None idle) all to
 
+-- no option is given
+abbrev no_values : OptionValues
+no_values = record {
+  job = None;
+  deal = None;
+  layouts = None;
+  report = None;
+  moves = None;
+  number = None;
+  layout = None;
+  switch = None;
+  log = None;
+  nodes = None;
+  workers = None;
+  shards = None;
+  room = None;
+  no_table = false;
+  no_cuts = false;
+}
+
 -- the words with these values
 module _ (job deal : Text) where
   abbrev list_options : OptionValues
-  list_options = record {
-    job = Some job;
-    deal = Some deal;
-    layouts = None;
-    report = None;
-    moves = None;
-    number = None;
-    layout = None;
-    switch = None;
-    log = None;
-    nodes = None;
-    workers = None;
-    shards = None;
-    room = None;
-    no_table = false;
-    no_cuts = false;
-  }
+  list_options = record no_values { job = Some job; deal = Some deal }
 
   abbrev list_walk : Walk
   list_walk = has (row (codes "job") job ∷ []) (codes "deal") deal
@@ -213,23 +217,7 @@ module _ (job deal : Text) where
 -- the words with these values
 module _ (job deal layouts : Text) where
   abbrev fusion_options : OptionValues
-  fusion_options = record {
-    job = Some job;
-    deal = Some deal;
-    layouts = Some layouts;
-    report = None;
-    moves = None;
-    number = None;
-    layout = None;
-    switch = None;
-    log = None;
-    nodes = None;
-    workers = None;
-    shards = None;
-    room = None;
-    no_table = false;
-    no_cuts = false;
-  }
+  fusion_options = record no_values { job = Some job; deal = Some deal; layouts = Some layouts }
 
   abbrev fusion_walk : Walk
   fusion_walk = has (row (codes "job") job ∷ row (codes "deal") deal ∷ []) (codes "layouts") layouts
@@ -254,23 +242,7 @@ module _ (job deal layouts : Text) where
 -- the words with these values
 module _ (job deal layouts moves : Text) where
   abbrev searched_options : OptionValues
-  searched_options = record {
-    job = Some job;
-    deal = Some deal;
-    layouts = Some layouts;
-    report = None;
-    moves = Some moves;
-    number = None;
-    layout = None;
-    switch = None;
-    log = None;
-    nodes = None;
-    workers = None;
-    shards = None;
-    room = None;
-    no_table = false;
-    no_cuts = false;
-  }
+  searched_options = record no_values { job = Some job; deal = Some deal; layouts = Some layouts; moves = Some moves }
 
   abbrev searched_walk : Walk
   searched_walk = has (row (codes "job") job ∷ row (codes "deal") deal ∷ row (codes "layouts") layouts ∷ []) (codes "moves") moves
@@ -295,23 +267,7 @@ module _ (job deal layouts moves : Text) where
 -- the words with these values
 module _ (job deal layouts moves layout : Text) where
   abbrev match_options : OptionValues
-  match_options = record {
-    job = Some job;
-    deal = Some deal;
-    layouts = Some layouts;
-    report = None;
-    moves = Some moves;
-    number = None;
-    layout = Some layout;
-    switch = None;
-    log = None;
-    nodes = None;
-    workers = None;
-    shards = None;
-    room = None;
-    no_table = false;
-    no_cuts = false;
-  }
+  match_options = record no_values { job = Some job; deal = Some deal; layouts = Some layouts; moves = Some moves; layout = Some layout }
 
   abbrev match_walk : Walk
   match_walk = has (row (codes "job") job ∷ row (codes "deal") deal ∷ row (codes "layouts") layouts ∷ row (codes "moves") moves ∷ []) (codes "layout") layout
@@ -336,23 +292,7 @@ module _ (job deal layouts moves layout : Text) where
 -- the words with these values
 module _ (job deal layouts report : Text) where
   abbrev check_options : OptionValues
-  check_options = record {
-    job = Some job;
-    deal = Some deal;
-    layouts = Some layouts;
-    report = Some report;
-    moves = None;
-    number = None;
-    layout = None;
-    switch = None;
-    log = None;
-    nodes = None;
-    workers = None;
-    shards = None;
-    room = None;
-    no_table = false;
-    no_cuts = false;
-  }
+  check_options = record no_values { job = Some job; deal = Some deal; layouts = Some layouts; report = Some report }
 
   abbrev check_walk : Walk
   check_walk = has (row (codes "job") job ∷ row (codes "deal") deal ∷ row (codes "layouts") layouts ∷ []) (codes "report") report
@@ -377,23 +317,7 @@ module _ (job deal layouts report : Text) where
 -- the words with these values
 module _ (job deal layouts report log : Text) where
   abbrev audit_options : OptionValues
-  audit_options = record {
-    job = Some job;
-    deal = Some deal;
-    layouts = Some layouts;
-    report = Some report;
-    moves = None;
-    number = None;
-    layout = None;
-    switch = None;
-    log = Some log;
-    nodes = None;
-    workers = None;
-    shards = None;
-    room = None;
-    no_table = false;
-    no_cuts = false;
-  }
+  audit_options = record no_values { job = Some job; deal = Some deal; layouts = Some layouts; report = Some report; log = Some log }
 
   abbrev audit_walk : Walk
   audit_walk = has (row (codes "job") job ∷ row (codes "deal") deal ∷ row (codes "layouts") layouts ∷ row (codes "report") report ∷ []) (codes "log") log
@@ -418,23 +342,7 @@ module _ (job deal layouts report log : Text) where
 -- the words with these values
 module _ (job number : Text) where
   abbrev made_options : OptionValues
-  made_options = record {
-    job = Some job;
-    deal = None;
-    layouts = None;
-    report = None;
-    moves = None;
-    number = Some number;
-    layout = None;
-    switch = None;
-    log = None;
-    nodes = None;
-    workers = None;
-    shards = None;
-    room = None;
-    no_table = false;
-    no_cuts = false;
-  }
+  made_options = record no_values { job = Some job; number = Some number }
 
   abbrev made_walk : Walk
   made_walk = has (row (codes "job") job ∷ []) (codes "number") number
