@@ -16,7 +16,9 @@ use Rattle.job_words.specs.Command.{option_command}
 use Rattle.job_words.specs.Options.{OptionValues, options_at, options_read}
 use Rattle.job_words.specs.Values.{file_named, is_value, job_named, number_in, number_read, number_or}
 use Rattle.job_words.specs.Table.{keeps_to}
-use Rattle.job_words.specs.Asks.{Audit, Boards, Card, Check, Fusion, ListOf, Made, Match, OnLayouts, Prove, Solve}
+use Rattle.job_words.specs.declared.asks.Ask.TheVariants as asks
+use Rattle.job_words.specs.declared.asks.Ask.TheVariants.{OnLayouts, Boards, Made}
+use Rattle.job_words.specs.declared.asks.LayoutsJob.TheVariants.{Solve, Card, Match, Check, Fusion, Prove, Audit}
 use Rattle.job_words.specs.Plain.{audit_words, boards_words, card_words, check_words, fusion_words, list_words, made_words, match_words, plain_search, prove_words, solve_words}
 use Rattle.job_words.specs.Words.{ask_in, audit_in, boards_in, card_in, check_in, job_in, list_in, made_in, match_in, moves_in, on_layouts, prove_in, search_in, solve_in, switch_in, table_in, words_read}
 
@@ -440,7 +442,7 @@ fusion_asks deal layouts deal_is layouts_is =
     ) refl
 
 pub list_asks : (deal : List ℕ) → is_value deal ≡ true
-    → words_read (list_words deal) ≡ Some (ListOf deal)
+    → words_read (list_words deal) ≡ Some (asks.List deal)
 unfolding words_read ask_in job_in list_in job_named keeps_to file_named number_or
 list_asks deal deal_is =
     rw (
@@ -506,7 +508,7 @@ audit_asks deal layouts report log deal_is layouts_is report_is log_is =
     ) refl
 
 pub boards_asks : (deal layouts moves : List ℕ) (number : ℕ) → is_value deal ≡ true → is_value layouts ≡ true → number_in 1 most_moves moves ≡ Some number
-    → words_read (boards_words deal layouts moves) ≡ Some (Boards deal layouts number plain_search)
+    → words_read (boards_words deal layouts moves) ≡ Some (Boards (record { deal = deal; layouts = layouts }) number plain_search)
 unfolding words_read ask_in job_in boards_in moves_in search_in table_in job_named keeps_to file_named number_or
 boards_asks deal layouts moves number deal_is layouts_is number_is =
     let moves_is = is_value-number_in 1 most_moves moves number number_is in
