@@ -9,7 +9,8 @@ use Rattle.log_check.specs.declared.check.LogVerdict.{LogVerdict}
 use Rattle.log_check.specs.declared.check.LogVerdict.TheVariants.{Yes, No}
 use Rattle.log_check.proofs.OneLogVerdict.{one_log_verdict}
 use Rattle.am_answer.specs.declared.root.Root.{Root}
-use Rattle.am_answer.specs.Answers.{TaskValue, Report, NamedCard, PlayedOut, Sample, Proof, Audit, Good, AllLayouts, Problem, Boards}
+use Rattle.am_answer.specs.Tasks.{TaskValue, Solve, Card, Match, Fusion, Prove, Audit, Check, Made, Boards}
+use Rattle.am_answer.specs.Tasks as tasks
 use Rattle.am_answer.specs.declared.status.Status.{Status}
 use Rattle.am_answer.specs.Endings.{IsSpentOn, IsGameSpentOn, IsUnprovedOn, HasText, AllGamesFit}
 use Rattle.am_answer.specs.Reports.{made_moves}
@@ -22,15 +23,15 @@ fits-not_first_spent node moves nodes card fits first =
     omega (arith, fits card (first_is_member (IsTooLarge node moves nodes) (choices node) card first), first.4)
 
 pub not_spent : (task : TaskValue) (card : ℕ) → HasText task → IsSpentOn task card → ⊥
-not_spent (Report root moves search) card fits is = fits-not_spent root.kept.node moves search.nodes card fits is.spent
-not_spent (NamedCard root moves search) card fits is = fits-not_spent root.kept.node moves search.nodes card fits is.spent
-not_spent (PlayedOut root moves search playing) card fits is = fits-not_spent root.kept.node moves search.nodes card fits is.spent
-not_spent (Sample root) card fits is = is
-not_spent (Proof root moves nodes) card fits is = fits-not_first_spent root.kept.node moves nodes card fits is
+not_spent (Solve root moves search) card fits is = fits-not_spent root.kept.node moves search.nodes card fits is.spent
+not_spent (Card root moves search) card fits is = fits-not_spent root.kept.node moves search.nodes card fits is.spent
+not_spent (Match root moves search playing) card fits is = fits-not_spent root.kept.node moves search.nodes card fits is.spent
+not_spent (Fusion root) card fits is = is
+not_spent (Prove root moves nodes) card fits is = fits-not_first_spent root.kept.node moves nodes card fits is
 not_spent (Audit root audit) card fits is = is
-not_spent (Good plans) card fits is = is
-not_spent (AllLayouts board layouts) card fits is = is
-not_spent (Problem number root search) card fits is = fits-not_spent root.kept.node made_moves search.nodes card fits is.spent
+not_spent (Check plans) card fits is = is
+not_spent (tasks.List board layouts) card fits is = is
+not_spent (Made number root search) card fits is = fits-not_spent root.kept.node made_moves search.nodes card fits is.spent
 not_spent (Boards roots moves search) card fits is = is
 
 -- no tree of a game's root is too large
@@ -46,15 +47,15 @@ game-fits (found ∷ later) moves nodes zero root fit there =
 game-fits (found ∷ later) moves nodes (suc place) root fit there = game-fits later moves nodes place root (All-tail (Fits moves nodes) found later fit) there
 
 pub not_game_spent : (task : TaskValue) (game card : ℕ) → HasText task → IsGameSpentOn task game card → ⊥
-not_game_spent (Report root moves search) game card fits is = is
-not_game_spent (NamedCard root moves search) game card fits is = is
-not_game_spent (PlayedOut root moves search playing) game card fits is = is
-not_game_spent (Sample root) game card fits is = is
-not_game_spent (Proof root moves nodes) game card fits is = is
+not_game_spent (Solve root moves search) game card fits is = is
+not_game_spent (Card root moves search) game card fits is = is
+not_game_spent (Match root moves search playing) game card fits is = is
+not_game_spent (Fusion root) game card fits is = is
+not_game_spent (Prove root moves nodes) game card fits is = is
 not_game_spent (Audit root audit) game card fits is = is
-not_game_spent (Good plans) game card fits is = is
-not_game_spent (AllLayouts board layouts) game card fits is = is
-not_game_spent (Problem number root search) game card fits is = is
+not_game_spent (Check plans) game card fits is = is
+not_game_spent (tasks.List board layouts) game card fits is = is
+not_game_spent (Made number root search) game card fits is = is
 not_game_spent (Boards roots moves search') game card fits is =
     fits-not_spent is.root.kept.node moves search'.nodes card (game-fits roots moves search'.nodes is.place is.root fits is.there) is.spent
 
@@ -62,14 +63,14 @@ yes_or_no : (number : ℕ) → ◌≡◌ {A = LogVerdict} Yes (No number) → �
 yes_or_no number same = cc
 
 pub not_unproved : (task : TaskValue) (number : ℕ) → HasText task → IsUnprovedOn task number → ⊥
-not_unproved (Report root moves search) number proves is = is
-not_unproved (NamedCard root moves search) number proves is = is
-not_unproved (PlayedOut root moves search playing) number proves is = is
-not_unproved (Sample root) number proves is = is
-not_unproved (Proof root moves nodes) number proves is = is
+not_unproved (Solve root moves search) number proves is = is
+not_unproved (Card root moves search) number proves is = is
+not_unproved (Match root moves search playing) number proves is = is
+not_unproved (Fusion root) number proves is = is
+not_unproved (Prove root moves nodes) number proves is = is
 not_unproved (Audit root audit) number proves is =
     yes_or_no number (one_log_verdict root.kept.node audit.moves audit.vectors audit.lines Yes (No number) proves is)
-not_unproved (Good plans) number proves is = is
-not_unproved (AllLayouts board layouts) number proves is = is
-not_unproved (Problem problem root search) number proves is = is
+not_unproved (Check plans) number proves is = is
+not_unproved (tasks.List board layouts) number proves is = is
+not_unproved (Made problem root search) number proves is = is
 not_unproved (Boards roots moves search) number proves is = is

@@ -2,7 +2,10 @@
 use Rattle.std.specs.Prelude.{◌≡◌, ℕ, Bool, true, not, ◌&&◌, ◌==◌, List, [], ◌∷◌, length, map, Option, Result, Ok, Err, ok_or, if◌then◌else◌}
 use Rattle.std.specs.List.{position, zip}
 use Rattle.am_outside.specs.Shelf.{Files}
+use Rattle.job_words.specs.declared.asks.Ask.TheVariants as asks
+use Rattle.job_words.specs.declared.asks.LayoutsJob.TheVariants as jobs
 use Rattle.job_words.specs.declared.asks.Search.{Search}
+use Rattle.job_words.specs.Asks.{LayoutsJobValue}
 use Rattle.pbn_text.specs.declared.fault.Syntax.{Syntax as TextSyntax}
 use Rattle.pbn_text.specs.Games.{GameValue}
 use Rattle.pbn_text.specs.Grammar.{games_read}
@@ -19,18 +22,16 @@ use Rattle.layout_maker.specs.MadeProblem.{made_deal, made_layouts}
 use Rattle.trick_rules.specs.Positions.{to_play}
 use Rattle.trick_rules.specs.Play.{is_declarers, is_over}
 use Rattle.trick_rules.specs.Nodes.{NodeValue}
-use Rattle.am_answer.specs.declared.inputs.Inputs.{Inputs}
-use Rattle.am_answer.specs.declared.inputs.Inputs.TheVariants as inputs
-use Rattle.am_answer.specs.declared.inputs.Work.{Work}
-use Rattle.am_answer.specs.declared.inputs.Work.TheVariants as works
 use Rattle.am_answer.specs.declared.root.Root.{Root}
 use Rattle.am_answer.specs.declared.status.PbnKind.TheVariants.{Syntax, NoGame}
 use Rattle.am_answer.specs.declared.status.Status.{Status}
 use Rattle.am_answer.specs.declared.status.Status.TheVariants.{BadPbn, NoTurn, NoLayout}
-use Rattle.am_answer.specs.Files.{inputs_read}
-use Rattle.am_answer.specs.Games.{games_of}
+use Rattle.am_answer.specs.Files.{InputsValue, inputs_read}
+use Rattle.am_answer.specs.Games.{GameFilesValue}
 use Rattle.am_answer.specs.Judging.{plans_in}
-use Rattle.am_answer.specs.Auditing.{AuditValue, audit_in}
+use Rattle.am_answer.specs.Auditing.{audit_in}
+use Rattle.am_answer.specs.Tasks as tasks
+use Rattle.am_answer.specs.Tasks.{TaskValue}
 use Rattle.am_answer.specs.Refusals.{board_status, layout_status, make_status}
 use Rattle.byte_text.specs.Steps.{◌>>=◌}
 
@@ -91,40 +92,10 @@ game_root game layouts = do
   root_on board layouts
 
 -- what each game comes to with its own layout file: a root, or why it has none
-unfoldable pub game_roots : List GameValue → List (List ℕ) → List (Result Root Status)
-game_roots games layouts = map (λ (pair : GameValue × List ℕ). game_root pair.0 pair.1) (zip games layouts)
+unfoldable pub game_roots : GameFilesValue → List (Result Root Status)
+game_roots files = map (λ (pair : GameValue × List ℕ). game_root pair.0 pair.1) (zip files.games files.layouts)
 
 -- ---- what is to be done
-
--- a layout that is to be played out, by its number and its place among the kept ones, counted from 0; and the number of the
--- card before which another defender comes in
-pub record Playing : Type 0 where
-  pub layout : ℕ
-  pub place : ℕ
-  pub switch : Option ℕ
-
--- a job that the words and the files lead to
-pub data TaskValue : Type 0 where
-  -- the report of a root, by so many moves and a search
-  Report : Root → ℕ → Search → TaskValue
-  -- the card to play at a root, by so many moves and a search
-  NamedCard : Root → ℕ → Search → TaskValue
-  -- the first strategy that is printed for a root, by so many moves and a search, played out in a layout
-  PlayedOut : Root → ℕ → Search → Playing → TaskValue
-  -- what plain sampling believes at a root
-  Sample : Root → TaskValue
-  -- the log that proves a root's front complete, by so many moves and nodes
-  Proof : Root → ℕ → ℕ → TaskValue
-  -- what is asked of a log at a root
-  Audit : Root → AuditValue → TaskValue
-  -- a report with so many plans, all of which are good
-  Good : ℕ → TaskValue
-  -- all layouts of a board
-  AllLayouts : BoardValue → List Layout → TaskValue
-  -- the root of the problem made from a number, and a search
-  Problem : ℕ → Root → Search → TaskValue
-  -- the reports of all games, each at its root where it has one, by so many moves and a search
-  Boards : List (Result Root Status) → ℕ → Search → TaskValue
 
 -- the place of a layout among the kept ones, counted from 0
 abbrev pub place_of : ℕ → Root → Option ℕ
@@ -134,24 +105,24 @@ place_of layout root = position (λ number. number == layout) root.kept.numbers
 unfoldable pub match_at : Root → ℕ → Search → ℕ → Option ℕ → Result TaskValue Status
 match_at root moves search layout switch = do
   place ← ok_or (place_of layout root) (NoLayout layout)
-  Ok (PlayedOut root moves search (record { layout = layout; place = place; switch = switch }))
+  Ok (tasks.Match root moves search (record { layout = layout; place = place; switch = switch }))
 
 -- a job at a root
-unfoldable pub task_at : Root → Work → Result TaskValue Status
-task_at root (works.Solve moves search) = Ok (Report root moves search)
-task_at root (works.Card moves search) = Ok (NamedCard root moves search)
-task_at root (works.Match moves search layout switch) = match_at root moves search layout switch
-task_at root works.Fusion = Ok (Sample root)
-task_at root (works.Check report) = do
+unfoldable pub task_at : Root → LayoutsJobValue → Result TaskValue Status
+task_at root (jobs.Solve moves search) = Ok (tasks.Solve root moves search)
+task_at root (jobs.Card moves search) = Ok (tasks.Card root moves search)
+task_at root (jobs.Match moves search layout switch) = match_at root moves search layout switch
+task_at root jobs.Fusion = Ok (tasks.Fusion root)
+task_at root (jobs.Check report) = do
   plans ← plans_in root report
-  Ok (Good plans)
-task_at root (works.Prove moves nodes) = Ok (Proof root moves nodes)
-task_at root (works.Audit report log) = do
+  Ok (tasks.Check plans)
+task_at root (jobs.Prove moves nodes) = Ok (tasks.Prove root moves nodes)
+task_at root (jobs.Audit report log) = do
   audit ← audit_in root report log
-  Ok (Audit root audit)
+  Ok (tasks.Audit root audit)
 
 abbrev pub listed_or : BoardValue → Result (List Layout) MakeFault → Result TaskValue Status
-listed_or board (Ok layouts) = Ok (AllLayouts board layouts)
+listed_or board (Ok layouts) = Ok (tasks.List board layouts)
 listed_or board (Err fault) = Err (make_status fault)
 
 -- all layouts of the board of a deal file
@@ -161,25 +132,19 @@ listed_in deal = do
   listed_or board (layouts_made board)
 
 -- the problem made from a number: its texts are read as files are
-unfoldable pub problem_of : ℕ → Search → Result TaskValue Status
-problem_of number search = do
+unfoldable pub made_in : ℕ → Search → Result TaskValue Status
+made_in number search = do
   root ← root_in (made_deal number) (made_layouts number)
-  Ok (Problem number root search)
-
--- all games of a deal file, with their layout files in order
-unfoldable pub boards_in : List ℕ → List (List ℕ) → ℕ → Search → Result TaskValue Status
-boards_in deal layouts moves search = do
-  games ← games_of deal
-  Ok (Boards (game_roots games layouts) moves search)
+  Ok (tasks.Made number root search)
 
 -- the job that the files lead to
-unfoldable pub task_in : Inputs → Result TaskValue Status
-task_in (inputs.OnLayouts deal layouts work) = do
+unfoldable pub task_in : InputsValue → Result TaskValue Status
+task_in (asks.OnLayouts deal layouts job) = do
   root ← root_in deal layouts
-  task_at root work
-task_in (inputs.List deal) = listed_in deal
-task_in (inputs.Made number search) = problem_of number search
-task_in (inputs.Boards deal layouts moves search) = boards_in deal layouts moves search
+  task_at root job
+task_in (asks.List deal) = listed_in deal
+task_in (asks.Made number search) = made_in number search
+task_in (asks.Boards files moves search) = Ok (tasks.Boards (game_roots files) moves search)
 
 -- ---- the whole
 

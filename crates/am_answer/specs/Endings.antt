@@ -14,7 +14,8 @@ use Rattle.am_answer.specs.declared.status.FileWord.{FileWord}
 use Rattle.am_answer.specs.declared.status.Status.{Status}
 use Rattle.am_answer.specs.declared.status.Status.TheVariants.{Done, Unread, Spent, Unwritten, Memory, Unproved, GameSpent}
 use Rattle.am_answer.specs.declared.root.Root.{Root}
-use Rattle.am_answer.specs.Answers.{TaskValue, Report, NamedCard, PlayedOut, Proof, Audit, Problem, Boards, problem_of}
+use Rattle.am_answer.specs.Answers.{made_in}
+use Rattle.am_answer.specs.Tasks.{TaskValue, Solve, Card, Match, Prove, Audit, Made, Boards}
 use Rattle.am_answer.specs.Files.{IsNameOf}
 use Rattle.am_answer.specs.Reports.{IsTextAt, made_moves}
 use Rattle.am_match.specs.Defences.{Sitter}
@@ -32,11 +33,11 @@ pub record IsSpentBy (n : NodeValue) (moves : ℕ) (search : Search) (card : ℕ
 
 -- a job whose search is spent at this card
 abbrev pub IsSpentOn : TaskValue → ℕ → Type 0
-IsSpentOn (Report root moves search) card = IsSpentBy root.kept.node moves search card
-IsSpentOn (NamedCard root moves search) card = IsSpentBy root.kept.node moves search card
-IsSpentOn (PlayedOut root moves search playing) card = IsSpentBy root.kept.node moves search card
-IsSpentOn (Problem number root search) card = IsSpentBy root.kept.node made_moves search card
-IsSpentOn (Proof root moves nodes) card = IsFirstSpentAt root.kept.node moves nodes card
+IsSpentOn (Solve root moves search) card = IsSpentBy root.kept.node moves search card
+IsSpentOn (Card root moves search) card = IsSpentBy root.kept.node moves search card
+IsSpentOn (Match root moves search playing) card = IsSpentBy root.kept.node moves search card
+IsSpentOn (Made number root search) card = IsSpentBy root.kept.node made_moves search card
+IsSpentOn (Prove root moves nodes) card = IsFirstSpentAt root.kept.node moves nodes card
 IsSpentOn _ card = ⊥
 
 -- no root card's tree is too large in any game that has a root
@@ -67,23 +68,23 @@ IsUnprovedOn _ number = ⊥
 -- nothing stands against a job's text: no root card's tree is too large, where there is a search, and a log proves what it is
 -- asked
 abbrev pub HasText : TaskValue → Type 0
-HasText (Report root moves search) = AllFit root.kept.node moves search.nodes
-HasText (NamedCard root moves search) = AllFit root.kept.node moves search.nodes
-HasText (PlayedOut root moves search playing) = AllFit root.kept.node moves search.nodes
-HasText (Problem number root search) = AllFit root.kept.node made_moves search.nodes
-HasText (Proof root moves nodes) = AllFit root.kept.node moves nodes
+HasText (Solve root moves search) = AllFit root.kept.node moves search.nodes
+HasText (Card root moves search) = AllFit root.kept.node moves search.nodes
+HasText (Match root moves search playing) = AllFit root.kept.node moves search.nodes
+HasText (Made number root search) = AllFit root.kept.node made_moves search.nodes
+HasText (Prove root moves nodes) = AllFit root.kept.node moves nodes
 HasText (Boards roots moves search) = AllGamesFit roots moves search.nodes
 HasText (Audit root audit) = IsLogVerdict root.kept.node audit.moves audit.vectors audit.lines Yes
 HasText _ = ⊤
 
 -- what is known of the trees where a job has its text: a plain search, or one for a log, has met no tree that is too large
 abbrev pub IsWithinIfPlain : TaskValue → Type 0
-IsWithinIfPlain (Report root moves search) = IsPlain search → AllFit root.kept.node moves search.nodes
-IsWithinIfPlain (NamedCard root moves search) = IsPlain search → AllFit root.kept.node moves search.nodes
-IsWithinIfPlain (PlayedOut root moves search playing) = IsPlain search → AllFit root.kept.node moves search.nodes
-IsWithinIfPlain (Problem number root search) = IsPlain search → AllFit root.kept.node made_moves search.nodes
+IsWithinIfPlain (Solve root moves search) = IsPlain search → AllFit root.kept.node moves search.nodes
+IsWithinIfPlain (Card root moves search) = IsPlain search → AllFit root.kept.node moves search.nodes
+IsWithinIfPlain (Match root moves search playing) = IsPlain search → AllFit root.kept.node moves search.nodes
+IsWithinIfPlain (Made number root search) = IsPlain search → AllFit root.kept.node made_moves search.nodes
 IsWithinIfPlain (Boards roots moves search) = IsPlain search → AllGamesFit roots moves search.nodes
-IsWithinIfPlain (Proof root moves nodes) = AllFit root.kept.node moves nodes
+IsWithinIfPlain (Prove root moves nodes) = AllFit root.kept.node moves nodes
 IsWithinIfPlain _ = ⊤
 
 -- the status is the answer's, where it isn't one that depends on reading, writing or memory, or on a search or a log
@@ -108,7 +109,7 @@ IsMadeStatus task _ = ⊥
 
 -- the number leads to a root, and the run ends as its problem may end
 abbrev pub IsMadeRun : ℕ → Search → Status → Type 0
-IsMadeRun number search status = (root : Root) × (problem_of number search ≡ Ok (Problem number root search)) × IsMadeStatus (Problem number root search) status
+IsMadeRun number search status = (root : Root) × (made_in number search ≡ Ok (Made number root search)) × IsMadeStatus (Made number root search) status
 
 -- ---- what is written
 

@@ -26,3 +26,8 @@ games_of bytes = games_or (games_read bytes)
 -- the name of the layout file for the game of a number: the name that the words give, a full stop and the number
 abbrev pub layouts_name : List ℕ → ℕ → List ℕ
 layouts_name name number = name ++ codes "." ++ decimal number
+
+-- the games of a deal file, and the bytes of a layout file for each of them, in order
+pub record GameFilesValue : Type 0 where
+  pub games : List GameValue
+  pub layouts : List (List ℕ)

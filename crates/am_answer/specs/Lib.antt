@@ -4,6 +4,7 @@ pub mod Files
 pub mod Refusals
 pub mod Judging
 pub mod Auditing
+pub mod Tasks
 pub mod Answers
 pub mod Names
 pub mod Lines

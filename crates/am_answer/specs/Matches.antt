@@ -11,7 +11,7 @@ use Rattle.am_match.specs.Defences.{Sitter, Change, change_at, table_at, tell_ta
 use Rattle.am_match.specs.PlayOuts.{Follows, state_after}
 use Rattle.am_report.specs.Match.{match_text}
 use Rattle.am_answer.specs.declared.root.Root.{Root}
-use Rattle.am_answer.specs.Answers.{Playing}
+use Rattle.am_answer.specs.Tasks.{Playing}
 use Rattle.am_answer.specs.ReportOrder.{IsReportedFront}
 
 -- the defenders at the start: where one is to come in later, the first two

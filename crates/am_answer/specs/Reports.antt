@@ -24,7 +24,8 @@ use Rattle.am_report.specs.Made.{made_text}
 use Rattle.am_report.specs.Solve.{solve_text}
 use Rattle.am_answer.specs.declared.root.Root.{Root}
 use Rattle.am_answer.specs.declared.status.Status.{Status}
-use Rattle.am_answer.specs.Answers.{TaskValue, Report, NamedCard, PlayedOut, Sample, Proof, Audit, Good, AllLayouts, Problem, Boards}
+use Rattle.am_answer.specs.Tasks.{TaskValue, Solve, Card, Match, Fusion, Prove, Audit, Check, Made, Boards}
+use Rattle.am_answer.specs.Tasks as tasks
 use Rattle.am_answer.specs.Auditing.{AuditValue}
 use Rattle.am_answer.specs.Lines.{said_of}
 use Rattle.am_answer.specs.ReportOrder.{IsReportedFront}
@@ -60,8 +61,8 @@ IsMadeText number root moves text = (vectors : List (List Bool)) × (card count 
     × (text ≡ made_text (record { number = number; layouts = length root.kept.node.lefts; front = length vectors; best = count; card = card }))
 
 -- the log of a root by so many moves
-abbrev pub IsProofText : Root → ℕ → List ℕ → Type 0
-IsProofText root moves text = (lines : List LogLine) × IsLogFor root.kept.node moves lines × (text ≡ log_text lines)
+abbrev pub IsProveText : Root → ℕ → List ℕ → Type 0
+IsProveText root moves text = (lines : List LogLine) × IsLogFor root.kept.node moves lines × (text ≡ log_text lines)
 
 -- that a log proves a report's vectors complete
 abbrev pub IsAuditText : Root → AuditValue → List ℕ → Type 0
@@ -80,18 +81,18 @@ IsBoardsText roots moves text = (games : List GameText) × AllZip (IsGameText mo
 
 -- the text of a job that asks no defender for a card
 abbrev pub IsText : TaskValue → List ℕ → Type 0
-IsText (Report root moves search) text = IsSolveText root moves text
-IsText (NamedCard root moves search) text = IsCardText root moves text
-IsText (PlayedOut root moves search playing) text = ⊥
-IsText (Sample root) text = text ≡ fusion_text (card_vectors root.kept.node) root.kept.weights
-IsText (Proof root moves nodes) text = IsProofText root moves text
+IsText (Solve root moves search) text = IsSolveText root moves text
+IsText (Card root moves search) text = IsCardText root moves text
+IsText (Match root moves search playing) text = ⊥
+IsText (Fusion root) text = text ≡ fusion_text (card_vectors root.kept.node) root.kept.weights
+IsText (Prove root moves nodes) text = IsProveText root moves text
 IsText (Audit root audit) text = IsAuditText root audit text
-IsText (Good plans) text = text ≡ check_text plans
-IsText (AllLayouts board layouts) text = text ≡ list_text board layouts
-IsText (Problem number root search) text = IsMadeText number root made_moves text
+IsText (Check plans) text = text ≡ check_text plans
+IsText (tasks.List board layouts) text = text ≡ list_text board layouts
+IsText (Made number root search) text = IsMadeText number root made_moves text
 IsText (Boards roots moves search) text = IsBoardsText roots moves text
 
 -- the text of a job at a table of defenders, and the table after it
 abbrev pub IsTextAt : TaskValue → List Sitter → List Sitter → List ℕ → Type 0
-IsTextAt (PlayedOut root moves search playing) table later text = IsMatchText root moves playing table later text
+IsTextAt (Match root moves search playing) table later text = IsMatchText root moves playing table later text
 IsTextAt task table later text = IsText task text

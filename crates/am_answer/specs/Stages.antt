@@ -2,7 +2,7 @@
 use Rattle.std.specs.Prelude.{◌≡◌, ⊤, ℕ, List, Result, Ok, Err}
 use Rattle.am_answer.specs.declared.status.Status.{Status}
 use Rattle.am_answer.specs.declared.status.Status.TheVariants.{Done, BadWords, Unread, BadPbn, Spent, Unwritten, Memory, TooLong, Unproved, GameSpent, TooManyGames}
-use Rattle.am_answer.specs.Answers.{TaskValue}
+use Rattle.am_answer.specs.Tasks.{TaskValue}
 use Rattle.am_answer.specs.Reports.{IsText, IsTextAt}
 use Rattle.am_match.specs.Defences.{Sitter}
 use Rattle.am_answer.specs.Endings.{IsSpentOn, IsGameSpentOn, IsUnprovedOn, IsWithinIfPlain}

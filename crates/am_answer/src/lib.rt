@@ -8,7 +8,7 @@ mod refusals;
 mod root;
 mod status;
 
-pub use inputs::{Inputs, LayoutFiles, Work};
+pub use inputs::{GameFiles, Inputs};
 pub use refusals::{
     board_status, layout_status, log_status, make_status, report_status, root_status, syntax_status,
 };

@@ -8,6 +8,7 @@ use Rattle.std.proofs.lemmas.Result.{IfOk-weaker}
 use Rattle.std.proofs.lemmas.Slice.Zip.{length-zip}
 use Rattle.pbn_text.specs.Games.{GameValue}
 use Rattle.am_answer.specs.Answers.{game_root, game_roots}
+use Rattle.am_answer.specs.Games.{GameFilesValue}
 use Rattle.am_answer.specs.declared.root.Root.{Root}
 use Rattle.am_answer.specs.declared.status.Status.{Status}
 use Rattle.am_answer.specs.declared.status.Status.TheVariants.{Done, Refuted, BadWords, Unread, BadPbn, BadLayouts, NoTurn, Spent, Unwritten, Memory, TooLong, BadReport, BadMake, NoLayout, BadLog, Unproved, GameSpent, TooManyGames}
@@ -39,12 +40,15 @@ refused-as-said expected status other is = sym (refused-is expected status other
 
 -- ---- one after another
 
-roots-length : (games : List GameValue) (layouts : List (List ℕ)) → length (game_roots games layouts) ≡ min (length games) (length layouts)
+abbrev pub files_of : List GameValue → List (List ℕ) → GameFilesValue
+files_of games layouts = record { games = games; layouts = layouts }
+
+roots-length : (files : GameFilesValue) → length (game_roots files) ≡ min (length files.games) (length files.layouts)
 unfolding game_roots
-roots-length games layouts = length-map (zip games layouts) (λ (pair : GameValue × List ℕ). game_root pair.0 pair.1) ∙ length-zip games layouts
+roots-length files = length-map (zip files.games files.layouts) (λ (pair : GameValue × List ℕ). game_root pair.0 pair.1) ∙ length-zip files.games files.layouts
 
 roots-suc : (games : List GameValue) (layouts : List (List ℕ)) (place : ℕ) (d : GameValue) (e : List ℕ) → place < length games → place < length layouts
-    → take (suc place) (game_roots games layouts) ≡ take place (game_roots games layouts) ++ game_root (slice_index_or games place d) (slice_index_or layouts place e) ∷ []
+    → take (suc place) (game_roots (files_of games layouts)) ≡ take place (game_roots (files_of games layouts)) ++ game_root (slice_index_or games place d) (slice_index_or layouts place e) ∷ []
 unfolding game_roots
 roots-suc [] layouts place d e inside within = absurd (omega (arith, inside))
 roots-suc (g ∷ games) [] place d e inside within = absurd (omega (arith, within))
@@ -53,20 +57,25 @@ roots-suc (g ∷ games) (l ∷ layouts) (suc place) d e inside within =
     ap (λ roots. game_root g l ∷ roots) (roots-suc games layouts place d e (omega (arith, inside)) (omega (arith, within)))
 
 -- with one game more
-pub roots-next : (games : List GameValue) (layouts : List (List ℕ)) (place : ℕ) (d : GameValue) (e : List ℕ) (before now : List (Result Root Status)) (found : Result Root Status)
-    → place < min (length games) (length layouts) → before ≡ take place (game_roots games layouts) → found ≡ game_root (slice_index_or games place d) (slice_index_or layouts place e) → now ≡ before ++ found ∷ []
-    → now ≡ take (place + 1) (game_roots games layouts)
-roots-next games layouts place d e before now found inside so_far is more =
+pub roots-next : (files : GameFilesValue) (place : ℕ) (d : GameValue) (e : List ℕ) (before now : List (Result Root Status)) (found : Result Root Status)
+    → place < min (length files.games) (length files.layouts) → before ≡ take place (game_roots files) → found ≡ game_root (slice_index_or files.games place d) (slice_index_or files.layouts place e) → now ≡ before ++ found ∷ []
+    → now ≡ take (place + 1) (game_roots files)
+roots-next files place d e before now found inside so_far is more =
     let next : place + 1 ≡ suc place = omega arith in
-    let first : place < length games = omega (arith, inside) in
-    let second : place < length layouts = omega (arith, inside) in
-    more ∙ ap₂ (λ (bs : List (Result Root Status)) f. bs ++ f ∷ []) so_far is ∙ sym (roots-suc games layouts place d e first second) ∙ ap (λ n. take n (game_roots games layouts)) (sym next)
+    let first : place < length files.games = omega (arith, inside) in
+    let second : place < length files.layouts = omega (arith, inside) in
+    more ∙ ap₂ (λ (bs : List (Result Root Status)) f. bs ++ f ∷ []) so_far is ∙ sym (roots-suc files.games files.layouts place d e first second) ∙ ap (λ n. take n (game_roots files)) (sym next)
 
-pub roots-all : (games : List GameValue) (layouts : List (List ℕ)) (place : ℕ) (roots : List (Result Root Status)) → (place < min (length games) (length layouts) → ⊥) → roots ≡ take place (game_roots games layouts) → roots ≡ game_roots games layouts
-roots-all games layouts place roots done so_far =
-    so_far ∙ take_all place (game_roots games layouts) (omega (arith, roots-length games layouts, done))
+pub roots-all : (files : GameFilesValue) (place : ℕ) (roots : List (Result Root Status)) → (place < min (length files.games) (length files.layouts) → ⊥) → roots ≡ take place (game_roots files) → roots ≡ game_roots files
+roots-all files place roots done so_far =
+    so_far ∙ take_all place (game_roots files) (omega (arith, roots-length files, done))
 
--- there are no more roots than games
-pub few-roots : {E : Type 0} (result : Result (Vec (Result Root Status)) E) (games : List GameValue) (layouts : List (List ℕ)) (most : ℕ) → length games ≤ most → IfOk result (λ roots. roots.items ≡ game_roots games layouts) → IfOk result (λ roots. length roots.items ≤ most)
-few-roots result games layouts most few is =
-    IfOk-weaker result _ _ (λ roots same. omega (arith, ap length same, roots-length games layouts, few)) is
+-- of games and texts that are read one after another
+module _ {E : Type 0} (result : Result (Vec (Result Root Status)) E) (files : GameFilesValue) (games : List GameValue) (layouts : List (List ℕ)) (games_are : games ≡ files.games) (layouts_are : layouts ≡ files.layouts)
+    (is : IfOk result (λ roots. roots.items ≡ game_roots (files_of games layouts))) where
+  pub roots-of : IfOk result (λ roots. roots.items ≡ game_roots files)
+  roots-of = IfOk-weaker result _ _ (λ roots same. same ∙ ap game_roots (ap₂ files_of games_are layouts_are)) is
+
+  -- there are no more roots than games
+  pub few-roots : (most : ℕ) → length files.games ≤ most → IfOk result (λ roots. length roots.items ≤ most)
+  few-roots most few = IfOk-weaker result _ _ (λ roots same. omega (arith, ap length same, roots-length files, few)) roots-of

@@ -8,7 +8,9 @@ use Rattle.pbn_text.specs.declared.fault.Syntax.{Syntax as TextSyntax}
 use Rattle.pbn_text.specs.Games.{GameValue}
 use Rattle.pbn_text.specs.Grammar.{games_read}
 use Rattle.job_words.specs.declared.asks.Search.{Search}
-use Rattle.job_words.specs.Asks.{AskValue, LayoutsJobValue, OnLayouts, Boards, Solve, Card, Match, Fusion, Check, Prove, Audit}
+use Rattle.job_words.specs.Asks.{AskValue, GameNamesValue, LayoutsJobValue}
+use Rattle.job_words.specs.declared.asks.Ask.TheVariants.{OnLayouts, Boards}
+use Rattle.job_words.specs.declared.asks.LayoutsJob.TheVariants.{Solve, Card, Match, Fusion, Check, Prove, Audit}
 use Rattle.am_answer.specs.declared.status.FileWord.{FileWord}
 use Rattle.am_answer.specs.declared.status.FileWord.TheVariants.{Deal, Layouts, Report, Log}
 use Rattle.am_answer.specs.declared.status.Status.TheVariants.{TooManyGames}
@@ -74,9 +76,9 @@ module _ (before between now : List ℕ → ℕ) (earlier : (name : List ℕ) �
   job_names told deal layouts job Log rose = named_since (file_named job Log) rose
 
   -- the layout file of a game, if all games are solved
-  pub game_named : (told : Option Files) (name layouts deal : List ℕ) (moves : ℕ) (search' : Search) (file : FileWord) → IfSome told (λ files. file_read files Deal name ≡ Ok deal)
-      → (file ≡ Layouts) × (number : ℕ) × IsGameNumber deal number × Rose (between (layouts_name layouts number)) (now (layouts_name layouts number))
-      → (other : List ℕ) × IsNameOf told (Boards name layouts moves search') file other × Rose (before other) (now other)
-  game_named told name layouts deal moves search' file read (same, number, is, rose) =
-      let other = layouts_name layouts number in
-      is_named told (Boards name layouts moves search') file Layouts other before now same (number, game-in told name deal number read is, refl) (rose_since (before other) (between other) (now other) (earlier other) rose)
+  pub game_named : (told : Option Files) (names : GameNamesValue) (deal : List ℕ) (moves : ℕ) (search' : Search) (file : FileWord) → IfSome told (λ files. file_read files Deal names.deal ≡ Ok deal)
+      → (file ≡ Layouts) × (number : ℕ) × IsGameNumber deal number × Rose (between (layouts_name names.layouts number)) (now (layouts_name names.layouts number))
+      → (other : List ℕ) × IsNameOf told (Boards names moves search') file other × Rose (before other) (now other)
+  game_named told names deal moves search' file read (same, number, is, rose) =
+      let other = layouts_name names.layouts number in
+      is_named told (Boards names moves search') file Layouts other before now same (number, game-in told names.deal deal number read is, refl) (rose_since (before other) (between other) (now other) (earlier other) rose)

@@ -1,15 +1,16 @@
 //! The games of a deal file, each with a layout file of its own.
 ghost use Rattle.std.specs.Prelude.{◌≡◌, ◌≤◌, ◌<◌, ◌-◌, ◌^◌, ℕ, List, Ok, All, length, string_bytes};
-ghost use Rattle.std.specs.Prelude.{IfOk, IfErr, IfSome, IsErrOf, IsOkAnd};
+ghost use Rattle.std.specs.Prelude.{IfOk, IfErr, IfSome, IsErrOf};
 ghost use Rattle.am_outside.specs.Faults.{Rose};
 ghost use Rattle.am_answer.specs.Answers.{IsRoot, game_root, game_roots};
-ghost use Rattle.am_answer.specs.Files.{layouts_by_game, layouts_from, AreWithinLimit, IsGameNumber};
+ghost use Rattle.am_answer.specs.Files.{game_files, layouts_from, AreGameFiles, AreWithinLimit};
+ghost use Rattle.am_answer.specs.Files.{IsGameNumber};
 ghost use Rattle.am_answer.specs.Games.{games_of, layouts_name, most_games};
 ghost use Rattle.am_answer.specs.Stages.{IsFileRefusal, IsOfFiles, IsReadRefusal};
 
 use crate::inputs::read_file;
 use crate::root::root_on;
-use am_answer::{FileWord, LayoutFiles, PbnKind, Root, Status, board_status, syntax_status};
+use am_answer::{FileWord, GameFiles, PbnKind, Root, Status, board_status, syntax_status};
 use am_outside::Shelf;
 use byte_text::Text;
 use pbn_deal::read_board;
@@ -85,21 +86,21 @@ fn read_in_order<S: Shelf>(
     Ok(texts)
 }
 
-/// The layout file of each game of a deal file, in order. If the deal file is refused, no other
-/// file is read.
-#[tactic(auto, unfolding(am_answer::specs::Files::layouts_by_game))]
-pub(crate) fn read_by_game<S: Shelf>(
+/// The games of a deal file, and the layout file of each, in order. If the deal file is refused, no
+/// other file is read.
+#[tactic(auto, unfolding(am_answer::specs::Files::game_files))]
+pub(crate) fn read_game_files<S: Shelf>(
     alloc: Global,
     shelf: &mut S,
     name: &str,
     deal: &Text,
-) -> Result<LayoutFiles, Status>
+) -> Result<GameFiles, Status>
     requires { length deal.now < 2 ^ 32 - 1 }
-    ensures within { IfOk result AreWithinLimit }
+    ensures within { IfOk result AreGameFiles }
     ensures read { IfSome (S.told shelf.old) (λ files.
-        IfOk result (λ texts. layouts_by_game files name.now deal.now ≡ Ok texts)) }
+        IfOk result (λ read. game_files files name.now deal.now ≡ Ok read)) }
     ensures refused { IfSome (S.told shelf.old) (λ files.
-        IfErr result (IsReadRefusal (layouts_by_game files name.now deal.now))) }
+        IfErr result (IsReadRefusal (game_files files name.now deal.now))) }
     ensures only { IfErr result IsOfFiles }
     ensures unread { (file : FileWord) → IsErrOf result (Status.Unread file)
         → (file ≡ FileWord.Layouts) × (number : ℕ) × IsGameNumber deal.now number
@@ -110,7 +111,7 @@ pub(crate) fn read_by_game<S: Shelf>(
 {
     let games = read_games(alloc, deal)?;
     let texts = read_in_order(alloc, shelf, name, games.len())?;
-    Ok(LayoutFiles::new(texts))
+    Ok(GameFiles::new(games, texts))
 }
 
 // What a game comes to with its layout file.
@@ -151,12 +152,12 @@ fn roots_of(
     alloc: Global,
     games: &[Game],
     layouts: &[Text],
-) -> Result<Vec<Result<Root, Status>>, Status>
+) -> Result<Vec<Result<Root, Status>>, AllocError>
     requires tagged { All (λ game. 1 ≤ length game.tags) games.now }
     requires layouts_within { AreWithinLimit layouts.now }
-    ensures roots { IfOk result (λ roots. roots.items ≡ game_roots games.now layouts.now) }
+    ensures roots { IfOk result (λ roots.
+        roots.items ≡ game_roots (record { games = games.now; layouts = layouts.now })) }
     ensures are_roots { IfOk result (λ roots. All (λ found. IfOk found IsRoot) roots.items) }
-    ensures only { IfErr result (λ status. status ≡ Status.Memory) }
 {
     let mut roots = Vec::new(alloc);
     let count = games.len().min(layouts.len());
@@ -167,21 +168,13 @@ fn roots_of(
     Ok(roots)
 }
 
-/// What each game of a deal file comes to with its own layout file, in order: a root, or why it
-/// has none. Want of memory is never among the reasons: it ends the reading of all.
-pub fn read_roots(
-    alloc: Global,
-    deal: &Text,
-    layouts: &[Text],
-) -> Result<Vec<Result<Root, Status>>, Status>
-    requires deal_within { length deal.now < 2 ^ 32 - 1 }
-    requires layouts_within { AreWithinLimit layouts.now }
-    ensures roots { IfOk result (λ roots. IsOkAnd (games_of deal.now) (λ games.
-        roots.items ≡ game_roots games layouts.now)) }
+/// What each game comes to with its own layout file, in order: a root, or why it has none. It fails
+/// only if an allocation fails, which is never among the reasons.
+pub fn read_roots(alloc: Global, files: &GameFiles) -> Result<Vec<Result<Root, Status>>, AllocError>
+    requires { AreGameFiles files.now }
+    ensures roots { IfOk result (λ roots. roots.items ≡ game_roots files.now) }
     ensures are_roots { IfOk result (λ roots. All (λ found. IfOk found IsRoot) roots.items) }
     ensures few { IfOk result (λ roots. length roots.items ≤ most_games) }
-    ensures refused { IfErr result (IsFileRefusal (games_of deal.now)) }
 {
-    let games = read_games(alloc, deal)?;
-    roots_of(alloc, &games, layouts)
+    roots_of(alloc, files.games(), files.layouts())
 }

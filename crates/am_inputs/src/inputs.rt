@@ -3,20 +3,21 @@ ghost use Rattle.std.specs.Prelude.{◌≡◌, ◌≢◌, ◌≤◌, ◌⊎◌, 
 ghost use Rattle.std.specs.Prelude.{IfErr, IfSome, IsErrOf, IsSomeAnd};
 ghost use Rattle.am_outside.specs.Faults.{Rose};
 ghost use Rattle.job_words.specs.declared.asks.Search.{Search};
-ghost use Rattle.job_words.specs.Asks.{Made, ask_of, job_of, texts_of};
+ghost use Rattle.job_words.specs.declared.asks.Ask.TheVariants.{Made};
+ghost use Rattle.job_words.specs.Asks.{ask_of, job_of, texts_of};
 ghost use Rattle.job_words.specs.Asks.{IsWithinLimits, IsJobWithinLimits};
 ghost use Rattle.job_words.specs.Words.{words_read};
 ghost use Rattle.am_answer.specs.Files.{file_read, inputs_read, limit_of, named_read};
-ghost use Rattle.am_answer.specs.Files.{file_named, work_read, AreWithin, IsNameOf, IsWithin};
-ghost use Rattle.am_answer.specs.Files.{is_match_job, asks_match, is_match_work, is_match};
+ghost use Rattle.am_answer.specs.Files.{file_named, job_read, AreWithin, IsNameOf, IsJobWithin};
+ghost use Rattle.am_answer.specs.Files.{is_match_job, asks_match, is_match};
 ghost use Rattle.am_answer.specs.Refusals.{IsUnread};
 ghost use Rattle.am_answer.specs.Stages.{IsOfFiles, IsOfReading, IsReadRefusal};
 
-use crate::boards::read_by_game;
-use am_answer::{FileWord, Inputs, Status, Work};
+use crate::boards::read_game_files;
+use am_answer::{FileWord, Inputs, Status};
 use am_outside::{Shelf, ShelfFault};
 use byte_text::Text;
-use job_words::{Ask, LayoutsJob, read_words};
+use job_words::{Ask, LayoutsJob, NamedAsk, read_words};
 use std::alloc::Global;
 
 // The most bytes that a file may have.
@@ -56,17 +57,20 @@ pub(crate) fn read_file<S: Shelf>(
     }
 }
 
-// What a job on layouts is to do, with the report that it judges and the log that it judges it by.
-#[tactic(auto, unfolding(am_answer::specs::Files::work_read))]
-fn read_work<S: Shelf>(alloc: Global, shelf: &mut S, job: LayoutsJob<'_>) -> Result<Work, Status>
+// A job on layouts, with the report that it judges and the log that it judges it by.
+#[tactic(auto, unfolding(am_answer::specs::Files::job_read))]
+fn read_job<S: Shelf>(
+    alloc: Global,
+    shelf: &mut S,
+    job: LayoutsJob<&str>,
+) -> Result<LayoutsJob<Text>, Status>
     requires { IsJobWithinLimits (job_of job) }
-    ensures within { IfOk result IsWithin }
+    ensures within { IfOk result IsJobWithin }
     ensures read { IfSome (S.told shelf.old) (λ files.
-        IfOk result (λ work. work_read files (job_of job.entry) ≡ Ok work)) }
+        IfOk result (λ read. job_read files (job_of job.entry) ≡ Ok read)) }
     ensures refused { IfSome (S.told shelf.old) (λ files.
-        IfErr result (IsReadRefusal (work_read files (job_of job.entry)))) }
-    ensures same_job { IfOk result (λ work.
-        is_match_work work ≡ is_match_job (job_of job.entry)) }
+        IfErr result (IsReadRefusal (job_read files (job_of job.entry)))) }
+    ensures same_job { IfOk result (λ read. is_match_job read ≡ is_match_job (job_of job.entry)) }
     ensures only { IfErr result IsOfFiles }
     ensures unread { (file : FileWord) → IsErrOf result (Status.Unread file)
         → IsSomeAnd (file_named (job_of job.entry) file) (λ name.
@@ -75,29 +79,29 @@ fn read_work<S: Shelf>(alloc: Global, shelf: &mut S, job: LayoutsJob<'_>) -> Res
     ensures same_files { S.told shelf.new ≡ S.told shelf.old }
 {
     match job {
-        LayoutsJob::Solve { moves, search } => Ok(Work::Solve { moves, search }),
-        LayoutsJob::Card { moves, search } => Ok(Work::Card { moves, search }),
+        LayoutsJob::Solve { moves, search } => Ok(LayoutsJob::Solve { moves, search }),
+        LayoutsJob::Card { moves, search } => Ok(LayoutsJob::Card { moves, search }),
         LayoutsJob::Match {
             moves,
             search,
             layout,
             switch,
-        } => Ok(Work::Match {
+        } => Ok(LayoutsJob::Match {
             moves,
             search,
             layout,
             switch,
         }),
-        LayoutsJob::Fusion => Ok(Work::Fusion),
+        LayoutsJob::Fusion => Ok(LayoutsJob::Fusion),
         LayoutsJob::Check { report } => {
             let report = read_file(alloc, shelf, FileWord::Report, report)?;
-            Ok(Work::Check { report })
+            Ok(LayoutsJob::Check { report })
         }
-        LayoutsJob::Prove { moves, nodes } => Ok(Work::Prove { moves, nodes }),
+        LayoutsJob::Prove { moves, nodes } => Ok(LayoutsJob::Prove { moves, nodes }),
         LayoutsJob::Audit { report, log } => {
             let report = read_file(alloc, shelf, FileWord::Report, report)?;
             let log = read_file(alloc, shelf, FileWord::Log, log)?;
-            Ok(Work::Audit { report, log })
+            Ok(LayoutsJob::Audit { report, log })
         }
     }
 }
@@ -105,7 +109,7 @@ fn read_work<S: Shelf>(alloc: Global, shelf: &mut S, job: LayoutsJob<'_>) -> Res
 // The files that the words name: the deal, then the layouts, then the report, then the log; for all
 // games of a deal, after it the layout file of each.
 #[tactic(auto, unfolding(am_answer::specs::Files::named_read))]
-fn read_named<S: Shelf>(alloc: Global, shelf: &mut S, ask: Ask<'_>) -> Result<Inputs, Status>
+fn read_named<S: Shelf>(alloc: Global, shelf: &mut S, ask: NamedAsk<'_>) -> Result<Inputs, Status>
     requires { IsWithinLimits (ask_of ask) }
     ensures within { IfOk result AreWithin }
     ensures read { IfSome (S.told shelf.old) (λ files.
@@ -119,45 +123,39 @@ fn read_named<S: Shelf>(alloc: Global, shelf: &mut S, ask: Ask<'_>) -> Result<In
         → (name : List ℕ) × IsNameOf (S.told shelf.old) (ask_of ask.entry) file name
         × Rose (S.faults shelf.old name) (S.faults shelf.new name) }
     ensures made { (number : ℕ) (search : Search) → ask_of ask.entry ≡ Made number search
-        → result ≡ Ok (Inputs.Made number search) }
+        → result ≡ Ok (Made number search) }
     ensures same_files { S.told shelf.new ≡ S.told shelf.old }
 {
     match ask {
         Ask::OnLayouts { deal, layouts, job } => {
             let deal = read_file(alloc, shelf, FileWord::Deal, deal)?;
             let layouts = read_file(alloc, shelf, FileWord::Layouts, layouts)?;
-            let work = read_work(alloc, shelf, job)?;
-            Ok(Inputs::OnLayouts {
-                deal,
-                layouts,
-                work,
-            })
+            let job = read_job(alloc, shelf, job)?;
+            Ok(Ask::OnLayouts { deal, layouts, job })
         }
         Ask::List { deal } => {
             let deal = read_file(alloc, shelf, FileWord::Deal, deal)?;
-            Ok(Inputs::List { deal })
+            Ok(Ask::List { deal })
         }
         Ask::Boards {
-            deal,
-            layouts,
+            games,
             moves,
             search,
         } => {
-            let deal = read_file(alloc, shelf, FileWord::Deal, deal)?;
-            let layouts = read_by_game(alloc, shelf, layouts, &deal)?;
-            Ok(Inputs::Boards {
-                deal,
-                layouts,
+            let deal = read_file(alloc, shelf, FileWord::Deal, games.deal)?;
+            let games = read_game_files(alloc, shelf, games.layouts, &deal)?;
+            Ok(Ask::Boards {
+                games,
                 moves,
                 search,
             })
         }
-        Ask::Made { number, search } => Ok(Inputs::Made { number, search }),
+        Ask::Made { number, search } => Ok(Ask::Made { number, search }),
     }
 }
 
 // What the words ask for.
-fn read_ask(alloc: Global, words: &[String]) -> Result<Ask<'_>, Status>
+fn read_ask(alloc: Global, words: &[String]) -> Result<NamedAsk<'_>, Status>
     ensures ask { IfOk result (λ ask. words_read (texts_of words.now) ≡ Some (ask_of ask)) }
     ensures limits { IfOk result (λ ask. IsWithinLimits (ask_of ask)) }
     ensures refused { IfErr result (λ status. (status ≡ Status.Memory)
@@ -196,7 +194,7 @@ pub fn read_inputs<S: Shelf>(
         (S.faults shelf.new) file }
     ensures made { (number : ℕ) (search : Search)
         → words_read (texts_of words.now) ≡ Some (Made number search)
-        → (result ≡ Ok (Inputs.Made number search)) ⊎ (result ≡ Err Status.Memory) }
+        → (result ≡ Ok (Made number search)) ⊎ (result ≡ Err Status.Memory) }
     ensures same_files { S.told shelf.new ≡ S.told shelf.old }
 {
     let ask = read_ask(alloc, words)?;

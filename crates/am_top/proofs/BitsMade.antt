@@ -9,7 +9,7 @@ use Rattle.strategy_tree.specs.Bridge.{bridge}
 use Rattle.strategy_tree.proofs.BridgeLaws as laws
 use Rattle.am_match.specs.Defences.{Sitter}
 use Rattle.am_match.proofs.WonLines.{what_is_won_is_made}
-use Rattle.am_answer.specs.Answers.{Playing}
+use Rattle.am_answer.specs.Tasks.{Playing}
 use Rattle.am_answer.specs.Matches.{IsPlayed, seated_at}
 
 mapped_at : {X Y : Type 0} (f : X → Y) (xs : List X) (k : ℕ) (x : X) → slice_get xs k ≡ Some x → slice_get (map f xs) k ≡ Some (f x)

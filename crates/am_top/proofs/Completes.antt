@@ -9,7 +9,9 @@ use Rattle.am_answer.specs.declared.status.FileWord.{FileWord}
 use Rattle.am_answer.specs.declared.status.Status.{Status}
 use Rattle.am_answer.specs.declared.status.Status.TheVariants.{Done, Refuted, BadWords, Unread, BadPbn, BadLayouts, NoTurn, Spent, Unwritten, Memory, TooLong, BadReport, BadMake, NoLayout, BadLog, Unproved, GameSpent, TooManyGames}
 use Rattle.am_answer.specs.declared.root.Root.{Root}
-use Rattle.am_answer.specs.Answers.{TaskValue, Problem, answer, problem_of}
+use Rattle.am_answer.specs.Answers.{answer, made_in}
+use Rattle.am_answer.specs.Tasks.{TaskValue}
+use Rattle.am_answer.specs.Tasks as tasks
 use Rattle.am_answer.specs.Files.{IsNameOf}
 use Rattle.am_answer.specs.Refusals.{IsUnread}
 use Rattle.am_answer.specs.Endings.{IsSpentOn, IsGameSpentOn, IsUnprovedOn, HasText, IsWithinIfPlain, IsMadeStatus, IsMadeRun, HasNoFault, IsDoneOrMemory}
@@ -67,37 +69,37 @@ told_complete (Some files) words status before now written is unread = λ ask ta
 
 -- a run on the problem of a number that wrote nothing
 module _ (number : ℕ) (search' : Search) where
-  made_refused : (root : Root) (status : Status) → problem_of number search' ≡ Ok (Problem number root search') → IsTaskRefusal (problem_of number search') status → IsMadeStatus (Problem number root search') status
+  made_refused : (root : Root) (status : Status) → made_in number search' ≡ Ok (tasks.Made number root search') → IsTaskRefusal (made_in number search') status → IsMadeStatus (tasks.Made number root search') status
   made_refused root Done is refused = absurd refused
-  made_refused root (Refuted plan place) is refused = absurd (ok-err (problem_of number search') (Problem number root search') (Refuted plan place) is refused)
+  made_refused root (Refuted plan place) is refused = absurd (ok-err (made_in number search') (tasks.Made number root search') (Refuted plan place) is refused)
   made_refused root BadWords is refused = absurd refused
   made_refused root (Unread file) is refused = absurd refused
-  made_refused root (BadPbn line kind) is refused = absurd (ok-err (problem_of number search') (Problem number root search') (BadPbn line kind) is refused)
-  made_refused root (BadLayouts fault) is refused = absurd (ok-err (problem_of number search') (Problem number root search') (BadLayouts fault) is refused)
-  made_refused root NoTurn is refused = absurd (ok-err (problem_of number search') (Problem number root search') NoTurn is refused)
+  made_refused root (BadPbn line kind) is refused = absurd (ok-err (made_in number search') (tasks.Made number root search') (BadPbn line kind) is refused)
+  made_refused root (BadLayouts fault) is refused = absurd (ok-err (made_in number search') (tasks.Made number root search') (BadLayouts fault) is refused)
+  made_refused root NoTurn is refused = absurd (ok-err (made_in number search') (tasks.Made number root search') NoTurn is refused)
   made_refused root (Spent card) is (other, also, spent) =
-      subst (λ t. IsSpentOn t card) (ok-same (problem_of number search') other (Problem number root search') also is) spent
+      subst (λ t. IsSpentOn t card) (ok-same (made_in number search') other (tasks.Made number root search') also is) spent
   made_refused root Unwritten is refused = absurd refused
   made_refused root Memory is refused = tt
   made_refused root (TooLong file) is refused = absurd refused
-  made_refused root (BadReport line kind) is refused = absurd (ok-err (problem_of number search') (Problem number root search') (BadReport line kind) is refused)
-  made_refused root (BadMake fault) is refused = absurd (ok-err (problem_of number search') (Problem number root search') (BadMake fault) is refused)
-  made_refused root (NoLayout layout) is refused = absurd (ok-err (problem_of number search') (Problem number root search') (NoLayout layout) is refused)
-  made_refused root (BadLog line) is refused = absurd (ok-err (problem_of number search') (Problem number root search') (BadLog line) is refused)
+  made_refused root (BadReport line kind) is refused = absurd (ok-err (made_in number search') (tasks.Made number root search') (BadReport line kind) is refused)
+  made_refused root (BadMake fault) is refused = absurd (ok-err (made_in number search') (tasks.Made number root search') (BadMake fault) is refused)
+  made_refused root (NoLayout layout) is refused = absurd (ok-err (made_in number search') (tasks.Made number root search') (NoLayout layout) is refused)
+  made_refused root (BadLog line) is refused = absurd (ok-err (made_in number search') (tasks.Made number root search') (BadLog line) is refused)
   made_refused root (Unproved line) is (other, also, unproved) =
-      subst (λ t. IsUnprovedOn t line) (ok-same (problem_of number search') other (Problem number root search') also is) unproved
+      subst (λ t. IsUnprovedOn t line) (ok-same (made_in number search') other (tasks.Made number root search') also is) unproved
   made_refused root (GameSpent game card) is (other, also, spent) =
-      subst (λ t. IsGameSpentOn t game card) (ok-same (problem_of number search') other (Problem number root search') also is) spent
-  made_refused root (TooManyGames games) is refused = absurd (ok-err (problem_of number search') (Problem number root search') (TooManyGames games) is refused)
+      subst (λ t. IsGameSpentOn t game card) (ok-same (made_in number search') other (tasks.Made number root search') also is) spent
+  made_refused root (TooManyGames games) is refused = absurd (ok-err (made_in number search') (tasks.Made number root search') (TooManyGames games) is refused)
 
-  pub made_run_refused : (status : Status) → IsTaskRefusal (problem_of number search') status → IsMadeRun number search' status
+  pub made_run_refused : (status : Status) → IsTaskRefusal (made_in number search') status → IsMadeRun number search' status
   made_run_refused status refused = let made = made-problem number search' in (made.0, made.1, made_refused made.0 status made.1 refused)
 
   -- a run that has the text of the job
-  made_within : (root : Root) (text : List ℕ) (table later : List Sitter) → problem_of number search' ≡ Ok (Problem number root search') → IsTextForAt (problem_of number search') table later text → IsWithinIfPlain (Problem number root search')
-  made_within root text table later is written = subst (λ t. IsWithinIfPlain t) (ok-same (problem_of number search') written.task (Problem number root search') written.accepted is) written.fits
+  made_within : (root : Root) (text : List ℕ) (table later : List Sitter) → made_in number search' ≡ Ok (tasks.Made number root search') → IsTextForAt (made_in number search') table later text → IsWithinIfPlain (tasks.Made number root search')
+  made_within root text table later is written = subst (λ t. IsWithinIfPlain t) (ok-same (made_in number search') written.task (tasks.Made number root search') written.accepted is) written.fits
 
-  pub made_run_written : (text : List ℕ) (status : Status) (table later : List Sitter) → IsTextForAt (problem_of number search') table later text → (status ≡ Done) ⊎ (status ≡ Unwritten) → IsMadeRun number search' status
+  pub made_run_written : (text : List ℕ) (status : Status) (table later : List Sitter) → IsTextForAt (made_in number search') table later text → (status ≡ Done) ⊎ (status ≡ Unwritten) → IsMadeRun number search' status
   made_run_written text status table later written ends =
       let made = made-problem number search' in
       let fits = made_within made.0 text table later made.1 written in
@@ -106,24 +108,24 @@ module _ (number : ℕ) (search' : Search) where
       (λ (e : status ≡ Unwritten). subst (λ s. IsMadeRun number search' s) (sym e) (made.0, made.1, fits))
       ends
 
-  pub made_complete : (task : TaskValue) (status : Status) → problem_of number search' ≡ Ok task → HasText task → IsTaskRefusal (problem_of number search') status → IsDoneOrMemory status
+  pub made_complete : (task : TaskValue) (status : Status) → made_in number search' ≡ Ok task → HasText task → IsTaskRefusal (made_in number search') status → IsDoneOrMemory status
   made_complete task Done is fits refused = absurd refused
-  made_complete task (Refuted plan place) is fits refused = absurd (ok-err (problem_of number search') task (Refuted plan place) is refused)
+  made_complete task (Refuted plan place) is fits refused = absurd (ok-err (made_in number search') task (Refuted plan place) is refused)
   made_complete task BadWords is fits refused = absurd refused
   made_complete task (Unread file) is fits refused = absurd refused
-  made_complete task (BadPbn line kind) is fits refused = absurd (ok-err (problem_of number search') task (BadPbn line kind) is refused)
-  made_complete task (BadLayouts fault) is fits refused = absurd (ok-err (problem_of number search') task (BadLayouts fault) is refused)
-  made_complete task NoTurn is fits refused = absurd (ok-err (problem_of number search') task NoTurn is refused)
-  made_complete task (Spent card) is fits (other, also, spent) = absurd (not_spent task card fits (subst (λ t. IsSpentOn t card) (ok-same (problem_of number search') other task also is) spent))
+  made_complete task (BadPbn line kind) is fits refused = absurd (ok-err (made_in number search') task (BadPbn line kind) is refused)
+  made_complete task (BadLayouts fault) is fits refused = absurd (ok-err (made_in number search') task (BadLayouts fault) is refused)
+  made_complete task NoTurn is fits refused = absurd (ok-err (made_in number search') task NoTurn is refused)
+  made_complete task (Spent card) is fits (other, also, spent) = absurd (not_spent task card fits (subst (λ t. IsSpentOn t card) (ok-same (made_in number search') other task also is) spent))
   made_complete task Unwritten is fits refused = absurd refused
   made_complete task Memory is fits refused = inr refl
   made_complete task (TooLong file) is fits refused = absurd refused
-  made_complete task (BadReport line kind) is fits refused = absurd (ok-err (problem_of number search') task (BadReport line kind) is refused)
-  made_complete task (BadMake fault) is fits refused = absurd (ok-err (problem_of number search') task (BadMake fault) is refused)
-  made_complete task (NoLayout layout) is fits refused = absurd (ok-err (problem_of number search') task (NoLayout layout) is refused)
-  made_complete task (BadLog line) is fits refused = absurd (ok-err (problem_of number search') task (BadLog line) is refused)
+  made_complete task (BadReport line kind) is fits refused = absurd (ok-err (made_in number search') task (BadReport line kind) is refused)
+  made_complete task (BadMake fault) is fits refused = absurd (ok-err (made_in number search') task (BadMake fault) is refused)
+  made_complete task (NoLayout layout) is fits refused = absurd (ok-err (made_in number search') task (NoLayout layout) is refused)
+  made_complete task (BadLog line) is fits refused = absurd (ok-err (made_in number search') task (BadLog line) is refused)
   made_complete task (Unproved line) is fits (other, also, unproved) =
-      absurd (not_unproved task line fits (subst (λ t. IsUnprovedOn t line) (ok-same (problem_of number search') other task also is) unproved))
+      absurd (not_unproved task line fits (subst (λ t. IsUnprovedOn t line) (ok-same (made_in number search') other task also is) unproved))
   made_complete task (GameSpent game card) is fits (other, also, spent) =
-      absurd (not_game_spent task game card fits (subst (λ t. IsGameSpentOn t game card) (ok-same (problem_of number search') other task also is) spent))
-  made_complete task (TooManyGames games) is fits refused = absurd (ok-err (problem_of number search') task (TooManyGames games) is refused)
+      absurd (not_game_spent task game card fits (subst (λ t. IsGameSpentOn t game card) (ok-same (made_in number search') other task also is) spent))
+  made_complete task (TooManyGames games) is fits refused = absurd (ok-err (made_in number search') task (TooManyGames games) is refused)

@@ -28,7 +28,7 @@ use Rattle.am_report.specs.declared.boards.GameText.TheVariants.{Solved, Refused
 use Rattle.am_report.specs.Boards.{boards_text}
 use Rattle.am_answer.specs.declared.root.Root.{Root}
 use Rattle.am_answer.specs.declared.status.Status.{Status}
-use Rattle.am_answer.specs.Answers.{Report, NamedCard, Proof, Problem, Boards}
+use Rattle.am_answer.specs.Tasks.{Solve, Card, Prove, Made, Boards}
 use Rattle.am_answer.specs.Reports.{IsSolveAnswer, IsSolveText, IsGameText, IsText, made_moves}
 use Rattle.am_top.proofs.OneOrder.{one_reported_front}
 
@@ -114,23 +114,23 @@ one-solved root moves text more (found, is, written) (also, same, again) =
     written ∙ ap (solve_text root.board root.kept moves) (answer-same root.kept.node root.kept.weights moves found also is same) ∙ sym again
 
 module _ (root : Root) (moves : ℕ) (search other : Search) (text more : List ℕ) where
-  pub one-report : IsText (Report root moves search) text → IsText (Report root moves other) more → text ≡ more
-  one-report is same = one-solved root moves text more is same
+  pub one-solve : IsText (Solve root moves search) text → IsText (Solve root moves other) more → text ≡ more
+  one-solve is same = one-solved root moves text more is same
 
-  pub one-card : IsText (NamedCard root moves search) text → IsText (NamedCard root moves other) more → text ≡ more
+  pub one-card : IsText (Card root moves search) text → IsText (Card root moves other) more → text ≡ more
   one-card (card, weight, is, best, written) (named, most, also, same, again) =
       written
       ∙ ap₂ (λ c k. card_text c k root.kept.weights) (named_by_weight-same root.kept.weights root.kept.node moves card named is also) (weight-same root.kept.weights root.kept.node moves weight most best same)
       ∙ sym again
 
-pub one-proof : (root : Root) (moves nodes others : ℕ) (text more : List ℕ) → IsText (Proof root moves nodes) text → IsText (Proof root moves others) more → text ≡ more
-one-proof root moves nodes others text more (lines, is, written) (also, same, again) = written ∙ ap log_text (one_log root.kept.node moves lines also is same) ∙ sym again
+pub one-prove : (root : Root) (moves nodes others : ℕ) (text more : List ℕ) → IsText (Prove root moves nodes) text → IsText (Prove root moves others) more → text ≡ more
+one-prove root moves nodes others text more (lines, is, written) (also, same, again) = written ∙ ap log_text (one_log root.kept.node moves lines also is same) ∙ sym again
 
 abbrev summary_of : ℕ → Root → ℕ → ℕ → ℕ → MadeSummary
 summary_of number root front best card = record { number = number; layouts = length root.kept.node.lefts; front = front; best = best; card = card }
 
-pub one-summary : (number : ℕ) (root : Root) (search other : Search) (text more : List ℕ) → IsText (Problem number root search) text → IsText (Problem number root other) more → text ≡ more
-one-summary number root search other text more (vectors, card, count, front, is, best, written) (others, named, most, same_front, also, same, again) =
+pub one-made : (number : ℕ) (root : Root) (search other : Search) (text more : List ℕ) → IsText (Made number root search) text → IsText (Made number root other) more → text ≡ more
+one-made number root search other text more (vectors, card, count, front, is, best, written) (others, named, most, same_front, also, same, again) =
     let fronts = laws.one_front.unique root.kept.node made_moves vectors others front same_front in
     let cards = named-same root.kept.node made_moves card named is also in
     let counts = laws.best_count.unique root.kept.node made_moves count most best same in

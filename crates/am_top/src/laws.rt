@@ -8,14 +8,15 @@ ghost use Rattle.strategy_games.specs.Plans.{Plan, Fits, wins_vector};
 ghost use Rattle.strategy_tree.specs.Bridge.{bridge};
 ghost use Rattle.am_outside.specs.Shelf.{Files};
 ghost use Rattle.job_words.specs.declared.asks.Search.{Search};
-ghost use Rattle.job_words.specs.Asks.{Made};
+ghost use Rattle.job_words.specs.declared.asks.Ask.TheVariants.{Made};
 ghost use Rattle.job_words.specs.Words.{words_read};
 ghost use Rattle.layout_list.specs.Lines.{most_listed};
 ghost use Rattle.am_report.specs.Answers.{SolveAnswerValue, EntryValue};
 ghost use Rattle.am_report.specs.Solve.{solve_text};
 ghost use Rattle.am_answer.specs.declared.root.Root.{Root};
 ghost use Rattle.am_answer.specs.declared.status.Status.{Status};
-ghost use Rattle.am_answer.specs.Answers.{Playing, Report, NamedCard, Proof, Problem, Boards};
+ghost use Rattle.am_answer.specs.Tasks.{Playing, Solve, Card, Prove, Boards};
+ghost use Rattle.am_answer.specs.Tasks as tasks;
 ghost use Rattle.am_answer.specs.Answers.{answer};
 ghost use Rattle.am_answer.specs.Judging.{plans_in};
 ghost use Rattle.am_answer.specs.Matches.{IsPlayed};
@@ -57,17 +58,17 @@ pub fn a_bit_of_1_is_made()
 /// its problem, and all games of a deal file have one text of their reports: no number of workers, size of the table, rule of cuts or number of nodes changes a
 /// byte.
 pub fn one_text()
-    ensures report { (root : Root) (moves : ℕ) (search other : Search) (text more : List ℕ)
-        → IsText (Report root moves search) text → IsText (Report root moves other) more
+    ensures solve { (root : Root) (moves : ℕ) (search other : Search) (text more : List ℕ)
+        → IsText (Solve root moves search) text → IsText (Solve root moves other) more
         → text ≡ more }
     ensures card { (root : Root) (moves : ℕ) (search other : Search) (text more : List ℕ)
-        → IsText (NamedCard root moves search) text → IsText (NamedCard root moves other) more
+        → IsText (Card root moves search) text → IsText (Card root moves other) more
         → text ≡ more }
-    ensures proof { (root : Root) (moves nodes others : ℕ) (text more : List ℕ)
-        → IsText (Proof root moves nodes) text → IsText (Proof root moves others) more
+    ensures prove { (root : Root) (moves nodes others : ℕ) (text more : List ℕ)
+        → IsText (Prove root moves nodes) text → IsText (Prove root moves others) more
         → text ≡ more }
-    ensures problem { (number : ℕ) (root : Root) (search other : Search) (text more : List ℕ)
-        → IsText (Problem number root search) text → IsText (Problem number root other) more
+    ensures made { (number : ℕ) (root : Root) (search other : Search) (text more : List ℕ)
+        → IsText (tasks.Made number root search) text → IsText (tasks.Made number root other) more
         → text ≡ more }
     ensures boards { (roots : List (Result Root Status)) (moves : ℕ) (search other : Search)
         (text more : List ℕ) → IsText (Boards roots moves search) text
@@ -79,7 +80,7 @@ pub fn one_text()
 pub fn made_problems_are_accepted()
     ensures { (words : List (List ℕ)) (files : Files) (number : ℕ) (search : Search)
         → words_read words ≡ Some (Made number search)
-        → (root : Root) × (answer words files ≡ Ok (Problem number root search)) }
+        → (root : Root) × (answer words files ≡ Ok (tasks.Made number root search)) }
 {}
 
 /// What is written for `solve` is found good by `check`, for every root with no more layouts than

@@ -5,9 +5,11 @@ ghost use Rattle.std.specs.Io.KnownBytes.{append_known};
 ghost use Rattle.am_outside.specs.Faults.{Rose};
 ghost use Rattle.am_outside.specs.Sink.{AppendsPart};
 ghost use Rattle.job_words.specs.declared.asks.Search.{Search};
-ghost use Rattle.job_words.specs.Asks.{AskValue, Made, texts_of};
+ghost use Rattle.job_words.specs.declared.asks.Ask.TheVariants.{Made};
+ghost use Rattle.job_words.specs.Asks.{AskValue, texts_of};
 ghost use Rattle.job_words.specs.Words.{words_read};
-ghost use Rattle.am_answer.specs.Answers.{TaskValue, answer, problem_of};
+ghost use Rattle.am_answer.specs.Answers.{answer, made_in};
+ghost use Rattle.am_answer.specs.Tasks.{TaskValue};
 ghost use Rattle.am_answer.specs.Files.{asks_match};
 ghost use Rattle.am_answer.specs.Stages.{IsRefusal, IsTaskRefusal, IsTextForAt};
 ghost use Rattle.am_match.specs.Defences.{sitter};
@@ -54,12 +56,12 @@ fn text_for<R: Threads + Sync, S: Shelf, G: Gate>(
         (status ≢ Status.Done) × (status ≢ Status.Unwritten)) }
     ensures made_text { (number : ℕ) (search : Search)
         → words_read (texts_of words.now) ≡ Some (Made number search)
-        → IfOk result (IsTextForAt (problem_of number search)
+        → IfOk result (IsTextForAt (made_in number search)
         (map (λ d. sitter (style d) (heard d)) table.old.items)
         (map (λ d. sitter (style d) (heard d)) table.new.items)) }
     ensures made_refused { (number : ℕ) (search : Search)
         → words_read (texts_of words.now) ≡ Some (Made number search)
-        → IfErr result (IsTaskRefusal (problem_of number search)) }
+        → IfErr result (IsTaskRefusal (made_in number search)) }
     ensures same_files { S.told shelf.new ≡ S.told shelf.old }
     ensures others { asks_match (words_read (texts_of words.now)) ≡ false
         → table.new ≡ table.old }
@@ -138,7 +140,7 @@ pub fn run<R: Threads + Sync, S: Shelf, O: Sink, E: Sink, G: Gate>(
     // The problem of a number needs no file: what is said of it holds over every shelf.
     ensures made_report { (number : ℕ) (search : Search)
         → words_read (texts_of words.now) ≡ Some (Made number search) → result ≡ Status.Done
-        → IsReported (problem_of number search)
+        → IsReported (made_in number search)
         (map (λ d. sitter (style d) (heard d)) table.old.items)
         (map (λ d. sitter (style d) (heard d)) table.new.items)
         (O.told out.old) (O.told out.new) }
@@ -147,7 +149,7 @@ pub fn run<R: Threads + Sync, S: Shelf, O: Sink, E: Sink, G: Gate>(
         → IsMadeRun number search result }
     ensures made_complete { (number : ℕ) (search : Search) (task : TaskValue)
         → words_read (texts_of words.now) ≡ Some (Made number search)
-        → problem_of number search ≡ Ok task → HasText task
+        → made_in number search ≡ Ok task → HasText task
         → ¬ (Rose (O.faults out.old) (O.faults out.new)) → IsDoneOrMemory result }
 
     // What shows each cause.

@@ -12,12 +12,13 @@ use Rattle.am_report.specs.declared.fault.ReportFault as reports
 use Rattle.am_report.specs.Audit.{audit_text}
 use Rattle.am_report.specs.Head.{head_text}
 use Rattle.am_report.specs.Reading.{ReadReportValue, report_read, IsReportFaultOf}
-use Rattle.am_answer.specs.declared.inputs.Work.TheVariants as works
+use Rattle.job_words.specs.declared.asks.LayoutsJob.TheVariants as jobs
 use Rattle.am_answer.specs.declared.root.Root.{Root}
 use Rattle.am_answer.specs.declared.status.Place.TheVariants.{Head, Width}
 use Rattle.am_answer.specs.declared.status.Status.{Status}
 use Rattle.am_answer.specs.declared.status.Status.TheVariants.{Done, Refuted, BadWords, Unread, BadPbn, BadLayouts, NoTurn, Spent, Unwritten, Memory, TooLong, BadReport, BadMake, NoLayout, BadLog, Unproved, GameSpent, TooManyGames}
-use Rattle.am_answer.specs.Answers.{TaskValue, Audit, task_at}
+use Rattle.am_answer.specs.Answers.{task_at}
+use Rattle.am_answer.specs.Tasks.{TaskValue, Audit}
 use Rattle.am_answer.specs.Auditing.{AuditValue, vectors_of, first_other_width, audit_of, audit_in}
 use Rattle.am_answer.specs.Refusals.{report_status, log_status}
 use Rattle.am_answer.specs.Stages.{IsFileRefusal, IsTaskRefusal, IsTextFor}
@@ -80,38 +81,38 @@ refused_first asked task (TooManyGames games) is = rw is refl
 
 module _ (root : Root) (report log : List ℕ) where
   -- a report that isn't read
-  pub report_refused : (fault : reports.ReportFault) → IsReportFaultOf fault (report_read report) → IsTaskRefusal (task_at root (works.Audit report log)) (report_status fault)
+  pub report_refused : (fault : reports.ReportFault) → IsReportFaultOf fault (report_read report) → IsTaskRefusal (task_at root (jobs.Audit report log)) (report_status fault)
   unfolding task_at audit_in
   report_refused (reports.TheVariants.Fault line kind) is = rw is refl
   report_refused reports.TheVariants.Memory is = tt
 
   module _ (said : ReadReportValue) (is_report : report_read report ≡ Ok said) where
     -- a log that isn't read
-    pub log_refused : (fault : logs.LogFault) → IsLogFault fault (log_read log) → IsTaskRefusal (task_at root (works.Audit report log)) (log_status fault)
+    pub log_refused : (fault : logs.LogFault) → IsLogFault fault (log_read log) → IsTaskRefusal (task_at root (jobs.Audit report log)) (log_status fault)
     unfolding task_at audit_in
     log_refused (logs.TheVariants.Line line) is = rw (is_report, is) refl
     log_refused logs.TheVariants.Memory is = tt
 
     module _ (lines : List LogLine) (is_log : log_read log ≡ Ok lines) where
-      audited : task_at root (works.Audit report log) ≡ (audit_of root said lines >>= λ audit. Ok (Audit root audit))
+      audited : task_at root (jobs.Audit report log) ≡ (audit_of root said lines >>= λ audit. Ok (Audit root audit))
       unfolding task_at audit_in
       audited = rw (is_report, is_log) refl
 
       -- a report that isn't that of the files
-      pub audit_refused : (status : Status) → IsFileRefusal (audit_of root said lines) status → IsTaskRefusal (task_at root (works.Audit report log)) status
+      pub audit_refused : (status : Status) → IsFileRefusal (audit_of root said lines) status → IsTaskRefusal (task_at root (jobs.Audit report log)) status
       audit_refused status is =
           subst (λ (answer : Result TaskValue Status). IsTaskRefusal answer status) (sym audited) (refused_first (audit_of root said lines) (Audit root) status is)
 
       module _ (audit : AuditValue) (asked : audit_of root said lines ≡ Ok audit) where
-        accepted : task_at root (works.Audit report log) ≡ Ok (Audit root audit)
+        accepted : task_at root (jobs.Audit report log) ≡ Ok (Audit root audit)
         accepted = audited ∙ ap (λ (r : Result AuditValue Status). r >>= λ a. Ok (Audit root a)) asked
 
         -- a log that proves what it is asked
         pub audit_text_is : (text : List ℕ) → IsLogVerdict root.kept.node audit.moves audit.vectors audit.lines Yes → text ≡ audit_text (length audit.lines)
-            → IsTextFor (task_at root (works.Audit report log)) text
+            → IsTextFor (task_at root (jobs.Audit report log)) text
         audit_text_is text valid is = record { task = Audit root audit; accepted = accepted; is_text = (valid, is); fits = tt }
 
         -- and one that doesn't
         pub audit_unproved : (number : ℕ) → IsLogVerdict root.kept.node audit.moves audit.vectors audit.lines (No number)
-            → IsTaskRefusal (task_at root (works.Audit report log)) (Unproved number)
+            → IsTaskRefusal (task_at root (jobs.Audit report log)) (Unproved number)
         audit_unproved number verdict = (Audit root audit, accepted, verdict)

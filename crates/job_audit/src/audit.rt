@@ -1,8 +1,9 @@
 //! A report that is judged by a log.
 ghost use Rattle.std.specs.Prelude.{◌≡◌, ◌<◌, ◌-◌, ◌^◌, Ok, length, map, IfOk, IfErr};
 ghost use Rattle.am_report.specs.Reading.{report_of};
-ghost use Rattle.am_answer.specs.declared.inputs.Work.TheVariants as works;
-ghost use Rattle.am_answer.specs.Answers.{task_at, Audit};
+ghost use Rattle.job_words.specs.declared.asks.LayoutsJob.TheVariants as jobs;
+ghost use Rattle.am_answer.specs.Answers.{task_at};
+ghost use Rattle.am_answer.specs.Tasks.{Audit};
 ghost use Rattle.am_answer.specs.Auditing.{first_other_width, audit_of, audit_in};
 ghost use Rattle.am_answer.specs.Stages.{IsFileRefusal, IsTaskRefusal, IsTextFor};
 
@@ -74,9 +75,9 @@ fn audited_vectors(
 pub fn audit_report(alloc: Global, root: &Root, report: &Text, log: &Text) -> Result<Text, Status>
     requires short { length report.now < 2 ^ 32 - 1 }
     requires log_short { length log.now < 2 ^ 32 - 1 }
-    ensures text { IfOk result (IsTextFor (task_at root.now (works.Audit report.now log.now))) }
+    ensures text { IfOk result (IsTextFor (task_at root.now (jobs.Audit report.now log.now))) }
     ensures refused { IfErr result
-        (IsTaskRefusal (task_at root.now (works.Audit report.now log.now))) }
+        (IsTaskRefusal (task_at root.now (jobs.Audit report.now log.now))) }
 {
     let report = match read_report(alloc, report.bytes()) {
         Ok(report) => report,

@@ -15,7 +15,7 @@ use Rattle.root_answers.specs.Written.{IsWrittenAnswer}
 use Rattle.am_answer.specs.Endings.{AllGamesFit, IsGameSpentBy, IsPlain}
 use Rattle.board_batch.specs.declared.fault.BatchFault as faults
 use Rattle.root_workers.specs.Plain as options
-use Rattle.am_answer.specs.Answers.{Boards}
+use Rattle.am_answer.specs.Tasks.{Boards}
 use Rattle.am_answer.specs.Stages.{IsTaskRefusal}
 use Rattle.job_boards.specs.Accepted.{accepted, numbered_from, AreProblems, IsProblemOf, batch_status}
 use Rattle.job_boards.specs.Outcomes.{AreAnswersOf, IsAnswerAt}

@@ -1,16 +1,17 @@
 //! All games of a deal file, solved as one batch.
-ghost use Rattle.std.specs.Prelude.{◌≡◌, ◌+◌, ◌-◌, ◌≤◌, ◌<◌, ◌^◌, ℕ, All, Ok, IfOk, IfErr, IsErrOf, length};
+ghost use Rattle.std.specs.Prelude.{◌≡◌, ◌+◌, ◌≤◌, ◌<◌, ℕ, All, Ok, IfOk, IfErr, IsErrOf, length};
 ghost use Rattle.job_words.specs.Asks.{IsMoves, IsSearchWithinLimits};
-ghost use Rattle.am_answer.specs.Answers.{IsRoot, Boards, boards_in};
+ghost use Rattle.am_answer.specs.Answers.{IsRoot, game_roots};
+ghost use Rattle.am_answer.specs.Tasks.{Boards};
 ghost use Rattle.am_answer.specs.Endings.{AllGamesFit, IsGameSpentBy, IsPlain};
-ghost use Rattle.am_answer.specs.Files.{AreWithinLimit};
+ghost use Rattle.am_answer.specs.Files.{AreGameFiles};
 ghost use Rattle.am_answer.specs.Games.{most_games};
 ghost use Rattle.am_answer.specs.Stages.{IsTaskRefusal, IsTextFor};
 ghost use Rattle.job_boards.specs.Outcomes.{AreAnswersOf};
 
 use crate::outcomes::outcomes;
 use crate::problems::{batch_status, problems_of};
-use am_answer::{Root, Status};
+use am_answer::{GameFiles, Root, Status};
 use am_inputs::read_roots;
 use am_outside::Gate;
 use am_report::boards_text;
@@ -54,29 +55,26 @@ fn answers_of<R: Threads + Sync, G: Gate>(
 /// moves of declarer's side. A game whose board, layouts or turn are refused has a line that says
 /// so in its place.
 ///
-/// Refused if the deal file has no games or too many; with `GameSpent` at a game's root card whose
-/// tree has more nodes than a search may enter, in a plain search the first such card of the first
-/// such game; or with `Memory`. The workers, who share the games, and the gate change nothing of
-/// the text.
-#[tactic(auto, unfolding(am_answer::specs::Answers::boards_in))]
+/// Refused with `GameSpent` at a game's root card whose tree has more nodes than a search may enter,
+/// in a plain search the first such card of the first such game; or with `Memory`. The workers, who
+/// share the games, and the gate change nothing of the text.
 pub fn solve_boards<R: Threads + Sync, G: Gate>(
     rt: &R,
     alloc: Global,
-    deal: &Text,
-    layouts: &[Text],
+    files: &GameFiles,
     moves: u8,
     search: &Search,
     gate: &G,
 ) -> Result<Text, Status>
-    requires deal_within { length deal.now < 2 ^ 32 - 1 }
-    requires layouts_within { AreWithinLimit layouts.now }
+    requires files { AreGameFiles files.now }
     requires moves { IsMoves moves }
     requires limits { IsSearchWithinLimits search.now }
-    ensures text { IfOk result (IsTextFor (boards_in deal.now layouts.now moves search.now)) }
+    ensures text { IfOk result
+        (IsTextFor (Ok (Boards (game_roots files.now) moves search.now))) }
     ensures refused { IfErr result
-        (IsTaskRefusal (boards_in deal.now layouts.now moves search.now)) }
+        (IsTaskRefusal (Ok (Boards (game_roots files.now) moves search.now))) }
 {
-    let games = read_roots(alloc, deal, layouts)?;
+    let games = read_roots(alloc, files)?;
     let answers = answers_of(rt, alloc, &games, moves, search, gate)?;
     let texts = outcomes(alloc, &games, moves, &answers)?;
     Ok(boards_text(alloc, &texts)?)

@@ -3,7 +3,7 @@ ghost use Rattle.std.specs.Prelude.{◌≡◌, ◌<◌, ◌-◌, ◌^◌, Ok, le
 ghost use Rattle.strategy_games.specs.Misfits.{node_count};
 ghost use Rattle.am_report.specs.Head.{head_text};
 ghost use Rattle.am_report.specs.Reading.{report_of};
-ghost use Rattle.am_answer.specs.declared.inputs.Work.TheVariants as works;
+ghost use Rattle.job_words.specs.declared.asks.LayoutsJob.TheVariants as jobs;
 ghost use Rattle.am_answer.specs.Answers.{task_at};
 ghost use Rattle.am_answer.specs.Judging.{entry_fault, first_plan_fault, judged, plans_in};
 ghost use Rattle.am_answer.specs.Stages.{IsFileRefusal, IsTextFor};
@@ -107,8 +107,8 @@ fn count_good_plans(alloc: Global, root: &Root, bytes: &[u8]) -> Result<u32, Sta
 pub fn check_report(alloc: Global, root: &Root, report: &Text) -> Result<Text, Status>
     requires weighed { length root.now.kept.weights ≡ length root.now.kept.node.lefts }
     requires short { length report.now < 2 ^ 32 - 1 }
-    ensures text { IfOk result (IsTextFor (task_at root.now (works.Check report.now))) }
-    ensures refused { IfErr result (IsFileRefusal (task_at root.now (works.Check report.now))) }
+    ensures text { IfOk result (IsTextFor (task_at root.now (jobs.Check report.now))) }
+    ensures refused { IfErr result (IsFileRefusal (task_at root.now (jobs.Check report.now))) }
 {
     let plans = count_good_plans(alloc, root, report.bytes())?;
     Ok(check_text(alloc, plans)?)

@@ -1,6 +1,7 @@
 //! What plain sampling believes, as text.
 ghost use Rattle.std.specs.Prelude.{◌≡◌, true, IfOk, length};
-ghost use Rattle.am_answer.specs.Answers.{Sample, has_choice};
+ghost use Rattle.am_answer.specs.Answers.{has_choice};
+ghost use Rattle.am_answer.specs.Tasks.{Fusion};
 ghost use Rattle.am_answer.specs.Reports.{IsText};
 
 use am_answer::Root;
@@ -19,7 +20,7 @@ pub fn sample_text<R: Threads + Sync>(
 ) -> Result<Text, AllocError>
     requires turn { has_choice root.now.kept.node ≡ true }
     requires weighed { length root.now.kept.weights ≡ length root.now.kept.node.lefts }
-    ensures { IfOk result (IsText (Sample root.now)) }
+    ensures { IfOk result (IsText (Fusion root.now)) }
 {
     let table = per_card(rt, alloc, &root.kept.node)?;
     fusion_text(alloc, &table, &root.kept.weights)

@@ -5,7 +5,8 @@ use Rattle.job_words.specs.declared.asks.Search.{Search}
 use Rattle.am_answer.specs.declared.root.Root.{Root}
 use Rattle.am_answer.specs.declared.status.Status.{Status}
 use Rattle.am_answer.specs.declared.status.Status.TheVariants.{NoLayout}
-use Rattle.am_answer.specs.Answers.{TaskValue, PlayedOut, match_at, place_of}
+use Rattle.am_answer.specs.Answers.{match_at, place_of}
+use Rattle.am_answer.specs.Tasks.{TaskValue, Match}
 use Rattle.am_answer.specs.Stages.{IsTaskRefusal}
 
 module _ (root : Root) (moves : ℕ) (search' : Search) (layout : ℕ) (switch : Option ℕ) where
@@ -14,7 +15,7 @@ module _ (root : Root) (moves : ℕ) (search' : Search) (layout : ℕ) (switch :
   not_kept is = rw is refl
 
   pub is_kept : (place : ℕ) → place_of layout root ≡ Some place
-      → match_at root moves search' layout switch ≡ Ok (PlayedOut root moves search' (record { layout = layout; place = place; switch = switch }))
+      → match_at root moves search' layout switch ≡ Ok (Match root moves search' (record { layout = layout; place = place; switch = switch }))
   unfolding match_at
   is_kept place is = rw is refl
 

@@ -17,7 +17,7 @@ use Rattle.am_match.specs.PlayOuts.{Follows, state_after}
 use Rattle.am_report.specs.Answers.{EntryValue}
 use Rattle.am_report.specs.Match.{match_text}
 use Rattle.am_answer.specs.declared.root.Root.{Root}
-use Rattle.am_answer.specs.Answers.{Playing}
+use Rattle.am_answer.specs.Tasks.{Playing}
 use Rattle.am_answer.specs.Matches.{IsFirstStrategy, IsMatchText, seated, third_at, seated_at}
 
 module _ (n : NodeValue) (weights : List ℕ) (moves : ℕ) (vector : Vector) (plan : Plan ℕ) (node : IsNode n) (is : IsFirstStrategy n weights moves vector plan) where

@@ -6,4 +6,4 @@
 
 mod play;
 
-pub use play::play_match;
+pub use play::{Match, play_match};

@@ -50,93 +50,93 @@ fn third_at(switch: Option<u16>, table: &mut Vec<Box<dyn Defender>>) -> Option<S
     })
 }
 
+/// A match at a root: the strategies that have `moves` moves of declarer's side, how they are
+/// searched, the layout of a number, and the number of the card before which another defender comes
+/// to Left's seat. Cards are numbered from 1.
+#[derive(Clone, Copy)]
+pub struct Match<'a> {
+    pub root: &'a Root,
+    pub moves: u8,
+    pub search: &'a Search,
+    pub layout: u16,
+    pub switch: Option<u16>,
+}
+
 // Plays a strategy out at the layout of a place, and writes what came of it.
 fn played_text(
     alloc: Global,
-    root: &Root,
-    moves: u8,
+    job: &Match<'_>,
     first: &Entry,
-    layout: u16,
     place: u16,
-    switch: Option<u16>,
     table: &mut Vec<Box<dyn Defender>>,
 ) -> Result<Text, AllocError>
-    requires first { IsFirstStrategy root.now.kept.node root.now.kept.weights moves
-        first.now.vector first.now.plan }
-    requires inside { place < length root.now.kept.node.lefts }
-    requires switch { IfSome switch IsSwitch }
+    requires first { IsFirstStrategy job.now.root.now.kept.node job.now.root.now.kept.weights
+        job.now.moves first.now.vector first.now.plan }
+    requires inside { place < length job.now.root.now.kept.node.lefts }
+    requires switch { IfSome job.now.switch IsSwitch }
     requires seats { length table.old.items ≡ 3 }
-    ensures text { IfOk result (IsMatchText root.now moves
-        (record { layout = layout; place = place; switch = switch })
+    ensures text { IfOk result (IsMatchText job.now.root.now job.now.moves
+        (record { layout = job.now.layout; place = place; switch = job.now.switch })
         (map (λ d. sitter (style d) (heard d)) table.old.items)
         (map (λ d. sitter (style d) (heard d)) table.new.items)) }
 {
+    let root = job.root;
     let node = &root.kept.node;
     prove!(node.width() > 0);
     let bit = first.vector.get(place);
-    let swap = third_at(switch, table);
+    let swap = third_at(job.switch, table);
     let mut solver = Solver::new(alloc);
     let played = play_out(
         &mut solver,
         &first.plan,
         node,
-        moves,
+        job.moves,
         place + 1,
         table,
         swap,
     )?;
-    match_text(alloc, layout, bit, &played.cards, played.made)
+    match_text(alloc, job.layout, bit, &played.cards, played.made)
 }
 
-/// Plays out the first strategy that is printed for a root, with `moves` moves of declarer's side,
-/// in one kept layout, by its number.
+/// Plays out the first strategy that is printed for a root in one kept layout.
 ///
 /// The table's first defender sits at Left and its second at Right. With a switch, the table's
-/// third takes over Left's seat before the card of that number; cards are numbered from 1. Each
-/// defender who sits hears the cards.
+/// third takes over Left's seat before the card of that number. Each defender who sits hears the
+/// cards.
 ///
 /// Errors: `NoLayout` if the layout of the number isn't kept, and otherwise those of `solve`. The
 /// table is left as it was, unless an allocation fails.
 pub fn play_match<R: Threads + Sync, G: Gate>(
     rt: &R,
     alloc: Global,
-    root: &Root,
-    moves: u8,
-    search: &Search,
-    layout: u16,
-    switch: Option<u16>,
+    job: &Match<'_>,
     gate: &G,
     table: &mut Vec<Box<dyn Defender>>,
 ) -> Result<Text, Status>
-    requires turn { has_choice root.now.kept.node ≡ true }
-    requires as_many { length root.now.kept.numbers ≡ length root.now.kept.node.lefts }
-    requires weighed { length root.now.kept.weights ≡ length root.now.kept.node.lefts }
-    requires moves { IsMoves moves }
-    requires limits { IsSearchWithinLimits search.now }
-    requires switch { IfSome switch IsSwitch }
+    requires turn { has_choice job.now.root.now.kept.node ≡ true }
+    requires as_many { length job.now.root.now.kept.numbers
+        ≡ length job.now.root.now.kept.node.lefts }
+    requires weighed { length job.now.root.now.kept.weights
+        ≡ length job.now.root.now.kept.node.lefts }
+    requires moves { IsMoves job.now.moves }
+    requires limits { IsSearchWithinLimits job.now.search.now }
+    requires switch { IfSome job.now.switch IsSwitch }
     requires seats { length table.old.items ≡ 3 }
-    ensures text { IfOk result (IsTextForAt (match_at root.now moves search.now layout switch)
+    ensures text { IfOk result (IsTextForAt (match_at job.now.root.now job.now.moves
+        job.now.search.now job.now.layout job.now.switch)
         (map (λ d. sitter (style d) (heard d)) table.old.items)
         (map (λ d. sitter (style d) (heard d)) table.new.items)) }
-    ensures refused { IfErr result
-        (IsTaskRefusal (match_at root.now moves search.now layout switch)) }
+    ensures refused { IfErr result (IsTaskRefusal (match_at job.now.root.now job.now.moves
+        job.now.search.now job.now.layout job.now.switch)) }
     ensures untouched { IfErr result (λ status.
         status ≢ Status.Memory → table.new ≡ table.old) }
 {
-    let Some(place) = place_of(layout, root) else {
-        return Err(Status::NoLayout(layout));
+    let root = job.root;
+    let Some(place) = place_of(job.layout, root) else {
+        return Err(Status::NoLayout(job.layout));
     };
-    let first = first_strategy(rt, alloc, root, moves, search, gate)?;
+    let first = first_strategy(rt, alloc, root, job.moves, job.search, gate)?;
     prove!(root.kept.node.width() > 0);
-    let text = played_text(
-        alloc,
-        root,
-        moves,
-        &first,
-        layout,
-        place as u16,
-        switch,
-        table,
-    )?;
+    let text = played_text(alloc, job, &first, place as u16, table)?;
     Ok(text)
 }

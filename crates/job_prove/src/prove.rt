@@ -1,7 +1,8 @@
 //! The log that proves a root's front complete, as text.
 ghost use Rattle.std.specs.Prelude.{◌≡◌, ◌≤◌, true, Ok, IfOk, IfErr};
 ghost use Rattle.job_words.specs.Asks.{IsMoves, most_logged};
-ghost use Rattle.am_answer.specs.Answers.{has_choice, Proof};
+ghost use Rattle.am_answer.specs.Answers.{has_choice};
+ghost use Rattle.am_answer.specs.Tasks.{Prove};
 ghost use Rattle.am_answer.specs.Stages.{IsTaskRefusal, IsTextFor};
 
 use am_answer::{Root, Status, root_status};
@@ -17,8 +18,8 @@ pub fn prove_front(alloc: Global, root: &Root, moves: u8, nodes: u64) -> Result<
     requires turn { has_choice root.now.kept.node ≡ true }
     requires moves { IsMoves moves }
     requires nodes { nodes ≤ most_logged }
-    ensures text { IfOk result (IsTextFor (Ok (Proof root.now moves nodes))) }
-    ensures refused { IfErr result (IsTaskRefusal (Ok (Proof root.now moves nodes))) }
+    ensures text { IfOk result (IsTextFor (Ok (Prove root.now moves nodes))) }
+    ensures refused { IfErr result (IsTaskRefusal (Ok (Prove root.now moves nodes))) }
 {
     let mut solver = Solver::new(alloc);
     match log_of(alloc, &mut solver, &root.kept.node, moves, nodes) {

@@ -8,7 +8,7 @@ use Rattle.root_workers.specs.declared.root.Options.{Options}
 use Rattle.root_workers.specs.Plain as options
 use Rattle.alphamu_core.specs.declared.answers.RootFault as root
 use Rattle.am_answer.specs.declared.root.Root.{Root}
-use Rattle.am_answer.specs.Answers.{TaskValue}
+use Rattle.am_answer.specs.Tasks.{TaskValue}
 use Rattle.am_answer.specs.Endings.{IsPlain, IsSpentBy, IsSpentOn}
 use Rattle.am_answer.specs.Refusals.{root_status}
 use Rattle.am_answer.specs.Stages.{IsTaskRefusal}

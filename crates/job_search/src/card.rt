@@ -1,7 +1,8 @@
 //! The card to play at a root.
 ghost use Rattle.std.specs.Prelude.{◌≡◌, true, Ok, IfOk, IfErr, length};
 ghost use Rattle.job_words.specs.Asks.{IsMoves, IsSearchWithinLimits};
-ghost use Rattle.am_answer.specs.Answers.{has_choice, NamedCard};
+ghost use Rattle.am_answer.specs.Answers.{has_choice};
+ghost use Rattle.am_answer.specs.Tasks.{Card};
 ghost use Rattle.am_answer.specs.Stages.{IsTaskRefusal, IsTextFor};
 
 use am_answer::{Root, Status, root_status};
@@ -29,8 +30,8 @@ pub fn name_card<R: Threads + Sync, G: Gate>(
     requires weighed { length root.now.kept.weights ≡ length root.now.kept.node.lefts }
     requires moves { IsMoves moves }
     requires limits { IsSearchWithinLimits search.now }
-    ensures text { IfOk result (IsTextFor (Ok (NamedCard root.now moves search.now))) }
-    ensures refused { IfErr result (IsTaskRefusal (Ok (NamedCard root.now moves search.now))) }
+    ensures text { IfOk result (IsTextFor (Ok (Card root.now moves search.now))) }
+    ensures refused { IfErr result (IsTaskRefusal (Ok (Card root.now moves search.now))) }
 {
     let node = &root.kept.node;
     let options = options_of(search);

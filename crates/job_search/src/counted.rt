@@ -1,5 +1,5 @@
 //! What is found at a root if all layouts count alike: the best weight is then a count.
-ghost use Rattle.std.specs.Prelude.{◌≡◌, ◌≤◌, ℕ, true, false, IfOk, IsErrOf};
+ghost use Rattle.std.specs.Prelude.{◌≡◌, ◌≤◌, ℕ, true, false, IfOk, IsErrOf, length, replicate};
 ghost use Rattle.trick_rules.specs.Nodes.{most_moves};
 ghost use Rattle.strategy_games.specs.Choosing.{IsBestCount, IsNamedCard};
 ghost use Rattle.strategy_tree.specs.Bridge.{bridge};
@@ -8,16 +8,14 @@ ghost use Rattle.root_workers.specs.Roots.{IsSpentAt, IsFirstSpentAt, AllFit};
 ghost use Rattle.root_workers.specs.Plain.{IsPlain, HasWorkers};
 ghost use Rattle.shared_table.specs.Passes.{IsPassOf};
 
+use crate::asked::Asked;
 use alphamu_core::RootFault;
 use am_outside::Gate;
 use card_sets::Card;
 use pareto_fronts::Front;
-use root_workers::{Options, root_front};
-use shared_table::{Pass, SharedTable};
-use std::alloc::Global;
+use root_workers::root_front;
+use shared_table::Pass;
 use std::thread::Threads;
-use trick_rules::Node;
-use win_vectors::Weights;
 
 /// The front of a root, the card to play, and how many layouts it wins.
 #[derive(Drop)]
@@ -35,37 +33,47 @@ fn count_of(weight: u32) -> u16
     weight as u16
 }
 
-/// As `root_front`, with a count for the weight.
+/// As `root_front` with weights of 1, with a count for the weight.
 pub fn counted_front<R: Threads + Sync, G: Gate>(
     rt: &R,
-    alloc: Global,
-    node: &Node,
-    moves: u8,
-    options: &Options,
-    table: &SharedTable,
+    asked: &Asked<'_>,
     pass: &mut Pass,
     gate: &G,
 ) -> Result<CountedFront, RootFault>
-    requires ours { bridge.is_ours node.now ≡ true }
-    requires goes_on { bridge.is_over node.now ≡ false }
-    requires some_moves { 1 ≤ moves }
-    requires few_moves { moves ≤ most_moves }
-    requires workers { HasWorkers options.now }
-    requires pass { IsPassOf table.now pass.old }
-    ensures front { IfOk result (λ root. IsFrontAt node.now moves root.front) }
-    ensures card { IfOk result (λ root. IsNamedCard bridge node.now moves root.card) }
-    ensures count { IfOk result (λ root. IsBestCount bridge node.now moves root.count) }
-    ensures fits { IsPlain options.now
-        → IfOk result (λ _. AllFit node.now moves options.now.nodes) }
+    requires alike { asked.now.weights.now ≡ replicate (length asked.now.node.now.lefts) 1 }
+    requires ours { bridge.is_ours asked.now.node.now ≡ true }
+    requires goes_on { bridge.is_over asked.now.node.now ≡ false }
+    requires some_moves { 1 ≤ asked.now.moves }
+    requires few_moves { asked.now.moves ≤ most_moves }
+    requires workers { HasWorkers asked.now.options.now }
+    requires pass { IsPassOf asked.now.table.now pass.old }
+    ensures front { IfOk result (λ root. IsFrontAt asked.now.node.now asked.now.moves root.front) }
+    ensures card { IfOk result (λ root.
+        IsNamedCard bridge asked.now.node.now asked.now.moves root.card) }
+    ensures count { IfOk result (λ root.
+        IsBestCount bridge asked.now.node.now asked.now.moves root.count) }
+    ensures fits { IsPlain asked.now.options.now → IfOk result (λ _.
+        AllFit asked.now.node.now asked.now.moves asked.now.options.now.nodes) }
     ensures spent { (card : ℕ) → IsErrOf result (RootFault.Spent card)
-        → IsSpentAt node.now moves options.now.nodes card }
-    ensures first_spent { IsPlain options.now → (card : ℕ)
+        → IsSpentAt asked.now.node.now asked.now.moves asked.now.options.now.nodes card }
+    ensures first_spent { IsPlain asked.now.options.now → (card : ℕ)
         → IsErrOf result (RootFault.Spent card)
-        → IsFirstSpentAt node.now moves options.now.nodes card }
-    ensures pass { IsPassOf table.now pass.new }
+        → IsFirstSpentAt asked.now.node.now asked.now.moves asked.now.options.now.nodes card }
+    ensures pass { IsPassOf asked.now.table.now pass.new }
 {
-    let weights = Weights::equal(node.width());
-    let found = root_front(rt, alloc, node, moves, &weights, options, table, pass, gate)?;
+    let (node, options) = (asked.node, asked.options);
+    prove!(node.width() > 0);
+    let found = root_front(
+        rt,
+        asked.alloc,
+        node,
+        asked.moves,
+        asked.weights,
+        options,
+        asked.table,
+        pass,
+        gate,
+    )?;
     Ok(CountedFront {
         front: found.front,
         card: found.card,

@@ -5,11 +5,13 @@ ghost use Rattle.front_table.specs.Proven.{IsFrontAt};
 ghost use Rattle.root_workers.specs.Roots.{IsSpentAt, AllFit};
 ghost use Rattle.shared_table.specs.Passes.{IsPassOf};
 ghost use Rattle.job_words.specs.Asks.{IsMoves, IsSearchWithinLimits};
-ghost use Rattle.am_answer.specs.Answers.{has_choice, PlayedOut, Playing};
+ghost use Rattle.am_answer.specs.Answers.{has_choice};
+ghost use Rattle.am_answer.specs.Tasks.{Match, Playing};
 ghost use Rattle.am_answer.specs.Endings.{IsPlain};
 ghost use Rattle.am_answer.specs.Matches.{IsFirstStrategy};
 ghost use Rattle.am_answer.specs.Stages.{IsTaskRefusal};
 
+use crate::asked::Asked;
 use alphamu_core::RootFault;
 use am_answer::{Root, Status, root_status};
 use am_outside::Gate;
@@ -17,34 +19,31 @@ use am_report::Entry;
 use job_words::Search;
 use pareto_fronts::Front;
 use root_answers::{options_of, planned_over, reported, table_of};
-use root_workers::{Options, root_front};
-use shared_table::{Pass, SharedTable};
+use root_workers::root_front;
+use shared_table::Pass;
 use std::alloc::Global;
 use std::thread::Threads;
-use trick_rules::Node;
-use win_vectors::Weights;
 
 // The first vector of a front in report order, with the plan for it.
-fn first_entry(
-    alloc: Global,
-    table: &SharedTable,
-    pass: &mut Pass,
-    node: &Node,
-    weights: &Weights,
-    moves: u8,
-    options: &Options,
-    front: &Front,
-) -> Result<Entry, RootFault>
-    requires pass { IsPassOf table.now pass.old }
-    requires turn { has_choice node.now ≡ true }
-    requires weighed { length weights.now ≡ length node.now.lefts }
-    requires moves { IsMoves moves }
-    requires front { IsFrontAt node.now moves front.now }
-    ensures first { IfOk result (λ entry.
-        IsFirstStrategy node.now weights.now moves entry.vector entry.plan) }
+fn first_entry(asked: &Asked<'_>, pass: &mut Pass, front: &Front) -> Result<Entry, RootFault>
+    requires pass { IsPassOf asked.now.table.now pass.old }
+    requires turn { has_choice asked.now.node.now ≡ true }
+    requires weighed { length asked.now.weights.now ≡ length asked.now.node.now.lefts }
+    requires moves { IsMoves asked.now.moves }
+    requires front { IsFrontAt asked.now.node.now asked.now.moves front.now }
+    ensures first { IfOk result (λ entry. IsFirstStrategy asked.now.node.now
+        asked.now.weights.now asked.now.moves entry.vector entry.plan) }
     ensures spent { (card : ℕ) → IsErrOf result (RootFault.Spent card)
-        → IsSpentAt node.now moves options.now.nodes card }
+        → IsSpentAt asked.now.node.now asked.now.moves asked.now.options.now.nodes card }
 {
+    let Asked {
+        alloc,
+        node,
+        weights,
+        moves,
+        options,
+        table,
+    } = *asked;
     prove!(node.width() > 0);
     let vectors = reported(alloc, node, moves, weights, front)?;
     let mut entries = planned_over(alloc, table, pass, node, moves, options, &vectors[..1])?;
@@ -72,7 +71,7 @@ pub fn first_strategy<R: Threads + Sync, G: Gate>(
     ensures fits { IfOk result (λ _. IsPlain search.now
         → AllFit root.now.kept.node moves search.now.nodes) }
     ensures refused { (playing : Playing)
-        → IfErr result (IsTaskRefusal (Ok (PlayedOut root.now moves search.now playing))) }
+        → IfErr result (IsTaskRefusal (Ok (Match root.now moves search.now playing))) }
 {
     let node = &root.kept.node;
     let weights = &root.kept.weights;
@@ -84,10 +83,15 @@ pub fn first_strategy<R: Threads + Sync, G: Gate>(
         Ok(found) => found,
         Err(fault) => return Err(root_status(fault)),
     };
-    let front = &found.front;
-    match first_entry(
-        alloc, &table, &mut pass, node, weights, moves, &options, front,
-    ) {
+    let asked = Asked {
+        alloc,
+        node,
+        weights,
+        moves,
+        options: &options,
+        table: &table,
+    };
+    match first_entry(&asked, &mut pass, &found.front) {
         Ok(entry) => Ok(entry),
         Err(fault) => Err(root_status(fault)),
     }

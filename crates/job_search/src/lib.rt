@@ -4,6 +4,7 @@
 //! card with too large a tree.
 #![tactic(auto)]
 
+mod asked;
 mod card;
 mod counted;
 mod first;
@@ -12,5 +13,5 @@ mod report;
 
 pub use card::name_card;
 pub use first::first_strategy;
-pub use made::summarize;
+pub use made::{Made, summarize};
 pub use report::solve;

@@ -1,10 +1,12 @@
 //! The summary of a problem that was made from a number.
 ghost use Rattle.std.specs.Prelude.{◌≡◌, true, Ok, IfOk, IfErr};
 ghost use Rattle.job_words.specs.Asks.{IsSearchWithinLimits};
-ghost use Rattle.am_answer.specs.Answers.{has_choice, Problem};
+ghost use Rattle.am_answer.specs.Answers.{has_choice};
+ghost use Rattle.am_answer.specs.Tasks as tasks;
 ghost use Rattle.am_answer.specs.Reports.{made_moves};
 ghost use Rattle.am_answer.specs.Stages.{IsTaskRefusal, IsTextFor};
 
+use crate::asked::Asked;
 use crate::counted::counted_front;
 use am_answer::{Root, Status, root_status};
 use am_outside::Gate;
@@ -14,32 +16,52 @@ use job_words::Search;
 use root_answers::{options_of, table_of};
 use std::alloc::Global;
 use std::thread::Threads;
+use win_vectors::Weights;
+
+/// The root of the problem that was made from a number, for `moves` moves of declarer's side.
+#[derive(Clone, Copy)]
+pub struct Made<'a> {
+    pub number: u64,
+    pub root: &'a Root,
+    pub moves: u8,
+}
 
 /// The summary of a problem at its root, under its number: how many layouts, how long the front,
 /// the best count and the card to play. Refused as `solve` is.
 pub fn summarize<R: Threads + Sync, G: Gate>(
     rt: &R,
     alloc: Global,
-    number: u64,
-    root: &Root,
-    moves: u8,
+    job: &Made<'_>,
     search: &Search,
     gate: &G,
 ) -> Result<Text, Status>
-    requires turn { has_choice root.now.kept.node ≡ true }
-    requires moves { moves ≡ made_moves }
+    requires turn { has_choice job.now.root.now.kept.node ≡ true }
+    requires moves { job.now.moves ≡ made_moves }
     requires limits { IsSearchWithinLimits search.now }
-    ensures text { IfOk result (IsTextFor (Ok (Problem number root.now search.now))) }
-    ensures refused { IfErr result (IsTaskRefusal (Ok (Problem number root.now search.now))) }
+    ensures text { IfOk result
+        (IsTextFor (Ok (tasks.Made job.now.number job.now.root.now search.now))) }
+    ensures refused { IfErr result
+        (IsTaskRefusal (Ok (tasks.Made job.now.number job.now.root.now search.now))) }
 {
+    let root = job.root;
     let node = &root.kept.node;
+    let width = node.width();
+    let weights = Weights::equal(width);
     let options = options_of(search);
     let (table, mut pass) = table_of(alloc, search)?;
-    match counted_front(rt, alloc, node, moves, &options, &table, &mut pass, gate) {
+    let asked = Asked {
+        alloc,
+        node,
+        weights: &weights,
+        moves: job.moves,
+        options: &options,
+        table: &table,
+    };
+    match counted_front(rt, &asked, &mut pass, gate) {
         Ok(found) => {
             let summary = MadeSummary {
-                number,
-                layouts: node.width(),
+                number: job.number,
+                layouts: width,
                 front: found.front.len() as u64,
                 best: found.count,
                 card: found.card,

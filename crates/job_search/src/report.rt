@@ -1,7 +1,8 @@
 //! The report of a root.
 ghost use Rattle.std.specs.Prelude.{◌≡◌, true, Ok, IfOk, IfErr, length};
 ghost use Rattle.job_words.specs.Asks.{IsMoves, IsSearchWithinLimits};
-ghost use Rattle.am_answer.specs.Answers.{has_choice, Report};
+ghost use Rattle.am_answer.specs.Answers.{has_choice};
+ghost use Rattle.am_answer.specs.Tasks.{Solve};
 ghost use Rattle.am_answer.specs.Stages.{IsTaskRefusal, IsTextFor};
 
 use am_answer::{Root, Status, root_status};
@@ -27,8 +28,8 @@ pub fn solve<R: Threads + Sync, G: Gate>(
     requires weighed { length root.now.kept.weights ≡ length root.now.kept.node.lefts }
     requires moves { IsMoves moves }
     requires limits { IsSearchWithinLimits search.now }
-    ensures text { IfOk result (IsTextFor (Ok (Report root.now moves search.now))) }
-    ensures refused { IfErr result (IsTaskRefusal (Ok (Report root.now moves search.now))) }
+    ensures text { IfOk result (IsTextFor (Ok (Solve root.now moves search.now))) }
+    ensures refused { IfErr result (IsTaskRefusal (Ok (Solve root.now moves search.now))) }
 {
     let node = &root.kept.node;
     let weights = &root.kept.weights;

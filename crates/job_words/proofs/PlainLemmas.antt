@@ -16,7 +16,9 @@ use Rattle.job_words.specs.Command.{option_command}
 use Rattle.job_words.specs.Options.{OptionValues, options_at, options_read}
 use Rattle.job_words.specs.Values.{file_named, is_value, job_named, number_in, number_read, number_or}
 use Rattle.job_words.specs.Table.{keeps_to}
-use Rattle.job_words.specs.Asks.{Audit, Boards, Card, Check, Fusion, ListOf, Made, Match, OnLayouts, Prove, Solve}
+use Rattle.job_words.specs.declared.asks.Ask.TheVariants as asks
+use Rattle.job_words.specs.declared.asks.Ask.TheVariants.{OnLayouts, Boards, Made}
+use Rattle.job_words.specs.declared.asks.LayoutsJob.TheVariants.{Solve, Card, Match, Check, Fusion, Prove, Audit}
 use Rattle.job_words.specs.Plain.{audit_words, boards_words, card_words, check_words, fusion_words, list_words, made_words, match_words, plain_search, prove_words, solve_words}
 use Rattle.job_words.specs.Words.{ask_in, audit_in, boards_in, card_in, check_in, job_in, list_in, made_in, match_in, moves_in, on_layouts, prove_in, search_in, solve_in, switch_in, table_in, words_read}
 
@@ -169,26 +171,30 @@ module _ (job deal layouts : Text) where
 abbrev reads : List Text → Walk → Type 0
 reads all to = Leads (at [] None idle) all to
 
+-- no option is given
+abbrev no_values : OptionValues
+no_values = record {
+  job = None;
+  deal = None;
+  layouts = None;
+  report = None;
+  moves = None;
+  number = None;
+  layout = None;
+  switch = None;
+  log = None;
+  nodes = None;
+  workers = None;
+  shards = None;
+  room = None;
+  no_table = false;
+  no_cuts = false;
+}
+
 -- the words with these values
 module _ (job deal : Text) where
   abbrev list_options : OptionValues
-  list_options = record {
-    job = Some job;
-    deal = Some deal;
-    layouts = None;
-    report = None;
-    moves = None;
-    number = None;
-    layout = None;
-    switch = None;
-    log = None;
-    nodes = None;
-    workers = None;
-    shards = None;
-    room = None;
-    no_table = false;
-    no_cuts = false;
-  }
+  list_options = record no_values { job = Some job; deal = Some deal }
 
   abbrev list_walk : Walk
   list_walk = has (row (codes "job") job ∷ []) (codes "deal") deal
@@ -213,23 +219,7 @@ module _ (job deal : Text) where
 -- the words with these values
 module _ (job deal layouts : Text) where
   abbrev fusion_options : OptionValues
-  fusion_options = record {
-    job = Some job;
-    deal = Some deal;
-    layouts = Some layouts;
-    report = None;
-    moves = None;
-    number = None;
-    layout = None;
-    switch = None;
-    log = None;
-    nodes = None;
-    workers = None;
-    shards = None;
-    room = None;
-    no_table = false;
-    no_cuts = false;
-  }
+  fusion_options = record no_values { job = Some job; deal = Some deal; layouts = Some layouts }
 
   abbrev fusion_walk : Walk
   fusion_walk = has (row (codes "job") job ∷ row (codes "deal") deal ∷ []) (codes "layouts") layouts
@@ -254,23 +244,7 @@ module _ (job deal layouts : Text) where
 -- the words with these values
 module _ (job deal layouts moves : Text) where
   abbrev searched_options : OptionValues
-  searched_options = record {
-    job = Some job;
-    deal = Some deal;
-    layouts = Some layouts;
-    report = None;
-    moves = Some moves;
-    number = None;
-    layout = None;
-    switch = None;
-    log = None;
-    nodes = None;
-    workers = None;
-    shards = None;
-    room = None;
-    no_table = false;
-    no_cuts = false;
-  }
+  searched_options = record no_values { job = Some job; deal = Some deal; layouts = Some layouts; moves = Some moves }
 
   abbrev searched_walk : Walk
   searched_walk = has (row (codes "job") job ∷ row (codes "deal") deal ∷ row (codes "layouts") layouts ∷ []) (codes "moves") moves
@@ -295,23 +269,7 @@ module _ (job deal layouts moves : Text) where
 -- the words with these values
 module _ (job deal layouts moves layout : Text) where
   abbrev match_options : OptionValues
-  match_options = record {
-    job = Some job;
-    deal = Some deal;
-    layouts = Some layouts;
-    report = None;
-    moves = Some moves;
-    number = None;
-    layout = Some layout;
-    switch = None;
-    log = None;
-    nodes = None;
-    workers = None;
-    shards = None;
-    room = None;
-    no_table = false;
-    no_cuts = false;
-  }
+  match_options = record no_values { job = Some job; deal = Some deal; layouts = Some layouts; moves = Some moves; layout = Some layout }
 
   abbrev match_walk : Walk
   match_walk = has (row (codes "job") job ∷ row (codes "deal") deal ∷ row (codes "layouts") layouts ∷ row (codes "moves") moves ∷ []) (codes "layout") layout
@@ -336,23 +294,7 @@ module _ (job deal layouts moves layout : Text) where
 -- the words with these values
 module _ (job deal layouts report : Text) where
   abbrev check_options : OptionValues
-  check_options = record {
-    job = Some job;
-    deal = Some deal;
-    layouts = Some layouts;
-    report = Some report;
-    moves = None;
-    number = None;
-    layout = None;
-    switch = None;
-    log = None;
-    nodes = None;
-    workers = None;
-    shards = None;
-    room = None;
-    no_table = false;
-    no_cuts = false;
-  }
+  check_options = record no_values { job = Some job; deal = Some deal; layouts = Some layouts; report = Some report }
 
   abbrev check_walk : Walk
   check_walk = has (row (codes "job") job ∷ row (codes "deal") deal ∷ row (codes "layouts") layouts ∷ []) (codes "report") report
@@ -377,23 +319,7 @@ module _ (job deal layouts report : Text) where
 -- the words with these values
 module _ (job deal layouts report log : Text) where
   abbrev audit_options : OptionValues
-  audit_options = record {
-    job = Some job;
-    deal = Some deal;
-    layouts = Some layouts;
-    report = Some report;
-    moves = None;
-    number = None;
-    layout = None;
-    switch = None;
-    log = Some log;
-    nodes = None;
-    workers = None;
-    shards = None;
-    room = None;
-    no_table = false;
-    no_cuts = false;
-  }
+  audit_options = record no_values { job = Some job; deal = Some deal; layouts = Some layouts; report = Some report; log = Some log }
 
   abbrev audit_walk : Walk
   audit_walk = has (row (codes "job") job ∷ row (codes "deal") deal ∷ row (codes "layouts") layouts ∷ row (codes "report") report ∷ []) (codes "log") log
@@ -418,23 +344,7 @@ module _ (job deal layouts report log : Text) where
 -- the words with these values
 module _ (job number : Text) where
   abbrev made_options : OptionValues
-  made_options = record {
-    job = Some job;
-    deal = None;
-    layouts = None;
-    report = None;
-    moves = None;
-    number = Some number;
-    layout = None;
-    switch = None;
-    log = None;
-    nodes = None;
-    workers = None;
-    shards = None;
-    room = None;
-    no_table = false;
-    no_cuts = false;
-  }
+  made_options = record no_values { job = Some job; number = Some number }
 
   abbrev made_walk : Walk
   made_walk = has (row (codes "job") job ∷ []) (codes "number") number
@@ -532,7 +442,7 @@ fusion_asks deal layouts deal_is layouts_is =
     ) refl
 
 pub list_asks : (deal : List ℕ) → is_value deal ≡ true
-    → words_read (list_words deal) ≡ Some (ListOf deal)
+    → words_read (list_words deal) ≡ Some (asks.List deal)
 unfolding words_read ask_in job_in list_in job_named keeps_to file_named number_or
 list_asks deal deal_is =
     rw (
@@ -598,7 +508,7 @@ audit_asks deal layouts report log deal_is layouts_is report_is log_is =
     ) refl
 
 pub boards_asks : (deal layouts moves : List ℕ) (number : ℕ) → is_value deal ≡ true → is_value layouts ≡ true → number_in 1 most_moves moves ≡ Some number
-    → words_read (boards_words deal layouts moves) ≡ Some (Boards deal layouts number plain_search)
+    → words_read (boards_words deal layouts moves) ≡ Some (Boards (record { deal = deal; layouts = layouts }) number plain_search)
 unfolding words_read ask_in job_in boards_in moves_in search_in table_in job_named keeps_to file_named number_or
 boards_asks deal layouts moves number deal_is layouts_is number_is =
     let moves_is = is_value-number_in 1 most_moves moves number number_is in

@@ -5,8 +5,10 @@ use Rattle.std.specs.Str.{bytes_eq}
 use Rattle.trick_rules.specs.Nodes.{most_moves}
 use Rattle.job_words.specs.declared.asks.Search.{Search}
 use Rattle.job_words.specs.declared.table.Job as jobs
-use Rattle.job_words.specs.Asks.{most_entries, most_logged}
-use Rattle.job_words.specs.Asks.{AskValue, Audit, Boards, Card, Check, Fusion, LayoutsJobValue, ListOf, Made, Match, OnLayouts, Prove, Solve}
+use Rattle.job_words.specs.declared.asks.Ask.TheVariants as asks
+use Rattle.job_words.specs.declared.asks.Ask.TheVariants.{OnLayouts, Boards, Made}
+use Rattle.job_words.specs.declared.asks.LayoutsJob.TheVariants.{Solve, Card, Match, Check, Fusion, Prove, Audit}
+use Rattle.job_words.specs.Asks.{AskValue, LayoutsJobValue, most_entries, most_logged}
 use Rattle.job_words.specs.Options.{OptionValues, options_read}
 use Rattle.job_words.specs.Values.{file_named, job_named, number_in, number_or}
 use Rattle.job_words.specs.Table.{keeps_to, uses_by}
@@ -111,7 +113,7 @@ on_layouts o job = do
 unfoldable pub list_in : OptionValues → Option AskValue
 list_in o = do
   deal ← o.deal >>= file_named
-  Some (ListOf deal)
+  Some (asks.List deal)
 
 -- the problem made from a number
 unfoldable pub made_in : OptionValues → Option AskValue
@@ -127,7 +129,7 @@ boards_in o = do
   layouts ← o.layouts >>= file_named
   moves ← moves_in o
   search ← search_in o
-  Some (Boards deal layouts moves search)
+  Some (Boards (record { deal = deal; layouts = layouts }) moves search)
 
 -- what the options ask for, by the job
 abbrev pub ask_by : jobs.Job → OptionValues → Option AskValue

@@ -23,9 +23,9 @@ pub(crate) const MOST_ENTRIES: u64 = 262_144;
 /// The most nodes that the tree of a card may have if a log is written of it.
 pub(crate) const MOST_LOGGED: u64 = 268_435_456;
 
-/// A job on a deal and its layouts.
-#[derive(Clone, Copy, Debug, PartialEq, Eq)]
-pub enum LayoutsJob<'a> {
+/// A job on a deal and its layouts. A file is an `F`: its name, or what was read of it.
+#[derive(Debug, Drop, PartialEq, Eq)]
+pub enum LayoutsJob<F> {
     /// Every best trade-off, a strategy for each, and the card to play.
     Solve {
         /// How many cards of declarer's side the search goes through: 1 to 26.
@@ -55,8 +55,8 @@ pub enum LayoutsJob<'a> {
     Fusion,
     /// Whether each strategy of a report wins exactly its vector.
     Check {
-        /// The name of the file of the report.
-        report: &'a str,
+        /// The file of the report.
+        report: F,
     },
     /// A log that proves the front complete.
     Prove {
@@ -67,36 +67,44 @@ pub enum LayoutsJob<'a> {
     },
     /// Whether a log proves that no strategy wins more than a report says.
     Audit {
-        /// The name of the file of the report.
-        report: &'a str,
-        /// The name of the file of the log.
-        log: &'a str,
+        /// The file of the report.
+        report: F,
+        /// The file of the log.
+        log: F,
     },
 }
 
-/// What the words ask for.
+/// The names of the files of a deal's games.
 #[derive(Clone, Copy, Debug, PartialEq, Eq)]
-pub enum Ask<'a> {
+pub struct GameNames<'a> {
+    /// The name of the deal file.
+    pub deal: &'a str,
+    /// What the names of the files of layouts begin with.
+    pub layouts: &'a str,
+}
+
+/// What the words ask for. A file is an `F`: its name, or what was read of it. The files of a
+/// deal's games are a `G`.
+#[derive(Debug, Drop, PartialEq, Eq)]
+pub enum Ask<F, G> {
     /// A job on a deal and its layouts.
     OnLayouts {
-        /// The name of the deal file.
-        deal: &'a str,
-        /// The name of the file of layouts.
-        layouts: &'a str,
+        /// The deal file.
+        deal: F,
+        /// The file of layouts.
+        layouts: F,
         /// What is to be done with them.
-        job: LayoutsJob<'a>,
+        job: LayoutsJob<F>,
     },
     /// All layouts of a deal.
     List {
-        /// The name of the deal file.
-        deal: &'a str,
+        /// The deal file.
+        deal: F,
     },
     /// Every game of a deal, each on a file of layouts of its own.
     Boards {
-        /// The name of the deal file.
-        deal: &'a str,
-        /// What the names of the files of layouts begin with.
-        layouts: &'a str,
+        /// The games and their files of layouts.
+        games: G,
         /// How many cards of declarer's side the search goes through: 1 to 26.
         moves: u8,
         /// How to search.
@@ -110,3 +118,6 @@ pub enum Ask<'a> {
         search: Search,
     },
 }
+
+/// What the words ask for, by the names of the files.
+pub type NamedAsk<'a> = Ask<&'a str, GameNames<'a>>;

@@ -7,7 +7,7 @@ ghost use Rattle.job_words.specs.Words.{ask_in, audit_in, boards_in, card_in, ch
 ghost use Rattle.job_words.specs.Words.{list_in, made_in, match_in, moves_in, on_layouts, prove_in};
 ghost use Rattle.job_words.specs.Words.{search_in, solve_in, switch_in, table_in};
 
-use crate::asks::{Ask, LayoutsJob, MOST_ENTRIES, MOST_LOGGED, Search};
+use crate::asks::{Ask, GameNames, LayoutsJob, MOST_ENTRIES, MOST_LOGGED, NamedAsk, Search};
 use crate::options::Options;
 use crate::table::{Job, uses_by};
 use crate::values::{file_named, job_named, number_in, number_or};
@@ -16,7 +16,7 @@ use trick_rules::MOST_MOVES;
 /// What the options ask for, or None where they aren't those of a job, or a value of theirs is
 /// refused.
 #[tactic(auto, unfolding(crate::specs::Words::ask_in))]
-pub(crate) fn ask_in<'a>(options: &Options<'a>) -> Option<Ask<'a>>
+pub(crate) fn ask_in<'a>(options: &Options<'a>) -> Option<NamedAsk<'a>>
     ensures ask { option_map ask_of result ≡ ask_in (options_of options.now) }
     ensures limits { IfSome result (λ ask. IsWithinLimits (ask_of ask)) }
 {
@@ -89,7 +89,7 @@ fn moves_in(options: &Options<'_>) -> Option<u8>
 }
 
 #[tactic(auto, unfolding(crate::specs::Words::solve_in))]
-fn solve_in<'a>(options: &Options<'a>) -> Option<LayoutsJob<'a>>
+fn solve_in<'a>(options: &Options<'a>) -> Option<LayoutsJob<&'a str>>
     ensures job { option_map job_of result ≡ solve_in (options_of options.now) }
     ensures limits { IfSome result (λ job. IsJobWithinLimits (job_of job)) }
 {
@@ -99,7 +99,7 @@ fn solve_in<'a>(options: &Options<'a>) -> Option<LayoutsJob<'a>>
 }
 
 #[tactic(auto, unfolding(crate::specs::Words::card_in))]
-fn card_in<'a>(options: &Options<'a>) -> Option<LayoutsJob<'a>>
+fn card_in<'a>(options: &Options<'a>) -> Option<LayoutsJob<&'a str>>
     ensures job { option_map job_of result ≡ card_in (options_of options.now) }
     ensures limits { IfSome result (λ job. IsJobWithinLimits (job_of job)) }
 {
@@ -123,7 +123,7 @@ fn switch_in(options: &Options<'_>) -> Option<Option<u16>>
 }
 
 #[tactic(auto, unfolding(crate::specs::Words::match_in))]
-fn match_in<'a>(options: &Options<'a>) -> Option<LayoutsJob<'a>>
+fn match_in<'a>(options: &Options<'a>) -> Option<LayoutsJob<&'a str>>
     ensures job { option_map job_of result ≡ match_in (options_of options.now) }
     ensures limits { IfSome result (λ job. IsJobWithinLimits (job_of job)) }
 {
@@ -140,7 +140,7 @@ fn match_in<'a>(options: &Options<'a>) -> Option<LayoutsJob<'a>>
 }
 
 #[tactic(auto, unfolding(crate::specs::Words::check_in))]
-fn check_in<'a>(options: &Options<'a>) -> Option<LayoutsJob<'a>>
+fn check_in<'a>(options: &Options<'a>) -> Option<LayoutsJob<&'a str>>
     ensures job { option_map job_of result ≡ check_in (options_of options.now) }
     ensures limits { IfSome result (λ job. IsJobWithinLimits (job_of job)) }
 {
@@ -149,7 +149,7 @@ fn check_in<'a>(options: &Options<'a>) -> Option<LayoutsJob<'a>>
 }
 
 #[tactic(auto, unfolding(crate::specs::Words::prove_in))]
-fn prove_in<'a>(options: &Options<'a>) -> Option<LayoutsJob<'a>>
+fn prove_in<'a>(options: &Options<'a>) -> Option<LayoutsJob<&'a str>>
     ensures job { option_map job_of result ≡ prove_in (options_of options.now) }
     ensures limits { IfSome result (λ job. IsJobWithinLimits (job_of job)) }
 {
@@ -159,7 +159,7 @@ fn prove_in<'a>(options: &Options<'a>) -> Option<LayoutsJob<'a>>
 }
 
 #[tactic(auto, unfolding(crate::specs::Words::audit_in))]
-fn audit_in<'a>(options: &Options<'a>) -> Option<LayoutsJob<'a>>
+fn audit_in<'a>(options: &Options<'a>) -> Option<LayoutsJob<&'a str>>
     ensures job { option_map job_of result ≡ audit_in (options_of options.now) }
     ensures limits { IfSome result (λ job. IsJobWithinLimits (job_of job)) }
 {
@@ -169,7 +169,7 @@ fn audit_in<'a>(options: &Options<'a>) -> Option<LayoutsJob<'a>>
 }
 
 #[tactic(auto, unfolding(crate::specs::Words::on_layouts))]
-fn on_layouts<'a>(options: &Options<'a>, job: LayoutsJob<'a>) -> Option<Ask<'a>>
+fn on_layouts<'a>(options: &Options<'a>, job: LayoutsJob<&'a str>) -> Option<NamedAsk<'a>>
     ensures ask { option_map ask_of result
         ≡ on_layouts (options_of options.now) (job_of job.entry) }
     ensures limits { IsJobWithinLimits (job_of job.entry)
@@ -181,7 +181,7 @@ fn on_layouts<'a>(options: &Options<'a>, job: LayoutsJob<'a>) -> Option<Ask<'a>>
 }
 
 #[tactic(auto, unfolding(crate::specs::Words::list_in))]
-fn list_in<'a>(options: &Options<'a>) -> Option<Ask<'a>>
+fn list_in<'a>(options: &Options<'a>) -> Option<NamedAsk<'a>>
     ensures ask { option_map ask_of result ≡ list_in (options_of options.now) }
     ensures limits { IfSome result (λ ask. IsWithinLimits (ask_of ask)) }
 {
@@ -190,7 +190,7 @@ fn list_in<'a>(options: &Options<'a>) -> Option<Ask<'a>>
 }
 
 #[tactic(auto, unfolding(crate::specs::Words::boards_in))]
-fn boards_in<'a>(options: &Options<'a>) -> Option<Ask<'a>>
+fn boards_in<'a>(options: &Options<'a>) -> Option<NamedAsk<'a>>
     ensures ask { option_map ask_of result ≡ boards_in (options_of options.now) }
     ensures limits { IfSome result (λ ask. IsWithinLimits (ask_of ask)) }
 {
@@ -198,16 +198,16 @@ fn boards_in<'a>(options: &Options<'a>) -> Option<Ask<'a>>
     let layouts = file_named(options.layouts?)?;
     let moves = moves_in(options)?;
     let search = search_in(options)?;
+    let games = GameNames { deal, layouts };
     Some(Ask::Boards {
-        deal,
-        layouts,
+        games,
         moves,
         search,
     })
 }
 
 #[tactic(auto, unfolding(crate::specs::Words::made_in))]
-fn made_in<'a>(options: &Options<'a>) -> Option<Ask<'a>>
+fn made_in<'a>(options: &Options<'a>) -> Option<NamedAsk<'a>>
     ensures ask { option_map ask_of result ≡ made_in (options_of options.now) }
     ensures limits { IfSome result (λ ask. IsWithinLimits (ask_of ask)) }
 {

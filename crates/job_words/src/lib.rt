@@ -5,8 +5,11 @@
 
 ghost use Rattle.std.specs.Prelude.{◌≡◌, ◌-◌, ◌^◌, ℕ, List, None, Some, IfOk, IfSome, option_map, true};
 ghost use Rattle.trick_rules.specs.Nodes.{most_moves};
-ghost use Rattle.job_words.specs.Asks.{Audit, Boards, Card, Check, Fusion, IsWithinLimits};
-ghost use Rattle.job_words.specs.Asks.{ListOf, Made, Match, OnLayouts, Prove, Solve, ask_of, texts_of};
+ghost use Rattle.job_words.specs.Asks.{IsWithinLimits, ask_of, texts_of};
+ghost use Rattle.job_words.specs.declared.asks.Ask.TheVariants.{OnLayouts, Boards, Made};
+ghost use Rattle.job_words.specs.declared.asks.Ask.TheVariants as asks;
+ghost use Rattle.job_words.specs.declared.asks.LayoutsJob.TheVariants.{Solve, Card, Match, Fusion};
+ghost use Rattle.job_words.specs.declared.asks.LayoutsJob.TheVariants.{Check, Prove, Audit};
 ghost use Rattle.job_words.specs.Plain.{audit_words, boards_words, card_words, check_words};
 ghost use Rattle.job_words.specs.Plain.{fusion_words, list_words, made_words, match_words};
 ghost use Rattle.job_words.specs.Plain.{plain_search, prove_words, solve_words};
@@ -19,7 +22,7 @@ mod options;
 mod table;
 mod values;
 
-pub use asks::{Ask, LayoutsJob, Search};
+pub use asks::{Ask, GameNames, LayoutsJob, NamedAsk, Search};
 use by_job::ask_in;
 use options::read_options;
 use std::alloc::{AllocError, Global};
@@ -27,7 +30,10 @@ use std::alloc::{AllocError, Global};
 /// What the words ask for, or `None` if the program takes no such words. The program's own name
 /// isn't one of them.
 #[tactic(auto, unfolding(crate::specs::Words::words_read))]
-pub fn read_words<'a>(alloc: Global, words: &'a [String]) -> Result<Option<Ask<'a>>, AllocError>
+pub fn read_words<'a>(
+    alloc: Global,
+    words: &'a [String],
+) -> Result<Option<NamedAsk<'a>>, AllocError>
     ensures read { IfOk result (λ r. option_map ask_of r ≡ words_read (texts_of words.now)) }
     ensures limits { IfOk result (λ r. IfSome r (λ ask. IsWithinLimits (ask_of ask))) }
 {
@@ -61,7 +67,7 @@ pub fn plain_words_are_read()
     ensures fusion { (deal layouts : List ℕ) → is_value deal ≡ true → is_value layouts ≡ true
         → words_read (fusion_words deal layouts) ≡ Some (OnLayouts deal layouts Fusion) }
     ensures list { (deal : List ℕ) → is_value deal ≡ true
-        → words_read (list_words deal) ≡ Some (ListOf deal) }
+        → words_read (list_words deal) ≡ Some (asks.List deal) }
     ensures check { (deal layouts report : List ℕ) → is_value deal ≡ true → is_value layouts ≡ true
         → is_value report ≡ true
         → words_read (check_words deal layouts report)
@@ -82,7 +88,7 @@ pub fn plain_words_are_read()
         → is_value layouts ≡ true
         → number_in 1 most_moves moves ≡ Some number
         → words_read (boards_words deal layouts moves)
-        ≡ Some (Boards deal layouts number plain_search) }
+        ≡ Some (Boards (record { deal = deal; layouts = layouts }) number plain_search) }
 {}
 
 fn has_two_dashes(words: &[String]) -> bool

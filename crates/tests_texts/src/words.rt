@@ -1,5 +1,5 @@
 //! Words of the command line: what each job takes, and what is refused.
-use job_words::{Ask, LayoutsJob, Search, read_words};
+use job_words::{Ask, LayoutsJob, NamedAsk, Search, read_words};
 use std::alloc::{AllocError, Global};
 
 const PLAIN: Search = Search {
@@ -27,7 +27,7 @@ const WIDELY: &str =
 // The words for a job on the two files.
 const FILES: &str = "--deal k.pbn --layouts k.lay";
 
-fn on_files<'a>(job: LayoutsJob<'a>) -> Ask<'a> {
+fn on_files<'a>(job: LayoutsJob<&'a str>) -> NamedAsk<'a> {
     Ask::OnLayouts {
         deal: "k.pbn",
         layouts: "k.lay",
@@ -36,21 +36,21 @@ fn on_files<'a>(job: LayoutsJob<'a>) -> Ask<'a> {
 }
 
 // Whether the words, each followed by one space but the last, are read so.
-fn are_read_as(alloc: Global, text: &str, ask: Option<Ask<'_>>) -> Result<bool, AllocError> {
+fn are_read_as(alloc: Global, text: &str, ask: &Option<NamedAsk<'_>>) -> Result<bool, AllocError> {
     let mut words = Vec::new(alloc);
     for word in text.split(' ') {
         words.push(String::from_str(alloc, word)?)?;
     }
-    Ok(read_words(alloc, words.as_slice())? == ask)
+    Ok(read_words(alloc, words.as_slice())? == *ask)
 }
 
 #[test]
 fn reads_options_in_any_order_and_form(rt: HostRuntime) {
     let alloc = rt.alloc();
-    let solve = on_files(LayoutsJob::Solve {
+    let solve = Some(on_files(LayoutsJob::Solve {
         moves: 2,
         search: PLAIN,
-    });
+    }));
     let texts = [
         "--job solve --deal k.pbn --layouts k.lay --moves 2",
         "--moves 2 --layouts k.lay --deal k.pbn --job solve",
@@ -59,7 +59,7 @@ fn reads_options_in_any_order_and_form(rt: HostRuntime) {
     ];
     for text in texts {
         assert!(rt;
-            are_read_as(alloc, text, Some(solve)).expect(&rt, "memory"),
+            are_read_as(alloc, text, &solve).expect(&rt, "memory"),
             "{text}"
         );
     }
@@ -101,7 +101,7 @@ fn reads_each_job(rt: HostRuntime) {
     ];
     for (text, ask) in rows {
         assert!(rt;
-            are_read_as(alloc, text, Some(ask)).expect(&rt, "memory"),
+            are_read_as(alloc, text, &Some(ask)).expect(&rt, "memory"),
             "{text}"
         );
     }
@@ -119,7 +119,7 @@ fn reads_how_many_nodes_a_tree_of_a_log_may_have(rt: HostRuntime) {
         let text = format!(in alloc; "{FILES} --job prove {words}").expect(&rt, "memory");
         let ask = on_files(LayoutsJob::Prove { moves, nodes });
         assert!(rt;
-            are_read_as(alloc, &text, Some(ask)).expect(&rt, "memory"),
+            are_read_as(alloc, &text, &Some(ask)).expect(&rt, "memory"),
             "{text}"
         );
     }
@@ -143,7 +143,7 @@ fn reads_how_to_search(rt: HostRuntime) {
     for (words, ask) in rows {
         let text = format!(in alloc; "{WIDELY} {words}").expect(&rt, "memory");
         assert!(rt;
-            are_read_as(alloc, &text, Some(ask)).expect(&rt, "memory"),
+            are_read_as(alloc, &text, &Some(ask)).expect(&rt, "memory"),
             "{text}"
         );
     }
@@ -190,7 +190,7 @@ fn reads_each_option_on_how_to_search(rt: HostRuntime) {
         let text = format!(in alloc; "--job made --number 7 {words}").expect(&rt, "memory");
         let ask = Ask::Made { number: 7, search };
         assert!(rt;
-            are_read_as(alloc, &text, Some(ask)).expect(&rt, "memory"),
+            are_read_as(alloc, &text, &Some(ask)).expect(&rt, "memory"),
             "{text}"
         );
     }
@@ -200,7 +200,7 @@ fn reads_each_option_on_how_to_search(rt: HostRuntime) {
 fn are_refused(alloc: Global, front: &str, tails: &[&str]) -> Result<bool, AllocError> {
     for tail in tails {
         let text = format!(in alloc; "{front} {tail}")?;
-        if !are_read_as(alloc, &text, None)? {
+        if !are_read_as(alloc, &text, &None)? {
             return Ok(false);
         }
     }
@@ -332,7 +332,7 @@ fn refuses_other_options_than_those_of_the_job(rt: HostRuntime) {
     assert!(rt; are_refused(alloc, "--job made", &made).expect(&rt, "memory"));
     for words in ["--job list", "--job made", FILES] {
         assert!(rt;
-            are_read_as(alloc, words, None).expect(&rt, "memory"),
+            are_read_as(alloc, words, &None).expect(&rt, "memory"),
             "{words}"
         );
     }

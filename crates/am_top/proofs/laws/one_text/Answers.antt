@@ -1,17 +1,17 @@
-use Rattle.am_top.proofs.Reporting.{one-report, one-card, one-proof, one-summary, one-boards}
+use Rattle.am_top.proofs.Reporting.{one-solve, one-card, one-prove, one-made, one-boards}
 use Rattle.am_top.proofs.laws.one_text.Goals as goal
 
-pub returns-clause-report : goal.returns-clause-report
-returns-clause-report c = one-report
+pub returns-clause-solve : goal.returns-clause-solve
+returns-clause-solve c = one-solve
 
 pub returns-clause-card : goal.returns-clause-card
 returns-clause-card c = one-card
 
-pub returns-clause-proof : goal.returns-clause-proof
-returns-clause-proof c = one-proof
+pub returns-clause-prove : goal.returns-clause-prove
+returns-clause-prove c = one-prove
 
-pub returns-clause-problem : goal.returns-clause-problem
-returns-clause-problem c = one-summary
+pub returns-clause-made : goal.returns-clause-made
+returns-clause-made c = one-made
 
 pub returns-clause-boards : goal.returns-clause-boards
 returns-clause-boards c = one-boards

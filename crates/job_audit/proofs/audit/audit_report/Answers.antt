@@ -3,7 +3,7 @@ use Rattle.log_check.specs.declared.check.LogVerdict.TheVariants.{Yes, No}
 use Rattle.log_texts.specs.Reading.{log_read, IsLogFault}
 use Rattle.am_report.specs.Audit.{audit_text}
 use Rattle.am_report.specs.Reading.{report_of, report_read, IsReportFaultOf}
-use Rattle.am_answer.specs.declared.inputs.Work.TheVariants as works
+use Rattle.job_words.specs.declared.asks.LayoutsJob.TheVariants as jobs
 use Rattle.am_answer.specs.Answers.{task_at}
 use Rattle.am_answer.specs.Stages.{IsTaskRefusal}
 use Rattle.job_check.proofs.ReadEntries.{report_sizes}
@@ -28,7 +28,7 @@ audited_vectors-requires c =
 
 pub returns-in_err-vectors-clause-refused : goal.returns-in_err-vectors-clause-refused
 returns-in_err-vectors-clause-refused c =
-    passed_on (IsTaskRefusal (task_at c.args.root.now (works.Audit c.args.report.now c.args.log.now))) c.from_residual.result c.in_err-vectors.field-0.0 c.from_residual.ensures.1
+    passed_on (IsTaskRefusal (task_at c.args.root.now (jobs.Audit c.args.report.now c.args.log.now))) c.from_residual.result c.in_err-vectors.field-0.0 c.from_residual.ensures.1
     (audit_refused c.args.root.now c.args.report.now c.args.log.now
     (report_of c.in-Ok.report) (subst (λ (b : List ℕ). report_read b ≡ Ok (report_of c.in-Ok.report)) c.bytes.ensures c.in-Ok.ensures.read)
     c.in-Ok-read_log.log (subst (λ (b : List ℕ). log_read b ≡ Ok c.in-Ok-read_log.log) c.bytes-2.ensures c.in-Ok-read_log.ensures.read)

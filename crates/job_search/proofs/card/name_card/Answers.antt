@@ -1,5 +1,5 @@
 use Rattle.std.proofs.Common.{Err, ap, ◌∙◌}
-use Rattle.am_answer.specs.Answers.{NamedCard}
+use Rattle.am_answer.specs.Tasks.{Card}
 use Rattle.job_search.proofs.Answered.{card-text}
 use Rattle.job_search.proofs.Spent.{workers_as, spent_task, spent_by, spent_as, first_as, fits_as}
 use Rattle.job_search.proofs.card.name_card.Goals as goal
@@ -16,7 +16,7 @@ returns-in-Ok-clause-text g c =
 pub returns-clause-refused : goal.returns-clause-refused
 returns-clause-refused g c =
     rw (c.root_status.ensures)
-    (spent_task (NamedCard c.args.root.now c.args.moves c.args.search.now) c.in-Err.fault
+    (spent_task (Card c.args.root.now c.args.moves c.args.search.now) c.in-Err.fault
     (λ card is. spent_by c.args.root.now.kept.node c.args.moves c.args.search.now card
     (spent_as _ c.args.root.now c.root.view_is c.options_of-options.result c.args.search.now c.options_of-options.ensures c.args.moves card (c.root_card.ensures.spent card (c.in-Err.is ∙ ap Err is)))
     (first_as _ c.args.root.now c.root.view_is c.options_of-options.result c.args.search.now c.options_of-options.ensures c.args.moves card (λ plain. c.root_card.ensures.first_spent plain card (c.in-Err.is ∙ ap Err is)))))

@@ -1,6 +1,6 @@
 use Rattle.am_answer.specs.Answers.{task_at}
 use Rattle.am_answer.proofs.Tables.{texts_for_at}
-use Rattle.am_top.proofs.jobs.work.Goals as goal
+use Rattle.am_top.proofs.jobs.text_at.Goals as goal
 
 pub returns-in-Solve-clause-text : goal.returns-in-Solve-clause-text
 unfolding task_at
