@@ -17,37 +17,32 @@ use am_report::Entry;
 use job_words::Search;
 use pareto_fronts::Front;
 use root_answers::{options_of, planned_over, reported, table_of};
-use root_workers::{Options, root_front};
-use shared_table::{Pass, SharedTable};
+use root_workers::{Question, root_front};
+use shared_table::Pass;
 use std::alloc::Global;
 use std::thread::Threads;
-use trick_rules::Node;
-use win_vectors::Weights;
 
 // The first vector of a front in report order, with the plan for it.
-fn first_entry(
-    alloc: Global,
-    table: &SharedTable,
-    pass: &mut Pass,
-    node: &Node,
-    weights: &Weights,
-    moves: u8,
-    options: &Options,
-    front: &Front,
-) -> Result<Entry, RootFault>
-    requires pass { IsPassOf table.now pass.old }
-    requires turn { has_choice node.now ≡ true }
-    requires weighed { length weights.now ≡ length node.now.lefts }
-    requires moves { IsMoves moves }
-    requires front { IsFrontAt node.now moves front.now }
-    ensures first { IfOk result (λ entry.
-        IsFirstStrategy node.now weights.now moves entry.vector entry.plan) }
-    ensures spent { (card : ℕ) → IsErrOf result (RootFault.Spent card)
-        → IsSpentAt node.now moves options.now.nodes card }
+fn first_entry(question: &Question, pass: &mut Pass, front: &Front) -> Result<Entry, RootFault>
+    requires pass { IsPassOf question.now.table.now pass.old }
+    requires turn { has_choice question.now.node.now ≡ true }
+    requires weighed { length question.now.weights.now ≡ length question.now.node.now.lefts }
+    requires moves { IsMoves question.now.moves }
+    requires front { IsFrontAt question.now.node.now question.now.moves front.now }
+    ensures first { IfOk result (λ entry. IsFirstStrategy question.now.node.now
+        question.now.weights.now question.now.moves entry.vector entry.plan) }
+    ensures spent { (card : ℕ) → IsErrOf result (RootFault.Spent card) → IsSpentAt
+        question.now.node.now question.now.moves question.now.options.now.nodes card }
 {
-    prove!(node.width() > 0);
-    let vectors = reported(alloc, node, moves, weights, front)?;
-    let mut entries = planned_over(alloc, table, pass, node, moves, options, &vectors[..1])?;
+    prove!(question.node.width() > 0);
+    let vectors = reported(
+        question.alloc,
+        question.node,
+        question.moves,
+        question.weights,
+        front,
+    )?;
+    let mut entries = planned_over(question, pass, &vectors[..1])?;
     Ok(entries.swap_remove(0))
 }
 
@@ -84,10 +79,15 @@ pub fn first_strategy<R: Threads + Sync, G: Gate>(
         Ok(found) => found,
         Err(fault) => return Err(root_status(fault)),
     };
-    let front = &found.front;
-    match first_entry(
-        alloc, &table, &mut pass, node, weights, moves, &options, front,
-    ) {
+    let question = Question {
+        alloc,
+        node,
+        moves,
+        weights,
+        options: &options,
+        table: &table,
+    };
+    match first_entry(&question, &mut pass, &found.front) {
         Ok(entry) => Ok(entry),
         Err(fault) => Err(root_status(fault)),
     }
