@@ -8,12 +8,11 @@ ghost use Rattle.root_workers.specs.Roots.{IsSpentAt, IsFirstSpentAt, AllFit};
 ghost use Rattle.root_workers.specs.Plain.{IsPlain, HasWorkers};
 ghost use Rattle.shared_table.specs.Passes.{IsPassOf};
 
-use crate::asked::Asked;
 use alphamu_core::RootFault;
 use am_outside::Gate;
 use card_sets::Card;
 use pareto_fronts::Front;
-use root_workers::root_front;
+use root_workers::{Question, root_front};
 use shared_table::Pass;
 use std::thread::Threads;
 
@@ -36,41 +35,43 @@ fn count_of(weight: u32) -> u16
 /// As `root_front` with weights of 1, with a count for the weight.
 pub fn counted_front<R: Threads + Sync, G: Gate>(
     rt: &R,
-    asked: &Asked<'_>,
+    question: &Question,
     pass: &mut Pass,
     gate: &G,
 ) -> Result<CountedFront, RootFault>
-    requires alike { asked.now.weights.now ≡ replicate (length asked.now.node.now.lefts) 1 }
-    requires ours { bridge.is_ours asked.now.node.now ≡ true }
-    requires goes_on { bridge.is_over asked.now.node.now ≡ false }
-    requires some_moves { 1 ≤ asked.now.moves }
-    requires few_moves { asked.now.moves ≤ most_moves }
-    requires workers { HasWorkers asked.now.options.now }
-    requires pass { IsPassOf asked.now.table.now pass.old }
-    ensures front { IfOk result (λ root. IsFrontAt asked.now.node.now asked.now.moves root.front) }
+    requires alike { question.now.weights.now ≡ replicate (length question.now.node.now.lefts) 1 }
+    requires ours { bridge.is_ours question.now.node.now ≡ true }
+    requires goes_on { bridge.is_over question.now.node.now ≡ false }
+    requires some_moves { 1 ≤ question.now.moves }
+    requires few_moves { question.now.moves ≤ most_moves }
+    requires workers { HasWorkers question.now.options.now }
+    requires pass { IsPassOf question.now.table.now pass.old }
+    ensures front { IfOk result (λ root.
+        IsFrontAt question.now.node.now question.now.moves root.front) }
     ensures card { IfOk result (λ root.
-        IsNamedCard bridge asked.now.node.now asked.now.moves root.card) }
+        IsNamedCard bridge question.now.node.now question.now.moves root.card) }
     ensures count { IfOk result (λ root.
-        IsBestCount bridge asked.now.node.now asked.now.moves root.count) }
-    ensures fits { IsPlain asked.now.options.now → IfOk result (λ _.
-        AllFit asked.now.node.now asked.now.moves asked.now.options.now.nodes) }
+        IsBestCount bridge question.now.node.now question.now.moves root.count) }
+    ensures fits { IsPlain question.now.options.now → IfOk result (λ _.
+        AllFit question.now.node.now question.now.moves question.now.options.now.nodes) }
     ensures spent { (card : ℕ) → IsErrOf result (RootFault.Spent card)
-        → IsSpentAt asked.now.node.now asked.now.moves asked.now.options.now.nodes card }
-    ensures first_spent { IsPlain asked.now.options.now → (card : ℕ)
+        → IsSpentAt question.now.node.now question.now.moves question.now.options.now.nodes card }
+    ensures first_spent { IsPlain question.now.options.now → (card : ℕ)
         → IsErrOf result (RootFault.Spent card)
-        → IsFirstSpentAt asked.now.node.now asked.now.moves asked.now.options.now.nodes card }
-    ensures pass { IsPassOf asked.now.table.now pass.new }
+        → IsFirstSpentAt question.now.node.now question.now.moves
+        question.now.options.now.nodes card }
+    ensures pass { IsPassOf question.now.table.now pass.new }
 {
-    let (node, options) = (asked.node, asked.options);
+    let (node, options) = (question.node, question.options);
     prove!(node.width() > 0);
     let found = root_front(
         rt,
-        asked.alloc,
+        question.alloc,
         node,
-        asked.moves,
-        asked.weights,
+        question.moves,
+        question.weights,
         options,
-        asked.table,
+        question.table,
         pass,
         gate,
     )?;

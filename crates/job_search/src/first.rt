@@ -11,7 +11,6 @@ ghost use Rattle.am_answer.specs.Endings.{IsPlain};
 ghost use Rattle.am_answer.specs.Matches.{IsFirstStrategy};
 ghost use Rattle.am_answer.specs.Stages.{IsTaskRefusal};
 
-use crate::asked::Asked;
 use alphamu_core::RootFault;
 use am_answer::{Root, Status, root_status};
 use am_outside::Gate;
@@ -19,34 +18,32 @@ use am_report::Entry;
 use job_words::Search;
 use pareto_fronts::Front;
 use root_answers::{options_of, planned_over, reported, table_of};
-use root_workers::root_front;
+use root_workers::{Question, root_front};
 use shared_table::Pass;
 use std::alloc::Global;
 use std::thread::Threads;
 
 // The first vector of a front in report order, with the plan for it.
-fn first_entry(asked: &Asked<'_>, pass: &mut Pass, front: &Front) -> Result<Entry, RootFault>
-    requires pass { IsPassOf asked.now.table.now pass.old }
-    requires turn { has_choice asked.now.node.now ≡ true }
-    requires weighed { length asked.now.weights.now ≡ length asked.now.node.now.lefts }
-    requires moves { IsMoves asked.now.moves }
-    requires front { IsFrontAt asked.now.node.now asked.now.moves front.now }
-    ensures first { IfOk result (λ entry. IsFirstStrategy asked.now.node.now
-        asked.now.weights.now asked.now.moves entry.vector entry.plan) }
-    ensures spent { (card : ℕ) → IsErrOf result (RootFault.Spent card)
-        → IsSpentAt asked.now.node.now asked.now.moves asked.now.options.now.nodes card }
+fn first_entry(question: &Question, pass: &mut Pass, front: &Front) -> Result<Entry, RootFault>
+    requires pass { IsPassOf question.now.table.now pass.old }
+    requires turn { has_choice question.now.node.now ≡ true }
+    requires weighed { length question.now.weights.now ≡ length question.now.node.now.lefts }
+    requires moves { IsMoves question.now.moves }
+    requires front { IsFrontAt question.now.node.now question.now.moves front.now }
+    ensures first { IfOk result (λ entry. IsFirstStrategy question.now.node.now
+        question.now.weights.now question.now.moves entry.vector entry.plan) }
+    ensures spent { (card : ℕ) → IsErrOf result (RootFault.Spent card) → IsSpentAt
+        question.now.node.now question.now.moves question.now.options.now.nodes card }
 {
-    let Asked {
-        alloc,
-        node,
-        weights,
-        moves,
-        options,
-        table,
-    } = *asked;
-    prove!(node.width() > 0);
-    let vectors = reported(alloc, node, moves, weights, front)?;
-    let mut entries = planned_over(alloc, table, pass, node, moves, options, &vectors[..1])?;
+    prove!(question.node.width() > 0);
+    let vectors = reported(
+        question.alloc,
+        question.node,
+        question.moves,
+        question.weights,
+        front,
+    )?;
+    let mut entries = planned_over(question, pass, &vectors[..1])?;
     Ok(entries.swap_remove(0))
 }
 
@@ -83,15 +80,15 @@ pub fn first_strategy<R: Threads + Sync, G: Gate>(
         Ok(found) => found,
         Err(fault) => return Err(root_status(fault)),
     };
-    let asked = Asked {
+    let question = Question {
         alloc,
         node,
-        weights,
         moves,
+        weights,
         options: &options,
         table: &table,
     };
-    match first_entry(&asked, &mut pass, &found.front) {
+    match first_entry(&question, &mut pass, &found.front) {
         Ok(entry) => Ok(entry),
         Err(fault) => Err(root_status(fault)),
     }

@@ -4,7 +4,6 @@
 //! card with too large a tree.
 #![tactic(auto)]
 
-mod asked;
 mod card;
 mod counted;
 mod first;

@@ -6,7 +6,6 @@ ghost use Rattle.am_answer.specs.Tasks as tasks;
 ghost use Rattle.am_answer.specs.Reports.{made_moves};
 ghost use Rattle.am_answer.specs.Stages.{IsTaskRefusal, IsTextFor};
 
-use crate::asked::Asked;
 use crate::counted::counted_front;
 use am_answer::{Root, Status, root_status};
 use am_outside::Gate;
@@ -14,6 +13,7 @@ use am_report::{MadeSummary, made_text};
 use byte_text::Text;
 use job_words::Search;
 use root_answers::{options_of, table_of};
+use root_workers::Question;
 use std::alloc::Global;
 use std::thread::Threads;
 use win_vectors::Weights;
@@ -49,15 +49,15 @@ pub fn summarize<R: Threads + Sync, G: Gate>(
     let weights = Weights::equal(width);
     let options = options_of(search);
     let (table, mut pass) = table_of(alloc, search)?;
-    let asked = Asked {
+    let question = Question {
         alloc,
         node,
-        weights: &weights,
         moves: job.moves,
+        weights: &weights,
         options: &options,
         table: &table,
     };
-    match counted_front(rt, &asked, &mut pass, gate) {
+    match counted_front(rt, &question, &mut pass, gate) {
         Ok(found) => {
             let summary = MadeSummary {
                 number: job.number,

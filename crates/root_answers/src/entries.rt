@@ -13,44 +13,41 @@ use am_report::Entry;
 use dd_solver::Solver;
 use front_table::{FrontStore, NoStore};
 use plan_finder::plan_for;
-use root_workers::Options;
-use shared_table::{Pass, SharedStore, SharedTable};
-use std::alloc::Global;
-use trick_rules::Node;
+use root_workers::Question;
+use shared_table::{Pass, SharedStore};
 use wide_store::WideStore;
 use win_vectors::WinVector;
 
 // Each vector with the plan for it, in order. What the plans have in common is found once, if the
 // store keeps it.
 fn planned<S: FrontStore>(
-    alloc: Global,
     store: &mut S,
-    node: &Node,
-    moves: u8,
-    options: &Options,
+    question: &Question,
     vectors: &[WinVector],
 ) -> Result<Vec<Entry>, RootFault>
-    requires ours { bridge.is_ours node.now ≡ true }
-    requires some_moves { 1 ≤ moves }
-    requires few_moves { moves ≤ most_moves }
-    requires targets { All (λ v. IsOfFront node.now moves v) vectors.now }
-    ensures planned { IfOk result (λ entries. ArePlanned node.now moves vectors.now entries.items) }
-    ensures spent { (card : ℕ) → IsErrOf result (RootFault.Spent card)
-        → IsSpentAt node.now moves options.now.nodes card }
+    requires ours { bridge.is_ours question.now.node.now ≡ true }
+    requires some_moves { 1 ≤ question.now.moves }
+    requires few_moves { question.now.moves ≤ most_moves }
+    requires targets { All (λ v. IsOfFront question.now.node.now question.now.moves v)
+        vectors.now }
+    ensures planned { IfOk result (λ entries. ArePlanned question.now.node.now question.now.moves
+        vectors.now entries.items) }
+    ensures spent { (card : ℕ) → IsErrOf result (RootFault.Spent card) → IsSpentAt
+        question.now.node.now question.now.moves question.now.options.now.nodes card }
     ensures grown { S.grown store.old store.new }
 {
-    let mut solver = Solver::new(alloc);
-    let mut entries = Vec::new(alloc);
+    let mut solver = Solver::new(question.alloc);
+    let mut entries = Vec::new(question.alloc);
     for vector in vectors {
         let found = plan_for(
-            alloc,
+            question.alloc,
             store,
             &mut solver,
-            node,
-            moves,
+            question.node,
+            question.moves,
             vector,
-            options.nodes,
-            options.cuts,
+            question.options.nodes,
+            question.options.cuts,
         )?;
         entries.push(Entry {
             vector: *vector,
@@ -60,36 +57,34 @@ fn planned<S: FrontStore>(
     Ok(entries)
 }
 
-/// Each of these vectors of a node's front with the plan that is chosen for it, in order. The plans
-/// are found over the table, if the options say so, by a pass that ends with them, together with
-/// the fronts that are too wide for a table.
+/// Each of these vectors of the node's front with the plan that is chosen for it, in order. The plans
+/// are found over the table, if the options say so, by a pass that ends with them, together with the
+/// fronts that are too wide for a table.
 ///
 /// `Spent` names a root card whose tree has more nodes than a search may enter.
 pub fn planned_over(
-    alloc: Global,
-    table: &SharedTable,
+    question: &Question,
     pass: &mut Pass,
-    node: &Node,
-    moves: u8,
-    options: &Options,
     vectors: &[WinVector],
 ) -> Result<Vec<Entry>, RootFault>
-    requires pass { IsPassOf table.now pass.old }
-    requires ours { bridge.is_ours node.now ≡ true }
-    requires some_moves { 1 ≤ moves }
-    requires few_moves { moves ≤ most_moves }
-    requires targets { All (λ v. IsOfFront node.now moves v) vectors.now }
-    ensures planned { IfOk result (λ entries. ArePlanned node.now moves vectors.now entries.items) }
-    ensures spent { (card : ℕ) → IsErrOf result (RootFault.Spent card)
-        → IsSpentAt node.now moves options.now.nodes card }
-    ensures pass { IsPassOf table.now pass.new }
+    requires pass { IsPassOf question.now.table.now pass.old }
+    requires ours { bridge.is_ours question.now.node.now ≡ true }
+    requires some_moves { 1 ≤ question.now.moves }
+    requires few_moves { question.now.moves ≤ most_moves }
+    requires targets { All (λ v. IsOfFront question.now.node.now question.now.moves v)
+        vectors.now }
+    ensures planned { IfOk result (λ entries. ArePlanned question.now.node.now question.now.moves
+        vectors.now entries.items) }
+    ensures spent { (card : ℕ) → IsErrOf result (RootFault.Spent card) → IsSpentAt
+        question.now.node.now question.now.moves question.now.options.now.nodes card }
+    ensures pass { IsPassOf question.now.table.now pass.new }
     ensures grown { HasSeenMore pass.old pass.new }
 {
-    if options.table {
-        let mut own = table.split(pass);
-        let mut store = WideStore::new(alloc, SharedStore::new(table, &mut own));
-        planned(alloc, &mut store, node, moves, options, vectors)
+    if question.options.table {
+        let mut own = question.table.split(pass);
+        let mut store = WideStore::new(question.alloc, SharedStore::new(question.table, &mut own));
+        planned(&mut store, question, vectors)
     } else {
-        planned(alloc, &mut NoStore, node, moves, options, vectors)
+        planned(&mut NoStore, question, vectors)
     }
 }

@@ -1,17 +1,15 @@
 //! What is found at a root: the front in report order with a plan for each vector, the named card
-//! and the best weight; in memory, or as the text of a report. It builds on `root_workers` for the
+//! and the best weight, as the text of a report. It builds on `root_workers` for the
 //! front, and on `plan_finder` for the plans. Its contract promises the definition's answer and
 //! report, whatever the workers, the table and the gate do, or a root card with too large a tree.
 #![tactic(auto)]
 
-mod answer;
 mod entries;
 mod order;
 mod report;
 mod table;
 mod written;
 
-pub use answer::answer_root;
 pub use entries::planned_over;
 pub use order::reported;
 pub use report::report_text;

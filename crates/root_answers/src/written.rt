@@ -5,6 +5,7 @@ ghost use Rattle.strategy_tree.specs.Bridge.{bridge};
 ghost use Rattle.plan_finder.specs.Targets.{IsOfFront};
 ghost use Rattle.root_workers.specs.Roots.{IsSpentAt, IsFirstSpentAt, AllFit};
 ghost use Rattle.root_workers.specs.Plain.{IsPlain, HasWorkers};
+ghost use Rattle.root_workers.specs.Questions.{IsQuestion};
 ghost use Rattle.root_workers.specs.Rounds.{HasSeenMore};
 ghost use Rattle.shared_table.specs.Passes.{IsPassOf};
 ghost use Rattle.root_answers.specs.EntryTexts.{AreEntriesWritten};
@@ -19,7 +20,7 @@ use card_sets::Card;
 use dd_solver::Solver;
 use front_table::{FrontStore, NoStore};
 use plan_finder::PlanWriter;
-use root_workers::{Options, root_front};
+use root_workers::{Options, Question, root_front};
 use shared_table::{Pass, SharedStore, SharedTable};
 use std::alloc::Global;
 use std::thread::Threads;
@@ -40,81 +41,75 @@ pub struct WrittenAnswer {
 // The lines of these vectors, each with the plan for it. What the plans have in common is found
 // once, and its lines copied.
 fn written<S: FrontStore>(
-    alloc: Global,
     store: &mut S,
-    node: &Node,
-    weights: &Weights,
-    moves: u8,
-    options: &Options,
+    question: &Question,
     vectors: &[WinVector],
 ) -> Result<Text, RootFault>
-    requires ours { bridge.is_ours node.now ≡ true }
-    requires weighed { length weights.now ≡ length node.now.lefts }
-    requires some_moves { 1 ≤ moves }
-    requires few_moves { moves ≤ most_moves }
-    requires targets { All (λ v. IsOfFront node.now moves v) vectors.now }
-    ensures lines { IfOk result (λ lines.
-        AreEntriesWritten node.now weights.now moves vectors.now [] lines) }
-    ensures spent { (card : ℕ) → IsErrOf result (RootFault.Spent card)
-        → IsSpentAt node.now moves options.now.nodes card }
+    requires question { IsQuestion question.now }
+    requires targets { All (λ v. IsOfFront question.now.node.now question.now.moves v)
+        vectors.now }
+    ensures lines { IfOk result (λ lines. AreEntriesWritten question.now.node.now
+        question.now.weights.now question.now.moves vectors.now [] lines) }
+    ensures spent { (card : ℕ) → IsErrOf result (RootFault.Spent card) → IsSpentAt
+        question.now.node.now question.now.moves question.now.options.now.nodes card }
 {
-    let mut solver = Solver::new(alloc);
-    let mut out = PlanWriter::new(alloc);
+    let mut solver = Solver::new(question.alloc);
+    let mut out = PlanWriter::new(question.alloc);
     for vector in vectors {
-        let line = vector_text(alloc, weights, *vector)?;
+        let line = vector_text(question.alloc, question.weights, *vector)?;
         out.push(line.bytes())?;
         out.push_plan(
             store,
             &mut solver,
-            node,
-            moves,
+            question.node,
+            question.moves,
             vector,
-            options.nodes,
-            options.cuts,
+            question.options.nodes,
+            question.options.cuts,
         )?;
     }
-    let lines = Text::from_bytes(alloc, out.bytes())?;
+    let lines = Text::from_bytes(question.alloc, out.bytes())?;
     Ok(lines)
 }
 
-// The lines of these vectors of a node's front with their plans. The plans are found over the table,
-// if the options say so, by a pass that ends with them, together with the fronts that are too wide
-// for a table.
+// The lines of these vectors of the node's front with their plans. The plans are found over the
+// table, if the options say so, by a pass that ends with them, together with the fronts that are too
+// wide for a table.
 fn written_over(
-    alloc: Global,
-    table: &SharedTable,
+    question: &Question,
     pass: &mut Pass,
-    node: &Node,
-    weights: &Weights,
-    moves: u8,
-    options: &Options,
     vectors: &[WinVector],
 ) -> Result<Text, RootFault>
-    requires pass { IsPassOf table.now pass.old }
-    requires ours { bridge.is_ours node.now ≡ true }
-    requires weighed { length weights.now ≡ length node.now.lefts }
-    requires some_moves { 1 ≤ moves }
-    requires few_moves { moves ≤ most_moves }
-    requires targets { All (λ v. IsOfFront node.now moves v) vectors.now }
-    ensures lines { IfOk result (λ lines.
-        AreEntriesWritten node.now weights.now moves vectors.now [] lines) }
-    ensures spent { (card : ℕ) → IsErrOf result (RootFault.Spent card)
-        → IsSpentAt node.now moves options.now.nodes card }
-    ensures pass { IsPassOf table.now pass.new }
+    requires question { IsQuestion question.now }
+    requires pass { IsPassOf question.now.table.now pass.old }
+    requires targets { All (λ v. IsOfFront question.now.node.now question.now.moves v)
+        vectors.now }
+    ensures lines { IfOk result (λ lines. AreEntriesWritten question.now.node.now
+        question.now.weights.now question.now.moves vectors.now [] lines) }
+    ensures spent { (card : ℕ) → IsErrOf result (RootFault.Spent card) → IsSpentAt
+        question.now.node.now question.now.moves question.now.options.now.nodes card }
+    ensures pass { IsPassOf question.now.table.now pass.new }
     ensures grown { HasSeenMore pass.old pass.new }
 {
-    if options.table {
-        let mut own = table.split(pass);
-        let mut store = WideStore::new(alloc, SharedStore::new(table, &mut own));
-        written(alloc, &mut store, node, weights, moves, options, vectors)
+    if question.options.table {
+        let mut own = question.table.split(pass);
+        let mut store = WideStore::new(question.alloc, SharedStore::new(question.table, &mut own));
+        written(&mut store, question, vectors)
     } else {
-        written(alloc, &mut NoStore, node, weights, moves, options, vectors)
+        written(&mut NoStore, question, vectors)
     }
 }
 
-/// What `answer_root` finds, with the vectors and their plans as lines of a report, which are
-/// written as they are found. The workers are joined, so it may wait. `Spent` is as for
-/// `answer_root`.
+/// The answer of a node at which declarer's side is to play, with 1 to 26 moves: the lines of the
+/// vectors of its front and of the plan for each, in report order; the first card after which the
+/// best weight is kept; and that weight, by a weight for each of the node's layouts. The workers,
+/// the gate, the table and the cuts change none of them.
+///
+/// The front is found as `root_front` finds it, and the plans after it, over the same table; their
+/// lines are written as they are found. The workers are joined, so it may wait.
+///
+/// `Spent` names a root card whose tree has more nodes than a search may enter; with neither table
+/// nor cuts the first such card. If there is one, no answer comes then.
 pub fn written_root<R: Threads + Sync, G: Gate>(
     rt: &R,
     alloc: Global,
@@ -146,7 +141,15 @@ pub fn written_root<R: Threads + Sync, G: Gate>(
 {
     let found = root_front(rt, alloc, node, moves, weights, options, table, pass, gate)?;
     let vectors = reported(alloc, node, moves, weights, &found.front)?;
-    let lines = written_over(alloc, table, pass, node, weights, moves, options, &vectors)?;
+    let question = Question {
+        alloc,
+        node,
+        moves,
+        weights,
+        options,
+        table,
+    };
+    let lines = written_over(&question, pass, &vectors)?;
     Ok(WrittenAnswer {
         lines,
         vectors: vectors.len(),

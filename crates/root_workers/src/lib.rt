@@ -18,5 +18,6 @@ mod shared_cards;
 mod worker_results;
 mod workers;
 
+pub use question::Question;
 pub use reports::{CardReport, Outcome, Stored};
 pub use root::{Options, RootCard, RootFront, root_card, root_front};

@@ -8,7 +8,7 @@ use Rattle.job_search.proofs.Spent.{passed_on}
 use Rattle.job_search.proofs.counted.counted_front.Goals as goal
 
 pub root_front-requires-clause-weights : goal.root_front-requires-clause-weights
-root_front-requires-clause-weights g c = λ κs outlives. ap length c.requires.alike ∙ length-replicate (length c.args.asked.now.node.now.lefts) 1
+root_front-requires-clause-weights g c = λ κs outlives. ap length c.requires.alike ∙ length-replicate (length c.args.question.now.node.now.lefts) 1
 
 pub returns-in_err-found-clause-spent : goal.returns-in_err-found-clause-spent
 returns-in_err-found-clause-spent g c = λ card e.
@@ -16,19 +16,19 @@ returns-in_err-found-clause-spent g c = λ card e.
 
 pub count_of-requires : goal.count_of-requires
 count_of-requires g c =
-    let n = c.args.asked.now.node.now in
-    count_small n c.args.asked.now.moves c.in_ok-found.found.weight c.width.ensures.a_node
-    (subst (λ (ws : List ℕ). IsBestWeight bridge ws n c.args.asked.now.moves c.in_ok-found.found.weight) c.requires.alike c.in_ok-found.ensures.weight)
+    let n = c.args.question.now.node.now in
+    count_small n c.args.question.now.moves c.in_ok-found.found.weight c.width.ensures.a_node
+    (subst (λ (ws : List ℕ). IsBestWeight bridge ws n c.args.question.now.moves c.in_ok-found.found.weight) c.requires.alike c.in_ok-found.ensures.weight)
 
 pub returns-clause-count : goal.returns-clause-count
 returns-clause-count g c =
-    let n = c.args.asked.now.node.now in
-    subst (λ (k : ℕ). IsBestCount bridge n c.args.asked.now.moves k) (sym c.count_of.ensures)
-    (count_is n c.args.asked.now.moves c.in_ok-found.found.weight
-    (subst (λ (ws : List ℕ). IsBestWeight bridge ws n c.args.asked.now.moves c.in_ok-found.found.weight) c.requires.alike c.in_ok-found.ensures.weight))
+    let n = c.args.question.now.node.now in
+    subst (λ (k : ℕ). IsBestCount bridge n c.args.question.now.moves k) (sym c.count_of.ensures)
+    (count_is n c.args.question.now.moves c.in_ok-found.found.weight
+    (subst (λ (ws : List ℕ). IsBestWeight bridge ws n c.args.question.now.moves c.in_ok-found.found.weight) c.requires.alike c.in_ok-found.ensures.weight))
 
 pub returns-clause-card : goal.returns-clause-card
 returns-clause-card g c =
-    let n = c.args.asked.now.node.now in
-    card_is n c.args.asked.now.moves c.in_ok-found.found.card c.width.ensures.a_node c.requires.ours
-    (subst (λ (ws : List ℕ). IsNamedByWeight bridge ws n c.args.asked.now.moves c.in_ok-found.found.card) c.requires.alike c.in_ok-found.ensures.card)
+    let n = c.args.question.now.node.now in
+    card_is n c.args.question.now.moves c.in_ok-found.found.card c.width.ensures.a_node c.requires.ours
+    (subst (λ (ws : List ℕ). IsNamedByWeight bridge ws n c.args.question.now.moves c.in_ok-found.found.card) c.requires.alike c.in_ok-found.ensures.card)

@@ -11,13 +11,13 @@ use Rattle.job_search.proofs.first.first_entry.Goals as goal
 pub slice_bounds-planned_over-end : goal.slice_bounds-planned_over-end
 slice_bounds-planned_over-end c =
     let filled : 1 ≤ length c.deref.result.now = subst (λ (vs : List Vector). 1 ≤ length vs) (sym c.deref.ensures.value)
-    (reported_filled c.args.asked.now.node.now c.args.asked.now.weights.now c.args.asked.now.moves c.in_ok-vectors.vectors.items c.width.ensures.a_node c.in_ok-vectors.ensures) in
+    (reported_filled c.args.question.now.node.now c.args.question.now.weights.now c.args.question.now.moves c.in_ok-vectors.vectors.items c.width.ensures.a_node c.in_ok-vectors.ensures) in
     omega (arith, length-take-le 1 c.deref.result.now filled)
 
 pub planned_over-requires-clause-targets : goal.planned_over-requires-clause-targets
 planned_over-requires-clause-targets c =
-    first_one (λ (v : Vector). IsOfFront c.args.asked.now.node.now c.args.asked.now.moves v) c.deref.result.now
-    (targets c.args.asked.now.node.now c.args.asked.now.weights.now c.args.asked.now.moves c.in_ok-vectors.vectors.items c.deref.result.now c.deref.ensures.value c.in_ok-vectors.ensures)
+    first_one (λ (v : Vector). IsOfFront c.args.question.now.node.now c.args.question.now.moves v) c.deref.result.now
+    (targets c.args.question.now.node.now c.args.question.now.weights.now c.args.question.now.moves c.in_ok-vectors.vectors.items c.deref.result.now c.deref.ensures.value c.in_ok-vectors.ensures)
 
 pub returns-in_err-entries-clause-spent : goal.returns-in_err-entries-clause-spent
 returns-in_err-entries-clause-spent c = λ card e.
@@ -26,6 +26,6 @@ returns-in_err-entries-clause-spent c = λ card e.
 pub swap_remove-requires : goal.swap_remove-requires
 swap_remove-requires c =
     let filled : 1 ≤ length c.deref.result.now = subst (λ (vs : List Vector). 1 ≤ length vs) (sym c.deref.ensures.value)
-    (reported_filled c.args.asked.now.node.now c.args.asked.now.weights.now c.args.asked.now.moves c.in_ok-vectors.vectors.items c.width.ensures.a_node c.in_ok-vectors.ensures) in
-    let some = one_planned c.args.asked.now.node.now c.args.asked.now.moves c.deref.result.now c.in_ok-entries.entries.items filled c.in_ok-entries.ensures.planned in
+    (reported_filled c.args.question.now.node.now c.args.question.now.weights.now c.args.question.now.moves c.in_ok-vectors.vectors.items c.width.ensures.a_node c.in_ok-vectors.ensures) in
+    let some = one_planned c.args.question.now.node.now c.args.question.now.moves c.deref.result.now c.in_ok-entries.entries.items filled c.in_ok-entries.ensures.planned in
     omega (arith, some, c.in_ok-entries.entries.ok)

@@ -4,6 +4,6 @@ use Rattle.root_answers.proofs.entries.planned.Given as goal
 
 abbrev pub invariant-loop-vector : goal.invariant-loop-vector
 invariant-loop-vector g l = record {
-  planned : ArePlanned l.node l.moves (take l.vector-index l.vectors) l.entries.items;
+  planned : ArePlanned l.question.node.now l.question.moves (take l.vector-index l.vectors) l.entries.items;
   grown : g.S.FrontStore.grown l.fn.store l.store;
 }

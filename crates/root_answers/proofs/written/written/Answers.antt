@@ -11,17 +11,17 @@ use Rattle.root_answers.proofs.written.written.Goals as goal
 
 pub loop-vector-init : goal.loop-vector-init
 loop-vector-init g c =
-    subst (λ (text : List ℕ). AreEntriesWritten c.args.node.now c.args.weights.now c.args.moves (take 0 c.args.vectors.now) [] text) (sym c.new-out.ensures)
-    (none_written c.args.node.now c.args.weights.now c.args.moves c.args.vectors.now [])
+    subst (λ (text : List ℕ). AreEntriesWritten c.args.question.now.node.now c.args.question.now.weights.now c.args.question.now.moves (take 0 c.args.vectors.now) [] text) (sym c.new-out.ensures)
+    (none_written c.args.question.now.node.now c.args.question.now.weights.now c.args.question.now.moves c.args.vectors.now [])
 
 pub vector_text-requires : goal.vector_text-requires
 vector_text-requires g c =
-    let target = target_here c.args.node.now c.args.moves c.args.vectors.now c.loop-vector.vector-index c.vector-item.result c.requires.targets c.loop-vector-test.true c.vector-item.is in
-    c.requires.weighed ∙ sym (length-of_front c.args.node.now c.args.moves c.vector-item.result target)
+    let target = target_here c.args.question.now.node.now c.args.question.now.moves c.args.vectors.now c.loop-vector.vector-index c.vector-item.result c.requires.targets c.loop-vector-test.true c.vector-item.is in
+    c.requires.question.weights ∙ sym (length-of_front c.args.question.now.node.now c.args.question.now.moves c.vector-item.result target)
 
 pub push_plan-requires-clause-target : goal.push_plan-requires-clause-target
 push_plan-requires-clause-target g c =
-    target_here c.args.node.now c.args.moves c.args.vectors.now c.loop-vector.vector-index c.vector-item.result c.requires.targets c.loop-vector-test.true c.vector-item.is
+    target_here c.args.question.now.node.now c.args.question.now.moves c.args.vectors.now c.loop-vector.vector-index c.vector-item.result c.requires.targets c.loop-vector-test.true c.vector-item.is
 
 pub returns-in_err-push_plan-clause-spent : goal.returns-in_err-push_plan-clause-spent
 returns-in_err-push_plan-clause-spent g c = λ card e.
@@ -30,12 +30,12 @@ returns-in_err-push_plan-clause-spent g c = λ card e.
 
 pub loop-vector-preserved : goal.loop-vector-preserved
 loop-vector-preserved g c =
-    one_more_written c.args.node.now c.args.weights.now c.args.moves c.args.vectors.now c.loop-vector.vector-index c.vector-item.result [] c.loop-vector.out c.push.new.self c.push_plan.new.self
+    one_more_written c.args.question.now.node.now c.args.question.now.weights.now c.args.question.now.moves c.args.vectors.now c.loop-vector.vector-index c.vector-item.result [] c.loop-vector.out c.push.new.self c.push_plan.new.self
     c.loop-vector.invariant c.loop-vector-test.true c.vector-item.is (c.in_ok-push.ensures ∙ ap (λ (text : List ℕ). c.loop-vector.out ++ text) (c.bytes.ensures ∙ c.in_ok-line.ensures)) c.in_ok-push_plan.ensures.plan
 
 pub returns-clause-lines : goal.returns-clause-lines
 returns-clause-lines g c =
-    let n = c.args.node.now in
+    let n = c.args.question.now.node.now in
     let whole : take c.loop-vector.vector-index c.args.vectors.now ≡ c.args.vectors.now = take_all c.loop-vector.vector-index c.args.vectors.now (omega (arith, c.loop-vector-test.false)) in
-    subst (λ (lines : List ℕ). AreEntriesWritten n c.args.weights.now c.args.moves c.args.vectors.now [] lines) (sym (c.in_ok-lines.ensures ∙ c.bytes-2.ensures))
-    (subst (λ (vs : List Vector). AreEntriesWritten n c.args.weights.now c.args.moves vs [] c.loop-vector.out) whole c.loop-vector.invariant)
+    subst (λ (lines : List ℕ). AreEntriesWritten n c.args.question.now.weights.now c.args.question.now.moves c.args.vectors.now [] lines) (sym (c.in_ok-lines.ensures ∙ c.bytes-2.ensures))
+    (subst (λ (vs : List Vector). AreEntriesWritten n c.args.question.now.weights.now c.args.question.now.moves vs [] c.loop-vector.out) whole c.loop-vector.invariant)
