@@ -29,6 +29,13 @@ module _ (n : NodeValue) (left : List ℕ) where
   abbrev pub makes_after : ℕ → Bool
   makes_after card = makes (after (record { position = n.position; left = left }) card)
 
+  -- a result in the position after the card
+  pub makes_there : (card : ℕ) (made : Bool) (before table : PositionValue) (hand : List ℕ) → made ≡ makes (record { position = table; left = hand })
+      → table ≡ after_card before card → before ≡ n.position → hand ≡ take_out card left → made ≡ makes_after card
+  makes_there card made before table hand is table_is before_is hand_is =
+      is ∙ ap (λ (t : PositionValue). makes (record { position = t; left = hand })) (table_is ∙ ap (λ (t : PositionValue). after_card t card) before_is)
+      ∙ ap (λ (h : List ℕ). makes (record { position = after_card n.position card; left = h })) hand_is
+
   pub legal_here : IsNode n → is_declarers (to_play n.position) ≡ true → (card : ℕ) → has_card (choices n) card ≡ true → has_card (legal_in (record { position = n.position; left = left })) card ≡ true
   legal_here sound ours card choice = legal_from n.position n.lefts card left sound.some ours (our_choices_are_legal_everywhere n card ours choice)
 

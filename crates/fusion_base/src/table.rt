@@ -1,4 +1,4 @@
-//! The table of a root: a line for each card.
+//! The table of plain sampling, which the αμ papers call PIMC: a line for each card of a root.
 ghost use Rattle.std.specs.Prelude.{◌≡◌, true, false, map, IfOk};
 ghost use Rattle.card_sets.specs.SetWords.{has_card};
 ghost use Rattle.trick_rules.specs.Positions.{to_play, FitsLeft};

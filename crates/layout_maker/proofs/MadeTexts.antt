@@ -1,9 +1,9 @@
 -- The bytes of a deal that is written: what all of them pass, and how many there are at most.
-use Rattle.std.proofs.Common.{◌≡◌, ℕ, ◌+◌, ◌≤◌, Bool, true, false, cond, List, [], ◌∷◌, ◌++◌, length, filter, Option, Some, None, refl, ap, ◌∙◌, arith}
+use Rattle.std.proofs.Common.{◌≡◌, ℕ, ◌+◌, ◌≤◌, Bool, true, List, [], ◌∷◌, ◌++◌, length, filter, Option, Some, None, refl, ap, ◌∙◌, arith}
 use Rattle.std.specs.List.{list_all, join_with_byte}
-use Rattle.std.proofs.lemmas.Bool.{and_parts, and_from}
+use Rattle.std.proofs.lemmas.Bool.{and_from}
 use Rattle.std.proofs.lemmas.List.{length-append, length-map}
-use Rattle.std.proofs.lemmas.List.Folds.{list_all-append, list_all-map}
+use Rattle.std.proofs.lemmas.List.Folds.{list_all-append}
 use Rattle.std.proofs.lemmas.List.Sums.{length-filter, count_by-le-length}
 use Rattle.card_sets.specs.declared.card.Suit.{Suit}
 use Rattle.card_sets.specs.declared.card.Suit.TheVariants.{Spades, Hearts, Diamonds, Clubs}
@@ -11,23 +11,10 @@ use Rattle.card_sets.specs.Cards.{card_of}
 use Rattle.card_sets.specs.SetWords.{has_card}
 use Rattle.card_letters.specs.Letters.{rank_letter}
 use Rattle.pbn_deal.specs.Writing.{ranks_down, suit_text, shown_text, hands_text, deal_text}
+use Rattle.pbn_deal.proofs.ReadBack.{suit_text-passes}
 use Rattle.pbn_deal.proofs.Written.{hand_text-joined, hands_text-joined}
 
 -- ---- each byte passes
-
-all_filter : (q t : ℕ → Bool) (xs : List ℕ) → list_all q xs ≡ true → list_all q (filter t xs) ≡ true
-all_filter q t [] each = refl
-all_filter q t (x ∷ xs) each =
-    let parts = and_parts (q x) (list_all q xs) each in
-    kept (t x) parts.0 (all_filter q t xs parts.1) where
-      kept : (b : Bool) → q x ≡ true → list_all q (filter t xs) ≡ true → list_all q (cond b (x ∷ filter t xs) (filter t xs)) ≡ true
-      kept true one rest = and_from (q x) (list_all q (filter t xs)) one rest
-      kept false one rest = rest
-
-suit_text-passes : (q : ℕ → Bool) (cards : List ℕ) (suit : Suit) → list_all (λ rank. q (rank_letter rank)) ranks_down ≡ true → list_all q (suit_text cards suit) ≡ true
-unfolding suit_text
-suit_text-passes q cards suit each =
-    list_all-map q rank_letter (filter (λ rank. has_card cards (card_of suit rank)) ranks_down) ∙ all_filter (λ rank. q (rank_letter rank)) (λ rank. has_card cards (card_of suit rank)) ranks_down each
 
 joined-passes : (q : ℕ → Bool) (separator : ℕ) (a b c d : List ℕ) → q separator ≡ true → list_all q a ≡ true → list_all q b ≡ true → list_all q c ≡ true → list_all q d ≡ true
     → list_all q (join_with_byte separator (a ∷ b ∷ c ∷ d ∷ [])) ≡ true

@@ -42,18 +42,12 @@ is_plain_item (quoted characters) = list_all is_line_byte characters
 is_plain_item (comment text) = list_all is_comment_byte text
 
 abbrev pub is_word : PlainItem → Bool
-is_word (blank byte) = false
-is_word (tag_pair tag) = false
 is_word (word text) = true
-is_word (quoted characters) = false
-is_word (comment text) = false
+is_word _ = false
 
 abbrev pub is_blank_item : PlainItem → Bool
 is_blank_item (blank byte) = true
-is_blank_item (tag_pair tag) = false
-is_blank_item (word text) = false
-is_blank_item (quoted characters) = false
-is_blank_item (comment text) = false
+is_blank_item _ = false
 
 -- no word follows another at once
 abbrev pub are_apart : List PlainItem → Bool

@@ -69,33 +69,23 @@ fn what_is_read_is_written_again(rt: HostRuntime) -> Result<(), Fail> {
 fn a_text_that_breaks_off_is_named_by_its_next_line(rt: HostRuntime) -> Result<(), Fail> {
     let alloc = rt.alloc();
     assert_eq!(rt; fault_line(alloc, QUEEN_LOG.as_bytes()), None);
-    // Without the last line end, without the last line, and without all lines.
-    assert_eq!(rt;
-        fault_line(alloc, b"alphamu log 1\nleaf - 0 - 1\nend"),
-        Some(3)
-    );
-    assert_eq!(rt;
-        fault_line(alloc, b"alphamu log 1\nleaf - 0 - 1\n"),
-        Some(3)
-    );
-    assert_eq!(rt; fault_line(alloc, b"alphamu log 1\nleaf - 0 - 1"), Some(2));
-    assert_eq!(rt; fault_line(alloc, b"alphamu log 1\n"), Some(2));
-    assert_eq!(rt; fault_line(alloc, b"alphamu log 1"), Some(1));
-    assert_eq!(rt; fault_line(alloc, b""), Some(1));
-    // No line of the log, another version, and bytes behind the end.
-    assert_eq!(rt; fault_line(alloc, b"alphamu log 1\nend\n"), Some(2));
-    assert_eq!(rt;
-        fault_line(alloc, b"alphamu log 2\nleaf - 0 - 1\nend\n"),
-        Some(1)
-    );
-    assert_eq!(rt;
-        fault_line(alloc, b"alphamu log 1\nleaf - 0 - 1\nend\n\n"),
-        Some(4)
-    );
-    assert_eq!(rt;
-        fault_line(alloc, b"alphamu log 1\nleaf - 0 - 1\nend\nend\n"),
-        Some(4)
-    );
+    let broken = [
+        // Without the last line end, without the last line, and without all lines.
+        ("alphamu log 1\nleaf - 0 - 1\nend", 3),
+        ("alphamu log 1\nleaf - 0 - 1\n", 3),
+        ("alphamu log 1\nleaf - 0 - 1", 2),
+        ("alphamu log 1\n", 2),
+        ("alphamu log 1", 1),
+        ("", 1),
+        // No line of the log, another version, and bytes behind the end.
+        ("alphamu log 1\nend\n", 2),
+        ("alphamu log 2\nleaf - 0 - 1\nend\n", 1),
+        ("alphamu log 1\nleaf - 0 - 1\nend\n\n", 4),
+        ("alphamu log 1\nleaf - 0 - 1\nend\nend\n", 4),
+    ];
+    for (text, line) in broken {
+        assert_eq!(rt; fault_line(alloc, text.as_bytes()), Some(line), "{text}");
+    }
     Ok(())
 }
 

@@ -3,35 +3,16 @@ use front_table::{FrontStore, Look, ProvenFront, Put};
 use pareto_fronts::Front;
 use trick_rules::Node;
 
-/// Misses always, and keeps nothing.
+/// A store in which nothing is ever found or kept.
 #[derive(Drop)]
-pub struct Forgetful;
-
-impl FrontStore for Forgetful {
-    ghost use Rattle.std.specs.Prelude.{⊤, false};
-
-    ghost blind = { false };
-
-    ghost grown = { λ _ _. ⊤ };
-
-    ghost grown_none = { λ _. tt };
-
-    ghost grown_more = { λ _ _ _ _ _. tt };
-
-    fn look(&mut self, _node: &Node, _moves: u8, _out: &mut Front) -> Look {
-        Look::Miss
-    }
-
-    fn put(&mut self, entry: ProvenFront) -> Put {
-        Put::Full(entry)
-    }
+pub enum Idle {
+    /// It misses always, and is full.
+    Forgetful,
+    /// Somebody else is always inside.
+    AlwaysBusy,
 }
 
-/// Somebody else is always inside.
-#[derive(Drop)]
-pub struct AlwaysBusy;
-
-impl FrontStore for AlwaysBusy {
+impl FrontStore for Idle {
     ghost use Rattle.std.specs.Prelude.{⊤, false};
 
     ghost blind = { false };
@@ -43,10 +24,16 @@ impl FrontStore for AlwaysBusy {
     ghost grown_more = { λ _ _ _ _ _. tt };
 
     fn look(&mut self, _node: &Node, _moves: u8, _out: &mut Front) -> Look {
-        Look::Busy
+        match self {
+            Idle::Forgetful => Look::Miss,
+            Idle::AlwaysBusy => Look::Busy,
+        }
     }
 
     fn put(&mut self, entry: ProvenFront) -> Put {
-        Put::Busy(entry)
+        match self {
+            Idle::Forgetful => Put::Full(entry),
+            Idle::AlwaysBusy => Put::Busy(entry),
+        }
     }
 }

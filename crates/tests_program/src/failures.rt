@@ -1,5 +1,5 @@
 //! Reads and writes that fail.
-use crate::queen::{QUEEN, QUEEN_LAYOUTS, QUEEN_REPORT, shelf_of, status_of, words_of};
+use crate::queen::{QUEEN, QUEEN_LAYOUTS, QUEEN_REPORT, Sinks, ended, shelf_of, words_of};
 use am_outside::{MemorySink, OpenGate};
 use am_top::{FileWord, PbnKind, Status};
 use byte_text::Text;
@@ -23,12 +23,9 @@ fn failing_reads_end_a_run(rt: HostRuntime) -> Result<(), Fail> {
         let mut shelf = shelf_of(alloc, QUEEN, QUEEN_LAYOUTS)?;
         shelf.add("report", QUEEN_REPORT.as_bytes())?;
         shelf.fail_at(call)?;
-        let mut out = MemorySink::new(alloc, 1000, 0)?;
-        let mut err = MemorySink::new(alloc, 100, 0)?;
-        let status = status_of(
-            &rt, alloc, &words, &mut shelf, &mut out, &mut err, &OpenGate,
-        )?;
-        assert!(rt; status == Status::Unread(file) && out.bytes().is_empty());
+        let mut sinks = Sinks::new(alloc)?;
+        let (status, _) = ended(&rt, alloc, &words, &mut shelf, &mut sinks, &OpenGate)?;
+        assert!(rt; status == Status::Unread(file) && sinks.out.bytes().is_empty());
     }
     Ok(())
 }
@@ -38,20 +35,22 @@ fn failing_reads_end_a_run(rt: HostRuntime) -> Result<(), Fail> {
 fn leaves<R: Threads + Sync>(
     rt: &R,
     alloc: Global,
-    mut out: MemorySink,
+    out: MemorySink,
     status: Status,
     written: &[u8],
 ) -> Result<bool, AllocError> {
     let words = words_of(alloc, SOLVE)?;
     let mut shelf = shelf_of(alloc, QUEEN, QUEEN_LAYOUTS)?;
-    let mut err = MemorySink::new(alloc, 100, 0)?;
-    let ended = status_of(rt, alloc, &words, &mut shelf, &mut out, &mut err, &OpenGate)?;
+    let err = MemorySink::new(alloc, 100, 0)?;
+    let mut sinks = Sinks { out, err };
+    let (end, _) = ended(rt, alloc, &words, &mut shelf, &mut sinks, &OpenGate)?;
     let line = if status == Status::Done {
         ""
     } else {
         "alphamu: cannot write\n"
     };
-    Ok(ended == status && out.bytes() == written && err.bytes() == line.as_bytes())
+    let Sinks { out, err } = sinks;
+    Ok(end == status && out.bytes() == written && err.bytes() == line.as_bytes())
 }
 
 #[test]
@@ -75,12 +74,12 @@ fn a_failing_line_changes_no_status(rt: HostRuntime) -> Result<(), Fail> {
     let alloc = rt.alloc();
     let words = words_of(alloc, SOLVE)?;
     let mut shelf = shelf_of(alloc, "", QUEEN_LAYOUTS)?;
-    let mut out = MemorySink::new(alloc, 1000, 0)?;
-    let mut err = MemorySink::new(alloc, 100, 1)?;
-    let status = status_of(
-        &rt, alloc, &words, &mut shelf, &mut out, &mut err, &OpenGate,
-    )?;
-    assert!(rt; status == Status::BadPbn(1, PbnKind::NoGame) && out.bytes().is_empty());
-    assert!(rt; err.bytes().is_empty());
+    let mut sinks = Sinks {
+        out: MemorySink::new(alloc, 1000, 0)?,
+        err: MemorySink::new(alloc, 100, 1)?,
+    };
+    let (status, _) = ended(&rt, alloc, &words, &mut shelf, &mut sinks, &OpenGate)?;
+    assert!(rt; status == Status::BadPbn(1, PbnKind::NoGame) && sinks.out.bytes().is_empty());
+    assert!(rt; sinks.err.bytes().is_empty());
     Ok(())
 }

@@ -1,8 +1,8 @@
 //! What the defenders at the table have heard of a match. The cards were worked out by the laws of
 //! bridge, apart from the program.
-use crate::queen::{QUEEN, QUEEN_LAYOUTS, ended, shelf_of, words_of};
+use crate::queen::{QUEEN, QUEEN_LAYOUTS, Sinks, ended, shelf_of, words_of};
 use am_match::Defender;
-use am_outside::{MemorySink, OpenGate};
+use am_outside::OpenGate;
 use am_top::Status;
 use card_sets::{Card, Rank, Suit};
 use std::process::Abort;
@@ -31,11 +31,8 @@ fn both_who_sit_have_heard_the_cards(rt: HostRuntime) -> Result<(), Fail> {
         "--job match --deal deal --layouts layouts --moves 2 --layout 2 --switch 4",
     )?;
     let mut shelf = shelf_of(alloc, QUEEN, QUEEN_LAYOUTS)?;
-    let mut out = MemorySink::new(alloc, 1000, 0)?;
-    let mut err = MemorySink::new(alloc, 100, 0)?;
-    let (status, table) = ended(
-        &rt, alloc, &words, &mut shelf, &mut out, &mut err, &OpenGate,
-    )?;
+    let mut sinks = Sinks::new(alloc)?;
+    let (status, table) = ended(&rt, alloc, &words, &mut shelf, &mut sinks, &OpenGate)?;
     assert!(rt; status == Status::Done && table.len() == 2);
     assert_heard(&rt, &table[0]);
     assert_heard(&rt, &table[1]);

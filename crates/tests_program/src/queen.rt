@@ -77,10 +77,28 @@ pub fn ran_at<R: Threads + Sync, G: Gate>(
     gate: &G,
 ) -> Result<Run, AllocError> {
     let words = words_of(alloc, text)?;
-    let mut out = MemorySink::new(alloc, 10_000, 0)?;
-    let mut err = MemorySink::new(alloc, 100, 0)?;
-    let status = status_of(rt, alloc, &words, shelf, &mut out, &mut err, gate)?;
+    let mut sinks = Sinks::new(alloc)?;
+    let (status, _) = ended(rt, alloc, &words, shelf, &mut sinks, gate)?;
+    let Sinks { out, err } = sinks;
     Ok(Run { status, out, err })
+}
+
+/// Where a run writes its output and its error line.
+#[derive(Drop)]
+pub struct Sinks {
+    pub out: MemorySink,
+    pub err: MemorySink,
+}
+
+impl Sinks {
+    /// Ample room for output, and for an error line.
+    /// No clause, as at `Run::ends_with`.
+    pub fn new(alloc: Global) -> Result<Sinks, AllocError> {
+        Ok(Sinks {
+            out: MemorySink::new(alloc, 10_000, 0)?,
+            err: MemorySink::new(alloc, 100, 0)?,
+        })
+    }
 }
 
 /// How the words end, and the defenders then at a table of two who play low and a third who plays
@@ -91,31 +109,17 @@ pub fn ended<R: Threads + Sync, G: Gate>(
     alloc: Global,
     words: &[String],
     shelf: &mut MemoryShelf,
-    out: &mut MemorySink,
-    err: &mut MemorySink,
+    sinks: &mut Sinks,
     gate: &G,
 ) -> Result<(Status, Vec<Box<dyn Defender>>), AllocError> {
     let mut table: Vec<Box<dyn Defender>> = Vec::new(alloc);
     table.push(Box::new(alloc, LowCard::new())?)?;
     table.push(Box::new(alloc, LowCard::new())?)?;
     table.push(Box::new(alloc, HighCard::new())?)?;
+    let out = &mut sinks.out;
+    let err = &mut sinks.err;
     let status = run(rt, alloc, words, shelf, out, err, gate, &mut table);
     Ok((status, table))
-}
-
-/// How the words end at such a table.
-/// No clause, as at `Run::ends_with`.
-pub fn status_of<R: Threads + Sync, G: Gate>(
-    rt: &R,
-    alloc: Global,
-    words: &[String],
-    shelf: &mut MemoryShelf,
-    out: &mut MemorySink,
-    err: &mut MemorySink,
-    gate: &G,
-) -> Result<Status, AllocError> {
-    let (status, _) = ended(rt, alloc, words, shelf, out, err, gate)?;
-    Ok(status)
 }
 
 #[test]

@@ -78,6 +78,12 @@ fn front_of(rt: &impl Abort, alloc: Global, bits: &[[bool; 2]]) -> Result<Front,
     Ok(front)
 }
 
+/// What may spare a search some nodes: the vectors that are won before it, and the rules.
+struct Cuts<'a> {
+    alpha: &'a Front,
+    rules: CutRules,
+}
+
 /// How many nodes a search enters, and whether it finds the front.
 fn entered<S: FrontStore>(
     rt: &impl Abort,
@@ -85,33 +91,36 @@ fn entered<S: FrontStore>(
     store: &mut S,
     node: &Node,
     moves: u8,
-    alpha: &Front,
-    rules: CutRules,
+    cuts: Cuts<'_>,
 ) -> (u64, bool) {
+    let Cuts { alpha, rules } = cuts;
     assert!(rt; alpha.width() == node.width() && moves <= 26);
-    let mut budget = Budget::new(1000);
-    let mut solver = Solver::new(alloc);
-    match search(
-        alloc,
-        store,
-        &mut solver,
-        &mut budget,
-        node,
-        moves,
-        alpha,
-        rules,
-    ) {
+    let budget = &mut Budget::new(1000);
+    let solver = &mut Solver::new(alloc);
+    match search(alloc, store, solver, budget, node, moves, alpha, rules) {
         Ok(Found::Exact(_)) => (budget.entered().count(), true),
         Ok(Found::Below) => (budget.entered().count(), false),
         Err(_) => panic!(rt; "the search ended with no answer"),
     }
 }
 
-/// The same with each cut, and with neither a store nor anything won before.
+/// The same with each cut, after these vectors were won.
+fn after_alpha<S: FrontStore>(
+    rt: &impl Abort,
+    alloc: Global,
+    store: &mut S,
+    node: &Node,
+    moves: u8,
+    alpha: &Front,
+) -> (u64, bool) {
+    let rules = CutRules::all(Stop::Never);
+    entered(rt, alloc, store, node, moves, Cuts { alpha, rules })
+}
+
+/// The same with neither a store nor anything won before.
 fn with_cuts(rt: &impl Abort, alloc: Global, node: &Node, moves: u8) -> (u64, bool) {
     let none = Front::new(alloc, node.width());
-    let rules = CutRules::all(Stop::Never);
-    entered(rt, alloc, &mut NoStore, node, moves, &none, rules)
+    after_alpha(rt, alloc, &mut NoStore, node, moves, &none)
 }
 
 /// The same with no cuts, over a store.
@@ -122,8 +131,9 @@ fn over<S: FrontStore>(
     node: &Node,
     moves: u8,
 ) -> (u64, bool) {
-    let none = Front::new(alloc, node.width());
-    entered(rt, alloc, store, node, moves, &none, CutRules::none())
+    let alpha = &Front::new(alloc, node.width());
+    let rules = CutRules::none();
+    entered(rt, alloc, store, node, moves, Cuts { alpha, rules })
 }
 
 // After S7 declarer wins one layout or the other, so that the two vectors of alpha cover what is
@@ -133,8 +143,7 @@ fn early_cut(rt: HostRuntime) -> Result<(), Fail> {
     let alloc = rt.alloc();
     let node = after(&rt, alloc, &guess(&rt, alloc)?, 0)?;
     let alpha = front_of(&rt, alloc, &[[true, false], [false, true]])?;
-    let rules = CutRules::all(Stop::Never);
-    let found = entered(&rt, alloc, &mut NoStore, &node, 1, &alpha, rules);
+    let found = after_alpha(&rt, alloc, &mut NoStore, &node, 1, &alpha);
     assert_eq!(rt; found, (4, false));
     Ok(())
 }
@@ -146,8 +155,7 @@ fn cut_by_double_dummy(rt: HostRuntime) -> Result<(), Fail> {
     let alloc = rt.alloc();
     let node = after(&rt, alloc, &guess(&rt, alloc)?, 0)?;
     let alpha = front_of(&rt, alloc, &[[true, true]])?;
-    let rules = CutRules::all(Stop::Never);
-    let found = entered(&rt, alloc, &mut NoStore, &node, 1, &alpha, rules);
+    let found = after_alpha(&rt, alloc, &mut NoStore, &node, 1, &alpha);
     assert_eq!(rt; found, (1, false));
     Ok(())
 }
@@ -161,8 +169,7 @@ fn cut_by_fewer_moves(rt: HostRuntime) -> Result<(), Fail> {
     let mut store = LocalStore::new(alloc, 64);
     assert_eq!(rt; over(&rt, alloc, &mut store, &node, 1), (10, true));
     let alpha = front_of(&rt, alloc, &[[true, false], [false, true]])?;
-    let rules = CutRules::all(Stop::Never);
-    let found = entered(&rt, alloc, &mut store, &node, 2, &alpha, rules);
+    let found = after_alpha(&rt, alloc, &mut store, &node, 2, &alpha);
     assert_eq!(rt; found, (1, false));
     Ok(())
 }

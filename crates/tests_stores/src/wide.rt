@@ -24,20 +24,11 @@ fn front_over<S: FrontStore>(
 ) -> Result<Front, SearchFault>
     ensures { IfOk result (IsFrontAt node.now 3) }
 {
-    let alpha = Front::new(alloc, node.width());
-    let mut budget = Budget::new(nodes);
-    let mut solver = Solver::new(alloc);
+    let alpha = &Front::new(alloc, node.width());
+    let budget = &mut Budget::new(nodes);
+    let solver = &mut Solver::new(alloc);
     let rules = CutRules::all(Stop::Never);
-    match search(
-        alloc,
-        store,
-        &mut solver,
-        &mut budget,
-        node,
-        3,
-        &alpha,
-        rules,
-    )? {
+    match search(alloc, store, solver, budget, node, 3, alpha, rules)? {
         Found::Exact(front) => Ok(front),
         Found::Below => unreachable!(),
     }

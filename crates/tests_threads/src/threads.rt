@@ -9,6 +9,7 @@ use crate::tables::{entry_of, room_for};
 use front_table::{Look, Put};
 use shared_table::{ClosedTable, Pass, ShardEnd, SharedTable};
 use std::alloc::{AllocError, Global};
+use std::process::Abort;
 use std::test::Fail;
 use std::thread;
 use std::thread::Threads;
@@ -161,52 +162,46 @@ fn entries_of(closed: &ClosedTable) -> usize {
     total
 }
 
-#[test]
-fn two_threads_on_one_shard(rt: HostRuntime) -> Result<(), Fail> {
-    let alloc = rt.alloc();
-    let node = after_two(&rt, alloc)?;
-    let (table, pass) = SharedTable::new(alloc, 1, 64)?;
-    let pass = put_by_two(&rt, alloc, &table, pass, &node);
+// Fails if a table with this many shards hasn't each entry once, after two threads have put all of
+// them, or eight have.
+fn assert_kept_once<R: Threads + Abort + Sync>(
+    rt: &R,
+    alloc: Global,
+    shards: u32,
+    eight: bool,
+) -> Result<(), Fail> {
+    assert!(rt; 1 <= shards && shards <= 64);
+    let node = after_two(rt, alloc)?;
+    let (table, pass) = SharedTable::new(alloc, shards, 64)?;
+    let pass = if eight {
+        put_by_eight(rt, alloc, &table, pass, &node)
+    } else {
+        put_by_two(rt, alloc, &table, pass, &node)
+    };
     let mut pass = put_all(alloc, &table, pass, &node);
     assert_eq!(rt; found(alloc, &table, &mut pass, &node)?, 8);
     assert_eq!(rt; entries_of(&table.close(&mut pass)?), 8);
     Ok(())
+}
+
+#[test]
+fn two_threads_on_one_shard(rt: HostRuntime) -> Result<(), Fail> {
+    assert_kept_once(&rt, rt.alloc(), 1, false)
 }
 
 #[test]
 fn two_threads_on_many_shards(rt: HostRuntime) -> Result<(), Fail> {
-    let alloc = rt.alloc();
-    let node = after_two(&rt, alloc)?;
-    let (table, pass) = SharedTable::new(alloc, 16, 64)?;
-    let pass = put_by_two(&rt, alloc, &table, pass, &node);
-    let mut pass = put_all(alloc, &table, pass, &node);
-    assert_eq!(rt; found(alloc, &table, &mut pass, &node)?, 8);
-    assert_eq!(rt; entries_of(&table.close(&mut pass)?), 8);
-    Ok(())
+    assert_kept_once(&rt, rt.alloc(), 16, false)
 }
 
 #[test]
 fn eight_threads_on_one_shard(rt: HostRuntime) -> Result<(), Fail> {
-    let alloc = rt.alloc();
-    let node = after_two(&rt, alloc)?;
-    let (table, pass) = SharedTable::new(alloc, 1, 64)?;
-    let pass = put_by_eight(&rt, alloc, &table, pass, &node);
-    let mut pass = put_all(alloc, &table, pass, &node);
-    assert_eq!(rt; found(alloc, &table, &mut pass, &node)?, 8);
-    assert_eq!(rt; entries_of(&table.close(&mut pass)?), 8);
-    Ok(())
+    assert_kept_once(&rt, rt.alloc(), 1, true)
 }
 
 #[test]
 fn eight_threads_on_many_shards(rt: HostRuntime) -> Result<(), Fail> {
-    let alloc = rt.alloc();
-    let node = after_two(&rt, alloc)?;
-    let (table, pass) = SharedTable::new(alloc, 16, 64)?;
-    let pass = put_by_eight(&rt, alloc, &table, pass, &node);
-    let mut pass = put_all(alloc, &table, pass, &node);
-    assert_eq!(rt; found(alloc, &table, &mut pass, &node)?, 8);
-    assert_eq!(rt; entries_of(&table.close(&mut pass)?), 8);
-    Ok(())
+    assert_kept_once(&rt, rt.alloc(), 16, true)
 }
 
 // Draws until there is no number left.

@@ -20,19 +20,10 @@ fn counted<S: FrontStore>(
 ) -> Option<(u64, usize)>
     requires { moves ≤ most_moves }
 {
-    let mut solver = Solver::new(alloc);
-    let mut budget = Budget::new(u64::MAX);
-    let alpha = Front::new(alloc, node.width());
-    let found = search(
-        alloc,
-        store,
-        &mut solver,
-        &mut budget,
-        node,
-        moves,
-        &alpha,
-        rules,
-    );
+    let solver = &mut Solver::new(alloc);
+    let budget = &mut Budget::new(u64::MAX);
+    let alpha = &Front::new(alloc, node.width());
+    let found = search(alloc, store, solver, budget, node, moves, alpha, rules);
     match found {
         Ok(Found::Exact(front)) => Some((u64::MAX - budget.left(), front.len())),
         _ => None,

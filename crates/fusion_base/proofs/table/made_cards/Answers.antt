@@ -1,11 +1,11 @@
 use Rattle.std.proofs.Common.{◌≡◌, ◌==◌, ◌∷◌, true, false, not, eqb, filter, ap, sym, subst, ◌∙◌, rules}
 use Rattle.card_sets.specs.SetWords.{has_card}
 use Rattle.trick_rules.specs.Positions.{FitsLeft}
-use Rattle.trick_rules.specs.Play.{CanPlay, after_card, makes}
+use Rattle.trick_rules.specs.Play.{CanPlay, after_card}
 use Rattle.trick_rules.specs.Nodes.{choices}
 use Rattle.trick_rules.proofs.CardLists.{first_has, or_true}
 use Rattle.trick_rules.proofs.PlayLaws.{a_choice_can_be_played}
-use Rattle.fusion_base.proofs.Sampled.{makes_after, sifted, sifted-start, sifted-made, sifted-failed, sifted-all, fits_after}
+use Rattle.fusion_base.proofs.Sampled.{makes_there, sifted, sifted-start, sifted-made, sifted-failed, sifted-all, fits_after}
 use Rattle.fusion_base.proofs.table.made_cards.Goals as goal
 
 pub loop-card-init : goal.loop-card-init
@@ -33,10 +33,7 @@ pub loop-card-preserved-then-not-makes : goal.loop-card-preserved-then-not-makes
 loop-card-preserved-then-not-makes c =
     let n = c.args.node.now in
     let card = c.in-Some.card in
-    let same : c.makes.result ≡ makes_after n c.args.left card =
-    c.makes.ensures.answer
-    ∙ ap (λ table. makes (record { position = table; left = c.without.result })) (c.play-after.ensures.value ∙ ap (λ table. after_card table card) c.position.ensures.value)
-    ∙ ap (λ left. makes (record { position = after_card n.position card; left = left })) c.without.ensures.value in
+    let same = makes_there n c.args.left card c.makes.result _ c.play-after.result c.without.result c.makes.ensures.answer c.play-after.ensures.value c.position.ensures.value c.without.ensures.value in
     let failed : c.makes.result ≡ false = search rules in
     record {
       made = c.without-made.ensures.value ∙ ap (filter (λ d. not (d == card))) c.loop-card.invariant.made ∙ sifted-failed n c.args.left c.loop-card.rest c.pop_first.new.self card c.in-Some.ensures.value c.pop_first.ensures.a_set (sym same ∙ failed);
@@ -47,10 +44,7 @@ pub loop-card-preserved : goal.loop-card-preserved
 loop-card-preserved c =
     let n = c.args.node.now in
     let card = c.in-Some.card in
-    let same : c.makes.result ≡ makes_after n c.args.left card =
-    c.makes.ensures.answer
-    ∙ ap (λ table. makes (record { position = table; left = c.without.result })) (c.play-after.ensures.value ∙ ap (λ table. after_card table card) c.position.ensures.value)
-    ∙ ap (λ left. makes (record { position = after_card n.position card; left = left })) c.without.ensures.value in
+    let same = makes_there n c.args.left card c.makes.result _ c.play-after.result c.without.result c.makes.ensures.answer c.play-after.ensures.value c.position.ensures.value c.without.ensures.value in
     let made : c.makes.result ≡ true = search rules in
     record {
       made = c.loop-card.invariant.made ∙ sifted-made n c.args.left c.loop-card.rest c.pop_first.new.self card c.in-Some.ensures.value (sym same ∙ made);

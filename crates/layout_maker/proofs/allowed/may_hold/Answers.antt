@@ -1,15 +1,9 @@
 use Rattle.std.proofs.Common.{◌≡◌, ℕ, ◌<◌, ◌+◌, List, ◌∷◌, None, cond, suc, length, drop, get_or, ap, ap₂, ◌∙◌, sym, arith}
-use Rattle.std.proofs.Math.Seq.{drop-cons}
 use Rattle.trick_rules.specs.Play.{take_out, next_trick}
 use Rattle.pbn_deal.specs.declared.board.Played.{Played}
 use Rattle.layout_maker.specs.Choosing.{after_plays, narrowed}
+use Rattle.pbn_deal.proofs.Split.{split_at}
 use Rattle.layout_maker.proofs.allowed.may_hold.Goals as goal
-
--- the plays left begin with the one at hand
-split_at : (plays : List Played) (i : ℕ) (play : Played) → i < length plays → play ≡ get_or plays i play → drop i plays ≡ play ∷ drop (i + 1) plays
-split_at plays i play lt is =
-    let next : suc i ≡ i + 1 = omega arith in
-    drop-cons plays i play lt ∙ ap (λ x. x ∷ drop (suc i) plays) (sym is) ∙ ap (λ k. play ∷ drop k plays) next
 
 pub loop-play-preserved : goal.loop-play-preserved
 loop-play-preserved c =
