@@ -4,7 +4,7 @@ use Rattle.std.specs.Prelude.{IfOk}
 use Rattle.std.proofs.lemmas.List.Elements.{All-head, All-tail}
 use Rattle.trick_rules.specs.Nodes.{NodeValue, choices}
 use Rattle.strategy_games.proofs.Lists.{first_is_member}
-use Rattle.root_workers.specs.Roots.{IsTooLarge, IsSpentAt, IsFirstSpentAt, AllFit}
+use Rattle.strategy_tree.specs.RootTrees.{IsTooLarge, IsSpentAt, IsFirstSpentAt, AllFit}
 use Rattle.log_check.specs.declared.check.LogVerdict.{LogVerdict}
 use Rattle.log_check.specs.declared.check.LogVerdict.TheVariants.{Yes, No}
 use Rattle.log_check.proofs.OneLogVerdict.{one_log_verdict}

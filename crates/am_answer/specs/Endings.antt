@@ -7,7 +7,7 @@ use Rattle.am_outside.specs.Sink.{AppendsPart}
 use Rattle.trick_rules.specs.Nodes.{NodeValue}
 use Rattle.job_words.specs.declared.asks.Search.{Search}
 use Rattle.job_words.specs.Asks.{AskValue}
-use Rattle.root_workers.specs.Roots.{IsSpentAt, IsFirstSpentAt, AllFit}
+use Rattle.strategy_tree.specs.RootTrees.{IsSpentAt, IsFirstSpentAt, AllFit}
 use Rattle.log_check.specs.declared.check.LogVerdict.TheVariants.{Yes, No}
 use Rattle.log_check.specs.LogVerdicts.{IsLogVerdict}
 use Rattle.am_answer.specs.declared.status.FileWord.{FileWord}

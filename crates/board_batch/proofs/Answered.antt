@@ -5,7 +5,7 @@ use Rattle.std.proofs.lemmas.List.{take_more, length-take-le}
 use Rattle.std.proofs.lemmas.List.Elements.{All-nil, All-push, All-get_or}
 use Rattle.root_answers.specs.declared.written.WrittenAnswer.{WrittenAnswer}
 use Rattle.root_answers.specs.Written.{IsWrittenAnswer}
-use Rattle.root_workers.specs.Roots.{IsFirstSpentAt, AllFit}
+use Rattle.strategy_tree.specs.RootTrees.{IsFirstSpentAt, AllFit}
 use Rattle.root_workers.proofs.Founds.{get_push}
 use Rattle.board_batch.specs.declared.batch.Problem.{Problem}
 use Rattle.board_batch.specs.Problems.{AreAnswers, AllProblemsFit, IsFirstSpentIn}

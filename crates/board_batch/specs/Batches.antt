@@ -5,7 +5,7 @@ use Rattle.alphamu_core.specs.declared.answers.RootFault.{RootFault}
 use Rattle.alphamu_core.specs.declared.answers.RootFault.TheVariants.{Spent, Memory}
 use Rattle.root_answers.specs.declared.written.WrittenAnswer.{WrittenAnswer}
 use Rattle.root_answers.specs.Written.{IsWrittenAnswer}
-use Rattle.root_workers.specs.Roots.{IsSpentAt, IsFirstSpentAt, AllFit}
+use Rattle.strategy_tree.specs.RootTrees.{IsSpentAt, IsFirstSpentAt, AllFit}
 use Rattle.root_workers.specs.Plain.{IsPlain, HasWorkers}
 use Rattle.board_batch.specs.declared.batch.Problem.{Problem}
 use Rattle.board_batch.specs.declared.batch.Batch.{Batch}

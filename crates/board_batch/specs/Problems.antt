@@ -3,7 +3,7 @@ use Rattle.std.specs.Prelude.{◌≡◌, ℕ, true, false, List, Some, All, leng
 use Rattle.strategy_tree.specs.Bridge.{bridge}
 use Rattle.root_answers.specs.declared.written.WrittenAnswer.{WrittenAnswer}
 use Rattle.root_answers.specs.Written.{IsWrittenAnswer}
-use Rattle.root_workers.specs.Roots.{IsSpentAt, IsFirstSpentAt, AllFit}
+use Rattle.strategy_tree.specs.RootTrees.{IsSpentAt, IsFirstSpentAt, AllFit}
 use Rattle.board_batch.specs.declared.batch.Problem.{Problem}
 
 -- declarer's side is to play, the play isn't over, and each layout has a weight

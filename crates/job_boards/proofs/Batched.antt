@@ -3,7 +3,7 @@ use Rattle.std.proofs.Common.{◌≡◌, ◌+◌, ℕ, suc, List, [], ◌∷◌,
 use Rattle.std.specs.Prelude.{IfOk}
 use Rattle.std.specs.List.{AllZip}
 use Rattle.std.proofs.lemmas.List.Elements.{All-head, All-tail, All-cons, All-nil}
-use Rattle.root_workers.specs.Roots.{AllFit, IsSpentAt, IsFirstSpentAt}
+use Rattle.strategy_tree.specs.RootTrees.{AllFit, IsSpentAt, IsFirstSpentAt}
 use Rattle.root_workers.specs.declared.root.Options.{Options}
 use Rattle.job_words.specs.declared.asks.Search.{Search}
 use Rattle.root_answers.specs.declared.written.WrittenAnswer.{WrittenAnswer}

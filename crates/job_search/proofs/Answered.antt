@@ -4,7 +4,7 @@ use Rattle.strategy_games.specs.Plans.{IsFront}
 use Rattle.strategy_games.specs.Choosing.{IsBestCount, IsNamedCard, IsBestWeight, IsNamedByWeight}
 use Rattle.strategy_tree.specs.Bridge.{bridge}
 use Rattle.win_vectors.specs.Fronts.{Vector}
-use Rattle.root_workers.specs.Roots.{AllFit}
+use Rattle.strategy_tree.specs.RootTrees.{AllFit}
 use Rattle.job_words.specs.declared.asks.Search.{Search}
 use Rattle.am_report.specs.Card.{card_text}
 use Rattle.am_report.specs.Made.{made_text}

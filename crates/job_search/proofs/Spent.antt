@@ -3,7 +3,7 @@ use Rattle.std.proofs.Common.{◌≡◌, ◌∙◌, ℕ, Result, Ok, Err, IsErrA
 use Rattle.trick_rules.specs.Nodes.{NodeValue}
 use Rattle.job_words.specs.declared.asks.Search.{Search}
 use Rattle.job_words.specs.Asks.{IsSearchWithinLimits}
-use Rattle.root_workers.specs.Roots.{IsSpentAt, IsFirstSpentAt, AllFit}
+use Rattle.strategy_tree.specs.RootTrees.{IsSpentAt, IsFirstSpentAt, AllFit}
 use Rattle.root_workers.specs.declared.root.Options.{Options}
 use Rattle.root_workers.specs.Plain as options
 use Rattle.alphamu_core.specs.declared.answers.RootFault as root

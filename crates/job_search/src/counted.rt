@@ -4,7 +4,7 @@ ghost use Rattle.trick_rules.specs.Nodes.{most_moves};
 ghost use Rattle.strategy_games.specs.Choosing.{IsBestCount, IsNamedCard};
 ghost use Rattle.strategy_tree.specs.Bridge.{bridge};
 ghost use Rattle.front_table.specs.Proven.{IsFrontAt};
-ghost use Rattle.root_workers.specs.Roots.{IsSpentAt, IsFirstSpentAt, AllFit};
+ghost use Rattle.strategy_tree.specs.RootTrees.{IsSpentAt, IsFirstSpentAt, AllFit};
 ghost use Rattle.root_workers.specs.Plain.{IsPlain, HasWorkers};
 ghost use Rattle.shared_table.specs.Passes.{IsPassOf};
 

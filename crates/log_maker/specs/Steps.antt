@@ -1,8 +1,7 @@
 -- A log that is being written.
-use Rattle.std.specs.Prelude.{◌≡◌, ◌≤◌, ◌<◌, ◌+◌, ◌-◌, ℕ, List, Contains}
-use Rattle.trick_rules.specs.Nodes.{NodeValue, choices, child}
+use Rattle.std.specs.Prelude.{◌≡◌, ◌≤◌, ◌<◌, ◌+◌, ◌-◌, ℕ, List}
+use Rattle.trick_rules.specs.Nodes.{NodeValue}
 use Rattle.strategy_games.specs.Plans.{tree_size}
-use Rattle.strategy_games.specs.Choosing.{IsFirstOf}
 use Rattle.strategy_tree.specs.Bridge.{bridge}
 use Rattle.pareto_fronts.specs.FrontValue.{FrontValue}
 use Rattle.front_table.specs.Proven.{IsFrontAt}
@@ -33,16 +32,3 @@ pub record IsWritten (n : NodeValue) (moves : ℕ) (path : List ℕ) (before aft
 -- a line for each of the node's tree would be more than the limit allows
 abbrev pub IsTooLong : NodeValue → ℕ → TreeWriter → Type 0
 IsTooLong n moves writer = writer.limit < writer.log.now.count + tree_size bridge n moves
-
--- the tree after a root card, with a move less, has more nodes than this
-abbrev pub IsTooLarge : NodeValue → ℕ → ℕ → ℕ → Type 0
-IsTooLarge n moves nodes card = nodes < tree_size bridge (child n card) (moves - 1)
-
--- no tree after a root card is too large
-abbrev pub AllFit : NodeValue → ℕ → ℕ → Type 0
-AllFit n moves nodes = (card : ℕ) → Contains (choices n) card
-    → tree_size bridge (child n card) (moves - 1) ≤ nodes
-
--- this root card is the first after which the tree is too large
-abbrev pub IsFirstSpentAt : NodeValue → ℕ → ℕ → ℕ → Type 0
-IsFirstSpentAt n moves nodes card = IsFirstOf (IsTooLarge n moves nodes) (choices n) card

@@ -7,7 +7,8 @@ ghost use Rattle.trick_rules.specs.Nodes.{IsNode, stops, choices, child, most_mo
 ghost use Rattle.strategy_tree.specs.Bridge.{bridge};
 ghost use Rattle.log_check.specs.Limits.{most_lines};
 ghost use Rattle.log_maker.specs.LogsFor.{IsLogTextFor};
-ghost use Rattle.log_maker.specs.Steps.{IsWritten, IsTooLong, IsSameWriter, AllFit, IsFirstSpentAt};
+ghost use Rattle.log_maker.specs.Steps.{IsWritten, IsTooLong, IsSameWriter};
+ghost use Rattle.strategy_tree.specs.RootTrees.{AllFit, IsFirstSpentAt};
 
 use crate::lines::{line_with, path_after};
 use crate::tree::leaf;

@@ -3,7 +3,7 @@ ghost use Rattle.std.specs.Prelude.{◌≡◌, ◌≤◌, ℕ, true, All, IfOk, 
 ghost use Rattle.trick_rules.specs.Nodes.{most_moves};
 ghost use Rattle.strategy_tree.specs.Bridge.{bridge};
 ghost use Rattle.plan_finder.specs.Targets.{IsOfFront};
-ghost use Rattle.root_workers.specs.Roots.{IsSpentAt};
+ghost use Rattle.strategy_tree.specs.RootTrees.{IsSpentAt};
 ghost use Rattle.root_workers.specs.Rounds.{HasSeenMore};
 ghost use Rattle.shared_table.specs.Passes.{IsPassOf};
 ghost use Rattle.root_answers.specs.Planned.{ArePlanned};

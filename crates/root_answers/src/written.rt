@@ -3,7 +3,7 @@ ghost use Rattle.std.specs.Prelude.{◌≡◌, ◌≤◌, [], ℕ, true, false, 
 ghost use Rattle.trick_rules.specs.Nodes.{most_moves};
 ghost use Rattle.strategy_tree.specs.Bridge.{bridge};
 ghost use Rattle.plan_finder.specs.Targets.{IsOfFront};
-ghost use Rattle.root_workers.specs.Roots.{IsSpentAt, IsFirstSpentAt, AllFit};
+ghost use Rattle.strategy_tree.specs.RootTrees.{IsSpentAt, IsFirstSpentAt, AllFit};
 ghost use Rattle.root_workers.specs.Plain.{IsPlain, HasWorkers};
 ghost use Rattle.root_workers.specs.Questions.{IsQuestion};
 ghost use Rattle.root_workers.specs.Rounds.{HasSeenMore};

@@ -9,7 +9,7 @@ use Rattle.cut_rules.specs.declared.Stop.TheVariants.{Never, SameFront, SameWeig
 use Rattle.cut_rules.specs.Stops.{IsGreatestWeight}
 use Rattle.strategy_tree.specs.Bridge.{bridge}
 use Rattle.strategy_tree.proofs.BridgeLaws.{sizes}
-use Rattle.root_workers.specs.Roots.{IsSpentAt}
+use Rattle.strategy_tree.specs.RootTrees.{IsSpentAt}
 use Rattle.root_workers.proofs.RootSoFar.{RootSoFar, IsBest, whole_by_front, best_by_front, best_by_weight}
 
 module _ (n : NodeValue) (below : ℕ) (ws : List ℕ) {nodes : ℕ} {plain : Type 0} {cards : List ℕ} {front : FrontValue} {best : Option (ℕ × ℕ)}

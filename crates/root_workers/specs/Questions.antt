@@ -9,7 +9,7 @@ use Rattle.front_table.specs.Proven.{IsFrontAt}
 use Rattle.alphamu_core.specs.Costs.{IsWithin}
 use Rattle.alphamu_core.specs.declared.answers.RootFault.{RootFault}
 use Rattle.alphamu_core.specs.declared.answers.RootFault.TheVariants.{Spent, Memory}
-use Rattle.root_workers.specs.Roots.{IsSpentAt, IsFirstSpentAt, AllFit}
+use Rattle.strategy_tree.specs.RootTrees.{IsSpentAt, IsFirstSpentAt, AllFit}
 use Rattle.root_workers.specs.Founds.{AreFound}
 use Rattle.root_workers.specs.Plain.{IsPlain}
 use Rattle.root_workers.specs.Rounds.{IsPlainRound}

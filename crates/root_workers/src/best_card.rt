@@ -11,7 +11,7 @@ ghost use Rattle.front_table.specs.Proven.{IsFrontAt};
 ghost use Rattle.alphamu_core.specs.Findings.{IsFound, IsExact};
 ghost use Rattle.alphamu_core.specs.Costs.{IsWithin};
 ghost use Rattle.shared_table.specs.Passes.{IsPassOf};
-ghost use Rattle.root_workers.specs.Roots.{IsSpentAt, IsFirstSpentAt, AllFit};
+ghost use Rattle.strategy_tree.specs.RootTrees.{IsSpentAt, IsFirstSpentAt, AllFit};
 ghost use Rattle.root_workers.specs.Founds.{AreFound};
 ghost use Rattle.root_workers.specs.Questions.{IsRoundEnd};
 ghost use Rattle.root_workers.specs.Rounds.{IsRound, IsPlainRound, IsKnownAt, HasSeenMore, size_after};

@@ -3,7 +3,7 @@ ghost use Rattle.std.specs.Prelude.{◌≡◌, ◌≢◌, ◌≤◌, ◌-◌, �
 ghost use Rattle.front_table.specs.Proven.{IsFrontAt};
 ghost use Rattle.alphamu_core.specs.Costs.{IsWithin};
 ghost use Rattle.shared_table.specs.Passes.{IsPassOf};
-ghost use Rattle.root_workers.specs.Roots.{IsSpentAt};
+ghost use Rattle.strategy_tree.specs.RootTrees.{IsSpentAt};
 ghost use Rattle.root_workers.specs.Questions.{IsQuestion, IsAnswer};
 ghost use Rattle.root_workers.specs.Rounds.{HasSeenMore};
 

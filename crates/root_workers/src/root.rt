@@ -6,7 +6,7 @@ ghost use Rattle.strategy_tree.specs.Bridge.{bridge};
 ghost use Rattle.front_table.specs.Proven.{IsFrontAt};
 ghost use Rattle.alphamu_core.specs.Costs.{IsWithin};
 ghost use Rattle.shared_table.specs.Passes.{IsPassOf};
-ghost use Rattle.root_workers.specs.Roots.{IsSpentAt, IsFirstSpentAt, AllFit};
+ghost use Rattle.strategy_tree.specs.RootTrees.{IsSpentAt, IsFirstSpentAt, AllFit};
 ghost use Rattle.root_workers.specs.Plain.{IsPlain, HasWorkers};
 ghost use Rattle.root_workers.specs.Rounds.{HasSeenMore};
 ghost use Rattle.root_workers.specs.Reports.{AreReports, course_of};

@@ -2,3 +2,4 @@ pub mod PlanMeaning
 pub mod PlanText
 pub mod PlanRead
 pub mod Bridge
+pub mod RootTrees

@@ -10,7 +10,7 @@ use Rattle.alphamu_core.specs.declared.answers.Found.TheVariants.{Exact, Below}
 use Rattle.alphamu_core.specs.declared.answers.RootFault.TheVariants.{Spent}
 use Rattle.alphamu_core.specs.Findings.{IsFound, IsExact}
 use Rattle.root_workers.specs.Rounds.{IsPlainRound}
-use Rattle.root_workers.specs.Roots.{IsSpentAt, IsFirstSpentAt}
+use Rattle.strategy_tree.specs.RootTrees.{IsSpentAt, IsFirstSpentAt}
 use Rattle.root_workers.proofs.RootSoFar.{root_next, root_spent, root_here, root_won, root_below, root_none_at, root_with, root_with_at, root_covered_at, root_width, root_filled, root_front, root_some, best_of_all, front_here}
 use Rattle.root_workers.proofs.Founds.{AreFoundSoFar, none_found, found_after}
 use Rattle.root_workers.proofs.Stopped.{MakesCuts, founds_more, counted_push, founds_at_stop, founds_of_all}
