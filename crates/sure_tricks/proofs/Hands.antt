@@ -57,6 +57,7 @@ seat_at (suc (suc zero)) = Dummy
 seat_at (suc (suc (suc n))) = Right
 
 at_place : (x : Seat) → seat_at (seat_place x) ≡ x
+unfolding seat_at
 at_place Declarer = refl
 at_place Left = refl
 at_place Dummy = refl

@@ -58,10 +58,10 @@ may_follow w ds hand c legal = go (of_suit (suit_of w) hand) refl legal
         record { held = both.0; suit = inl (same_suit-true (suit_of c) (suit_of w) both.1) }
 
 -- the same by the suit led
-pub follows_suit : (cards hand : List ℕ) (v : Suit) (c : ℕ) → 1 ≤ length cards → suit_of (get_or cards 0 0) ≡ v → has_card (legal_cards cards hand) c ≡ true
+pub follows_or_void : (cards hand : List ℕ) (v : Suit) (c : ℕ) → 1 ≤ length cards → suit_of (get_or cards 0 0) ≡ v → has_card (legal_cards cards hand) c ≡ true
     → (suit_of c ≡ v) ⊎ ((d : ℕ) → has_card hand d ≡ true → same_suit (suit_of d) v ≡ false)
-follows_suit [] hand v c some led legal = absurd (omega arith)
-follows_suit (w ∷ ds) hand v c some led legal =
+follows_or_void [] hand v c some led legal = absurd (omega arith)
+follows_or_void (w ∷ ds) hand v c some led legal =
     subst (λ u. (suit_of c ≡ u) ⊎ ((d : ℕ) → has_card hand d ≡ true → same_suit (suit_of d) u ≡ false)) led (may_follow w ds hand c legal).suit
 
 -- a hand with none of the suit

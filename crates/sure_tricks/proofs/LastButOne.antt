@@ -18,7 +18,7 @@ use Rattle.trick_rules.proofs.Soundness.{with_card, after_short, after_third}
 use Rattle.trick_rules.proofs.Turns.{count_in-turn}
 use Rattle.trick_rules.proofs.PlayLaws.{hands_are_apart, the_need_never_rises, the_need_falls_by_one_at_most}
 use Rattle.sure_tricks.specs.Stoppers.{has_suit}
-use Rattle.sure_tricks.proofs.Holding.{follows_suit, suit_test}
+use Rattle.sure_tricks.proofs.Holding.{follows_or_void, suit_test}
 use Rattle.sure_tricks.proofs.Hands.{seats_differ, hand_after, was_held, hand_stays, hand_set, next_three, seat_cases, by_card, by_each, Suffices, settled, tricks_within, tricks_last, suffices_within, suffices_after}
 use Rattle.sure_tricks.proofs.Cash.{going}
 use Rattle.sure_tricks.proofs.TopTrumps.{sides, two_sides}
@@ -135,7 +135,7 @@ module _ (b : Bool) (w : ℕ) (v : Suit) (z l : Seat) (s : State) (e : IsEnding 
   led_more = ap suit_of (kept_at s.position c 0 e.some) ∙ e.led
 
   follows : (suit_of c ≡ v) ⊎ ((d : ℕ) → has_card (hand_of s (to_play s.position)) d ≡ true → same_suit (suit_of d) v ≡ false)
-  follows = follows_suit s.position.trick.cards (hand_of s (to_play s.position)) v c e.some e.led legal
+  follows = follows_or_void s.position.trick.cards (hand_of s (to_play s.position)) v c e.some e.led legal
 
   -- the seat that can win has played its card of the suit led, or will have to
   abbrev IsThere : Type 0

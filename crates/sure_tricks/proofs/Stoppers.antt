@@ -20,7 +20,7 @@ use Rattle.trick_rules.proofs.Turns.{count_in-turn}
 use Rattle.trick_rules.proofs.PlayLaws.{hands_are_apart, the_need_never_rises, the_need_falls_by_one_at_most}
 use Rattle.sure_tricks.specs.Stoppers.{has_suit}
 use Rattle.sure_tricks.proofs.Counting.{count_in, count_less, one_of}
-use Rattle.sure_tricks.proofs.Holding.{follows_suit, suit_test}
+use Rattle.sure_tricks.proofs.Holding.{follows_or_void, suit_test}
 use Rattle.sure_tricks.proofs.Hands.{hand_after, was_held, hand_set, next_three, seat_cases, Suffices, settled, tricks_within, tricks_last, suffices_within, suffices_after}
 use Rattle.sure_tricks.proofs.Crossing.{follows_legally}
 use Rattle.sure_tricks.proofs.TopTrumps.{sides, two_sides}
@@ -306,4 +306,4 @@ module _ (b : Bool) (stoppers : List ℕ) (rounds : Suit → ℕ) (s : State) (r
         led = ap suit_of (get_or_append_left s.position.trick.cards (c ∷ []) 0 0 at.some) ∙ at.led
 
         follows : (suit_of c ≡ v) ⊎ ((d : ℕ) → has_card (hand_of s (to_play s.position)) d ≡ true → same_suit (suit_of d) v ≡ false)
-        follows = follows_suit s.position.trick.cards (hand_of s (to_play s.position)) v c at.some at.led legal
+        follows = follows_or_void s.position.trick.cards (hand_of s (to_play s.position)) v c at.some at.led legal
