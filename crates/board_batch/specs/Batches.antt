@@ -1,5 +1,6 @@
 -- What a batch asks, and what a worker may know of a problem.
 use Rattle.std.specs.Prelude.{◌≡◌, ◌≤◌, ⊤, ℕ, Some, Result, Ok, Err, All, slice_get}
+use Rattle.std.specs.Borrow.{Bor, MutBor}
 use Rattle.trick_rules.specs.Nodes.{most_moves}
 use Rattle.alphamu_core.specs.declared.answers.RootFault.{RootFault}
 use Rattle.alphamu_core.specs.declared.answers.RootFault.TheVariants.{Spent, Memory}
@@ -7,9 +8,11 @@ use Rattle.root_answers.specs.declared.written.WrittenAnswer.{WrittenAnswer}
 use Rattle.root_answers.specs.Written.{IsWrittenAnswer}
 use Rattle.strategy_tree.specs.RootTrees.{IsSpentAt, IsFirstSpentAt, AllFit}
 use Rattle.root_workers.specs.Plain.{IsPlain, HasWorkers}
+use Rattle.root_workers.specs.Rounds.{HasSeenMore}
+use Rattle.shared_table.specs.declared.Pass.{Pass}
+use Rattle.shared_table.specs.Passes.{IsPassOf}
 use Rattle.board_batch.specs.declared.batch.Problem.{Problem}
 use Rattle.board_batch.specs.declared.batch.Batch.{Batch}
-use Rattle.board_batch.specs.declared.places.Place.{Place}
 use Rattle.board_batch.specs.Problems.{IsProblem}
 
 -- problems that can be solved by so many moves
@@ -41,6 +44,8 @@ pub record IsKnownAt (b : Batch) (place : ℕ) (known : Result WrittenAnswer Roo
   pub here : slice_get b.problems.now place ≡ Some problem
   pub known_is : IsKnown b problem known
 
--- what is said at each place is so
-abbrev pub IsRight : Batch → Place → Type 0
-IsRight b p = IsKnownAt b p.place p.known
+-- whichever worker solves a problem over a pass of the table, it ends with what it may end with
+abbrev pub Solves : Batch → (ℕ → Bor Problem → MutBor Pass → Type 0) → (ℕ → Bor Problem → MutBor Pass → Result WrittenAnswer RootFault → MutBor Pass → Type 0) → Type 0
+Solves b can gives = (worker : ℕ) (problem : Bor Problem) (pass : MutBor Pass) → IsProblem problem.now → IsPassOf b.table.now pass.now
+    → can worker problem pass × ((known : Result WrittenAnswer RootFault) (late : MutBor Pass) → gives worker problem pass known late
+    → IsKnown b problem.now known × IsPassOf b.table.now late.now × HasSeenMore pass.now late.now)

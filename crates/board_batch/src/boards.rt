@@ -7,13 +7,14 @@ ghost use Rattle.root_workers.specs.Plain.{IsPlain, HasWorkers};
 ghost use Rattle.root_workers.specs.Rounds.{HasSeenMore};
 ghost use Rattle.board_batch.specs.Problems.{IsProblem, AreAnswers, AllProblemsFit};
 ghost use Rattle.board_batch.specs.Problems.{IsSpentIn, IsFirstSpentIn};
-ghost use Rattle.board_batch.specs.Batches.{IsBatch, IsSolved, IsSpentOf, IsKnown, IsRight};
+ghost use Rattle.board_batch.specs.Batches.{IsBatch, IsSolved, IsSpentOf, Solves};
+ghost use Rattle.board_batch.specs.Batches.{IsKnown, IsKnownAt};
+ghost use Rattle.worker_pool.specs.Findings.{AreRight};
 
 use crate::batch::{Batch, Problem};
+use crate::batch_work::{BatchWork, Known};
 use crate::fault::BatchFault;
-use crate::places::{Place, taken};
-use crate::share::{Done, share};
-use crate::worker::solved;
+use crate::solving::solved;
 use alphamu_core::RootFault;
 use am_outside::Gate;
 use root_answers::WrittenAnswer;
@@ -21,7 +22,7 @@ use root_workers::Options;
 use shared_table::{Pass, SharedTable};
 use std::alloc::{AllocError, Global};
 use std::thread::Threads;
-use work_tickets::Tickets;
+use worker_pool::{Finding, work_side_by_side};
 
 // The numbers of this many workers, but of at least one.
 fn numbers_of(alloc: Global, workers: u32) -> Result<Vec<u32>, AllocError>
@@ -32,37 +33,6 @@ fn numbers_of(alloc: Global, workers: u32) -> Result<Vec<u32>, AllocError>
         numbers.push(number)?;
     }
     Ok(numbers)
-}
-
-// What the workers know when all tickets are drawn. There are no more workers than problems.
-fn solved_by_all<R: Threads + Sync, G: Gate>(
-    rt: &R,
-    batch: &Batch,
-    gate: &G,
-    workers: u32,
-    pass: &mut Pass,
-) -> Result<Vec<Place>, BatchFault>
-    requires batch { IsBatch batch.now }
-    requires few { length batch.now.problems.now ≤ 64 }
-    requires pass { IsPassOf batch.now.table.now pass.old }
-    ensures right { IfOk result (λ places. All (IsRight batch.now) places.items) }
-    ensures never_spent { (number card : ℕ) → IsErrOf result (BatchFault.Spent number card) → ⊥ }
-    ensures pass { IsPassOf batch.now.table.now pass.new }
-    ensures grown { HasSeenMore pass.old pass.new }
-{
-    let count = batch.problems.len() as u32;
-    let mut numbers = numbers_of(batch.alloc, workers.min(count))?;
-    let (tickets, drawn) = Tickets::new(batch.alloc, count)?;
-    let first = batch.table.split(pass);
-    let numbers = numbers.as_mut_slice();
-    let done = share(rt, batch, gate, numbers, &tickets, first, drawn);
-    let Done {
-        pass: other,
-        drawn: _,
-        places,
-    } = done;
-    batch.table.join(pass, other);
-    Ok(places)
 }
 
 // The fault of the problem of a number.
@@ -76,90 +46,67 @@ fn fault_of(number: u16, fault: RootFault) -> BatchFault
     }
 }
 
-// What is known of the problem at a place by a worker, or else by solving it now.
-fn known_at<R: Threads + Sync, G: Gate>(
-    rt: &R,
-    batch: &Batch,
-    gate: &G,
-    pass: &mut Pass,
-    places: &mut Vec<Place>,
-    place: u32,
-    problem: &Problem,
-) -> Result<WrittenAnswer, RootFault>
-    requires batch { IsBatch batch.now }
-    requires pass { IsPassOf batch.now.table.now pass.old }
-    requires right { All (IsRight batch.now) places.old.items }
-    requires problem { slice_get batch.now.problems.now place ≡ Some problem.now }
-    ensures known { IsKnown batch.now problem.now result }
-    ensures right { All (IsRight batch.now) places.new.items }
-    ensures pass { IsPassOf batch.now.table.now pass.new }
-    ensures grown { HasSeenMore pass.old pass.new }
-{
-    match taken(batch, places, place) {
-        Some(known) => known,
-        None => solved(rt, batch, gate, 0, pass, problem),
+impl<F: Fn(u32, &Problem, &mut Pass) -> Known + Sync + Drop> BatchWork<'_, F> {
+    // The answer of the problem at a place.
+    fn answer_at(
+        &self,
+        pass: &mut Pass,
+        findings: &mut Vec<Finding<Known>>,
+        place: u32,
+        problem: &Problem,
+    ) -> Result<WrittenAnswer, BatchFault>
+        requires batch { IsBatch self.now.batch.now }
+        requires solves { Solves self.now.batch.now (F.pre self.now.solve) (F.post self.now.solve) }
+        requires pass { IsPassOf self.now.batch.now.table.now pass.old }
+        requires right { AreRight (IsKnownAt self.now.batch.now) findings.old.items }
+        requires problem { slice_get self.now.batch.now.problems.now place ≡ Some problem.now }
+        ensures answer { IfOk result (IsSolved self.now.batch.now problem.now) }
+        ensures spent { (number card : ℕ) → IsErrOf result (BatchFault.Spent number card)
+            → (number ≡ problem.now.number) × IsSpentOf self.now.batch.now problem.now card }
+        ensures right { AreRight (IsKnownAt self.now.batch.now) findings.new.items }
+        ensures pass { IsPassOf self.now.batch.now.table.now pass.new }
+        ensures grown { HasSeenMore pass.old pass.new }
+    {
+        match self.known_at(pass, findings, place, problem) {
+            Ok(answer) => Ok(answer),
+            Err(fault) => Err(fault_of(problem.number, fault)),
+        }
     }
-}
 
-// The answer of the problem at a place.
-fn answer_at<R: Threads + Sync, G: Gate>(
-    rt: &R,
-    batch: &Batch,
-    gate: &G,
-    pass: &mut Pass,
-    places: &mut Vec<Place>,
-    place: u32,
-    problem: &Problem,
-) -> Result<WrittenAnswer, BatchFault>
-    requires batch { IsBatch batch.now }
-    requires pass { IsPassOf batch.now.table.now pass.old }
-    requires right { All (IsRight batch.now) places.old.items }
-    requires problem { slice_get batch.now.problems.now place ≡ Some problem.now }
-    ensures answer { IfOk result (IsSolved batch.now problem.now) }
-    ensures spent { (number card : ℕ) → IsErrOf result (BatchFault.Spent number card)
-        → (number ≡ problem.now.number) × IsSpentOf batch.now problem.now card }
-    ensures right { All (IsRight batch.now) places.new.items }
-    ensures pass { IsPassOf batch.now.table.now pass.new }
-    ensures grown { HasSeenMore pass.old pass.new }
-{
-    match known_at(rt, batch, gate, pass, places, place, problem) {
-        Ok(answer) => Ok(answer),
-        Err(fault) => Err(fault_of(problem.number, fault)),
+    // The answers of all problems in order, or the first problem that has none.
+    fn in_order(
+        &self,
+        pass: &mut Pass,
+        mut findings: Vec<Finding<Known>>,
+    ) -> Result<Vec<WrittenAnswer>, BatchFault>
+        requires batch { IsBatch self.now.batch.now }
+        requires solves { Solves self.now.batch.now (F.pre self.now.solve) (F.post self.now.solve) }
+        requires few { length self.now.batch.now.problems.now ≤ 64 }
+        requires pass { IsPassOf self.now.batch.now.table.now pass.old }
+        requires right { AreRight (IsKnownAt self.now.batch.now) findings.items }
+        ensures answers { IfOk result (λ answers. AreAnswers self.now.batch.now.problems.now
+            self.now.batch.now.moves answers.items) }
+        ensures fits { IsPlain self.now.batch.now.options → IfOk result (λ _.
+            AllProblemsFit self.now.batch.now.problems.now self.now.batch.now.moves
+            self.now.batch.now.options.nodes) }
+        ensures spent { (number card : ℕ) → IsErrOf result (BatchFault.Spent number card)
+            → IsSpentIn self.now.batch.now.problems.now self.now.batch.now.moves
+            self.now.batch.now.options.nodes number card }
+        ensures first_spent { IsPlain self.now.batch.now.options → (number card : ℕ)
+            → IsErrOf result (BatchFault.Spent number card)
+            → IsFirstSpentIn self.now.batch.now.problems.now self.now.batch.now.moves
+            self.now.batch.now.options.nodes number card }
+        ensures pass { IsPassOf self.now.batch.now.table.now pass.new }
+        ensures grown { HasSeenMore pass.old pass.new }
+    {
+        let mut answers = Vec::new(self.batch.alloc);
+        for problem in self.batch.problems {
+            let place = answers.len() as u32;
+            let answer = self.answer_at(pass, &mut findings, place, problem)?;
+            answers.push(answer)?;
+        }
+        Ok(answers)
     }
-}
-
-// The answers of all problems in order, or the first problem that has none.
-fn in_order<R: Threads + Sync, G: Gate>(
-    rt: &R,
-    batch: &Batch,
-    gate: &G,
-    pass: &mut Pass,
-    mut places: Vec<Place>,
-) -> Result<Vec<WrittenAnswer>, BatchFault>
-    requires batch { IsBatch batch.now }
-    requires few { length batch.now.problems.now ≤ 64 }
-    requires pass { IsPassOf batch.now.table.now pass.old }
-    requires right { All (IsRight batch.now) places.items }
-    ensures answers { IfOk result (λ answers.
-        AreAnswers batch.now.problems.now batch.now.moves answers.items) }
-    ensures fits { IsPlain batch.now.options → IfOk result (λ _.
-        AllProblemsFit batch.now.problems.now batch.now.moves batch.now.options.nodes) }
-    ensures spent { (number card : ℕ) → IsErrOf result (BatchFault.Spent number card)
-        → IsSpentIn batch.now.problems.now batch.now.moves batch.now.options.nodes number card }
-    ensures first_spent { IsPlain batch.now.options → (number card : ℕ)
-        → IsErrOf result (BatchFault.Spent number card)
-        → IsFirstSpentIn batch.now.problems.now batch.now.moves batch.now.options.nodes
-        number card }
-    ensures pass { IsPassOf batch.now.table.now pass.new }
-    ensures grown { HasSeenMore pass.old pass.new }
-{
-    let mut answers = Vec::new(batch.alloc);
-    for problem in batch.problems {
-        let place = answers.len() as u32;
-        let answer = answer_at(rt, batch, gate, pass, &mut places, place, problem)?;
-        answers.push(answer)?;
-    }
-    Ok(answers)
 }
 
 /// The answer of each of at most 64 problems, in order, with 1 to 26 moves of declarer's side: what
@@ -210,6 +157,19 @@ pub fn run_boards<R: Threads + Sync, G: Gate>(
         },
         table,
     };
-    let places = solved_by_all(rt, &batch, gate, options.workers, pass)?;
-    in_order(rt, &batch, gate, pass, places)
+    let batch = &batch;
+    let solve = |worker: u32, problem: &Problem, pass: &mut Pass| -> Known
+        requires { IsProblem problem.now × IsPassOf batch.now.table.now pass.old
+            × IsBatch batch.now }
+        ensures { IsKnown batch.entry.now problem.now result
+            × IsPassOf batch.entry.now.table.now pass.new × HasSeenMore pass.old pass.new }
+    { solved(rt, batch, gate, worker, pass, problem) };
+    let work = BatchWork {
+        batch,
+        places: problems.len() as u32,
+        solve,
+    };
+    let mut numbers = numbers_of(alloc, options.workers.min(work.places))?;
+    let findings = work_side_by_side(rt, alloc, &work, numbers.as_mut_slice(), pass)?;
+    work.in_order(pass, findings)
 }
