@@ -1,18 +1,20 @@
 -- The card that wins a trick, and a card with all higher ones.
-use Rattle.std.proofs.Common.{◌≡◌, ◌≢◌, ◌⊎◌, ℕ, suc, ◌<◌, ◌≤◌, Bool, true, false, not, ◌&&◌, ◌||◌, ltb, List, [], ◌∷◌, ◌++◌, length, get_or, refl, sym, ap, subst, ◌∙◌, inl, inr, arith}
+use Rattle.std.proofs.Common.{◌≡◌, ◌≢◌, ◌⊎◌, ℕ, zero, suc, ◌<◌, ◌≤◌, Bool, true, false, not, ◌&&◌, ◌||◌, ltb, List, [], ◌∷◌, ◌++◌, length, get_or, All, AllPairs, refl, sym, ap, subst, ◌∙◌, inl, inr, arith}
 use Rattle.std.specs.Prelude.{Option, MatchOption}
 use Rattle.std.proofs.lemmas.Bool.{false≢true, cases_eq, eq-eqb, ne_eqb, le-ltb, and_parts, or_left, or_right, not-true, ltb-false}
 use Rattle.std.proofs.lemmas.List.{length_push}
+use Rattle.std.proofs.lemmas.List.Elements.{All-push}
+use Rattle.std.proofs.lemmas.List.Quantifiers.{all_pairs_push}
 use Rattle.card_sets.specs.declared.seat.Seat.{Seat}
+use Rattle.card_sets.specs.declared.seat.Seat.TheVariants.{Declarer, Left, Dummy, Right}
 use Rattle.card_sets.specs.Cards.{suit_of, same_suit}
 use Rattle.card_sets.specs.SetWords.{has_card, cards_where, IsCardSet, IsSubset, first_card}
 use Rattle.card_sets.proofs.Sets.{has_card-cards_where, has_card-below, IsCardSet-cards_where}
 use Rattle.card_sets.proofs.Suits.{same_suit-true}
-use Rattle.trick_rules.specs.Positions.{PositionValue, seat_after, seat_place, places_on, IsSound}
+use Rattle.trick_rules.specs.Positions.{PositionValue, seat_after, places_on, to_play, IsSound}
 use Rattle.trick_rules.specs.Play.{take_out, winning_place, CanPlay}
 use Rattle.trick_rules.proofs.TrickLemmas.{one_winner}
-use Rattle.trick_rules.proofs.Soundness.{with_card-low, with_card-differ}
-use Rattle.sure_tricks.proofs.Hands.{place-after, place_low}
+use Rattle.trick_rules.proofs.Soundness.{held_low, trick_held}
 use Rattle.sure_tricks.proofs.Holding.{suit_test}
 use Rattle.equivalent_positions.specs.Alike.{IsClosedUp, SettlesTrick}
 use Rattle.equivalent_positions.proofs.Counting.{a_card_and_all_higher, both_are_closed_up}
@@ -95,11 +97,33 @@ shorter c (x ∷ xs) h = elim (cases_eq x c) as (λ _. length (take_out c (x ∷
 
 -- ---- who won
 
-places_back : (p q k : ℕ) → p < 4 → k < 4 → q ≡ (p + k) % 4 → (q + 4 - p) % 4 ≡ k
-places_back p q k low h is = omega arith
-
 pub place_back : (leader : Seat) (k : ℕ) → k < 4 → places_on leader (seat_after k leader) ≡ k
-place_back leader k h = places_back (seat_place leader) (seat_place (seat_after k leader)) k (place_low leader) h (place-after k leader h)
+place_back Declarer zero h = refl
+place_back Declarer (suc zero) h = refl
+place_back Declarer (suc (suc zero)) h = refl
+place_back Declarer (suc (suc (suc zero))) h = refl
+place_back Left zero h = refl
+place_back Left (suc zero) h = refl
+place_back Left (suc (suc zero)) h = refl
+place_back Left (suc (suc (suc zero))) h = refl
+place_back Dummy zero h = refl
+place_back Dummy (suc zero) h = refl
+place_back Dummy (suc (suc zero)) h = refl
+place_back Dummy (suc (suc (suc zero))) h = refl
+place_back Right zero h = refl
+place_back Right (suc zero) h = refl
+place_back Right (suc (suc zero)) h = refl
+place_back Right (suc (suc (suc zero))) h = refl
+place_back seat (suc (suc (suc (suc k)))) h = absurd (omega arith)
+
+absent_differs : (xs : List ℕ) (card : ℕ) → has_card xs card ≡ false → (k : ℕ) (d : ℕ) → k < length xs → get_or xs k d ≡ card → ⊥
+absent_differs [] card h k d low e = absurd (omega arith)
+absent_differs (x ∷ xs) card h zero d low e = false≢true (sym h ∙ rw (eq-eqb x card e) refl)
+absent_differs (x ∷ xs) card h (suc k) d low e =
+    elim (cases_eq x card) as (λ _. ⊥) [
+      | inl same ↦ false≢true (sym h ∙ rw (eq-eqb x card same) refl)
+      | inr other ↦ absent_differs xs card (rw (ne_eqb x card other) at h) k d (omega arith) e
+    ]
 
 module _ (t : PositionValue) (c : ℕ) (sound : IsSound t) (can : CanPlay t c) (third : length t.trick.cards ≡ 3) where
   abbrev cards : List ℕ
@@ -108,13 +132,19 @@ module _ (t : PositionValue) (c : ℕ) (sound : IsSound t) (can : CanPlay t c) (
   count : length cards ≡ 4
   count = omega (arith, length_push t.trick.cards c, third)
 
+  low : All (λ d. d < 52) cards
+  low = All-push (λ d. d < 52) t.trick.cards c sound.trick_cards (held_low t sound c (to_play t) can)
+
+  differ : AllPairs (λ d e. d ≢ e) cards
+  differ = all_pairs_push (λ d e. d ≢ e) t.trick.cards c sound.trick_differs (absent_differs t.trick.cards c (trick_held t sound (to_play t) c can))
+
   -- the trick is settled by the card at its winning place
   pub settled_by : (counting : List ℕ) (place : ℕ) → place < 4 → place ≡ winning_place t.trump cards
       → ((has_card counting (get_or cards place 0) ≡ true) ⊎ ((other : ℕ) → other < 4 → other ≢ place → suit_of (get_or cards other 0) ≢ suit_of (get_or cards place 0)))
       → SettlesTrick counting t.trump cards
   settled_by counting place fits at settled other wins =
       let leader = t.trick.leader in
-      let one = one_winner t.trump (record { leader = leader; cards = cards }) (omega (arith, count)) (with_card-low t c sound can) (with_card-differ t c sound can) in
+      let one = one_winner t.trump (record { leader = leader; cards = cards }) (omega (arith, count)) low differ in
       let within : one.0 < 4 = omega (arith, one.1.within, count) in
       let leads : seat_after place leader ≡ seat_after one.0 leader = ap (λ n. seat_after n leader) at ∙ one.3 in
       let same : place ≡ other = sym (place_back leader place fits) ∙ ap (places_on leader) leads ∙ place_back leader one.0 within ∙ sym (one.2 other wins) in
@@ -122,7 +152,7 @@ module _ (t : PositionValue) (c : ℕ) (sound : IsSound t) (can : CanPlay t c) (
       (subst (λ n. (has_card counting (get_or cards place 0) ≡ true) ⊎ ((k : ℕ) → k < n → k ≢ place → suit_of (get_or cards k 0) ≢ suit_of (get_or cards place 0))) (sym count) settled)
 
   pub card_fits : (k : ℕ) → k < 4 → get_or cards k 0 < 52
-  card_fits k h = with_card-low t c sound can k 0 (omega (arith, count))
+  card_fits k h = low k 0 (omega (arith, count))
 
 -- ---- four cards
 
