@@ -58,32 +58,20 @@ impl Defender for Secretive {
     }
 }
 
-/// A plan as text, and how many moves of declarer's side it may use.
-struct Told {
-    text: &'static [u8],
+/// The strategy of a text, at a node with `moves` moves.
+fn strategy(
+    rt: &impl Abort,
+    alloc: Global,
+    node: &Node,
+    text: &[u8],
     moves: u8,
-}
-
-/// It leads the two, and then guesses.
-const GUESSES: Told = Told {
-    text: FIRST,
-    moves: 2,
-};
-
-/// It stops at once.
-const STOPS: Told = Told {
-    text: b"stop\n",
-    moves: 0,
-};
-
-/// The strategy that is told, at a node.
-fn strategy(rt: &impl Abort, alloc: Global, node: &Node, told: &Told) -> Result<Plan, Fail>
-    ensures { IfOk result (λ plan. Fits bridge (plan_of plan) node.now told.now.moves) }
+) -> Result<Plan, Fail>
+    ensures { IfOk result (λ plan. Fits bridge (plan_of plan) node.now moves) }
 {
-    assert!(rt; told.text.len() < 1000);
-    let (plan, _) = read_plan(alloc, told.text, 0)?;
+    assert!(rt; text.len() < 1000);
+    let (plan, _) = read_plan(alloc, text, 0)?;
     let vector = WinVector::none(node.width());
-    match check(node, told.moves, &plan, &vector) {
+    match check(node, moves, &plan, &vector) {
         Verdict::NotAStrategy(_) => panic!(rt; "the plan is a strategy"),
         Verdict::Good => Ok(plan),
         Verdict::OtherVector(_, _) => Ok(plan),
@@ -94,7 +82,8 @@ fn strategy(rt: &impl Abort, alloc: Global, node: &Node, told: &Told) -> Result<
 fn play(
     rt: &impl Abort,
     alloc: Global,
-    told: &Told,
+    text: &[u8],
+    moves: u8,
     layout: u16,
     table: &mut Vec<Box<dyn Defender>>,
     swap: Option<Swap>,
@@ -106,9 +95,9 @@ fn play(
 {
     let node = node_of(rt, alloc, GUESS)?;
     assert!(rt; 1 <= layout && layout <= node.width());
-    let plan = strategy(rt, alloc, &node, told)?;
+    let plan = strategy(rt, alloc, &node, text, moves)?;
     let mut solver = Solver::new(alloc);
-    let played = play_out(&mut solver, &plan, &node, told.moves, layout, table, swap)?;
+    let played = play_out(&mut solver, &plan, &node, moves, layout, table, swap)?;
     Ok(played)
 }
 
@@ -150,9 +139,9 @@ fn low_cards_lose_a_trick_that_they_could_take(rt: HostRuntime) -> Result<(), Fa
     let mut table: Vec<Box<dyn Defender>> = Vec::new(alloc);
     table.push(Box::new(alloc, LowCard::new())?)?;
     table.push(Box::new(alloc, LowCard::new())?)?;
-    let first = play(&rt, alloc, &GUESSES, 1, &mut table, None)?;
+    let first = play(&rt, alloc, FIRST, 2, 1, &mut table, None)?;
     assert_played(&rt, &first, "S2 S7 SK S5 SJ SQ S3 SA", true);
-    let second = play(&rt, alloc, &GUESSES, 2, &mut table, None)?;
+    let second = play(&rt, alloc, FIRST, 2, 2, &mut table, None)?;
     assert_played(&rt, &second, "S2 S7 SK S5 SJ SA S3 SQ", true);
     Ok(())
 }
@@ -169,7 +158,7 @@ fn a_high_card_from_the_fourth_card_on(rt: HostRuntime) -> Result<(), Fail> {
         seat: Seat::Left,
         defender: Box::new(alloc, HighCard::new())?,
     };
-    let played = play(&rt, alloc, &GUESSES, 2, &mut table, Some(swap))?;
+    let played = play(&rt, alloc, FIRST, 2, 2, &mut table, Some(swap))?;
     assert_played(&rt, &played, "S2 S7 SK SA S5 S3 SQ SJ", false);
     assert_heard(&rt, &table[0], "S2 S7 SK SA S5 S3 SQ SJ");
     assert_heard(&rt, &table[1], "S2 S7 SK SA S5 S3 SQ SJ");
@@ -194,7 +183,7 @@ fn swaps_at_both_ends(rt: HostRuntime) -> Result<(), Fail> {
             seat: Seat::Right,
             defender: Box::new(alloc, HighCard::new())?,
         };
-        let played = play(&rt, alloc, &GUESSES, 1, &mut table, Some(swap))?;
+        let played = play(&rt, alloc, FIRST, 2, 1, &mut table, Some(swap))?;
         assert_played(&rt, &played, text, true);
         assert_heard(&rt, &table[1], text);
     }
@@ -209,21 +198,21 @@ fn defenders_of_no_style(rt: HostRuntime) -> Result<(), Fail> {
     let mut high: Vec<Box<dyn Defender>> = Vec::new(alloc);
     high.push(Box::new(alloc, HighCard::new())?)?;
     high.push(Box::new(alloc, HighCard::new())?)?;
-    let played = play(&rt, alloc, &GUESSES, 2, &mut high, None)?;
+    let played = play(&rt, alloc, FIRST, 2, 2, &mut high, None)?;
     assert_played(&rt, &played, "S2 SQ SK SA S5 S3 S7 SJ", true);
     let mut secretive: Vec<Box<dyn Defender>> = Vec::new(alloc);
     secretive.push(Box::new(alloc, Secretive::new())?)?;
     secretive.push(Box::new(alloc, Secretive::new())?)?;
-    let played = play(&rt, alloc, &GUESSES, 2, &mut secretive, None)?;
+    let played = play(&rt, alloc, FIRST, 2, 2, &mut secretive, None)?;
     assert_played(&rt, &played, "S2 SQ SK SA S5 S3 S7 SJ", true);
-    let played = play(&rt, alloc, &GUESSES, 1, &mut secretive, None)?;
+    let played = play(&rt, alloc, FIRST, 2, 1, &mut secretive, None)?;
     assert_played(&rt, &played, "S2 S7 SK S5 SJ SQ S3 SA", true);
     let swap = Swap {
         at: 3,
         seat: Seat::Left,
         defender: Box::new(alloc, LowCard::new())?,
     };
-    let played = play(&rt, alloc, &GUESSES, 2, &mut secretive, Some(swap))?;
+    let played = play(&rt, alloc, FIRST, 2, 2, &mut secretive, Some(swap))?;
     assert_played(&rt, &played, "S2 SQ SK S5 SJ SA S3 S7", true);
     assert_heard(&rt, &secretive[0], "S2 SQ SK S5 SJ SA S3 S7");
     assert_eq!(rt; secretive[1].heard_at(0), None);
@@ -238,9 +227,9 @@ fn cards_after_a_plan_has_stopped(rt: HostRuntime) -> Result<(), Fail> {
     let mut table: Vec<Box<dyn Defender>> = Vec::new(alloc);
     table.push(Box::new(alloc, LowCard::new())?)?;
     table.push(Box::new(alloc, LowCard::new())?)?;
-    let first = play(&rt, alloc, &STOPS, 1, &mut table, None)?;
+    let first = play(&rt, alloc, b"stop\n", 0, 1, &mut table, None)?;
     assert_played(&rt, &first, "S2 S7 SK S5 SJ SQ S3 SA", true);
-    let second = play(&rt, alloc, &STOPS, 2, &mut table, None)?;
+    let second = play(&rt, alloc, b"stop\n", 0, 2, &mut table, None)?;
     assert_played(&rt, &second, "S2 S7 SJ S5 SK SA S3 SQ", true);
     Ok(())
 }

@@ -5,7 +5,7 @@ ghost use Rattle.front_table.specs.Proven.{IsFrontAt};
 
 use crate::endings::ENUMERATED;
 use crate::given::{GUESS, assert_vectors, card, front_of, node_of, number};
-use crate::stores::Idle;
+use crate::stores::{AlwaysBusy, Forgetful};
 use alphamu_core::{Budget, Found, SearchFault, search};
 use cut_rules::{CutRules, Stop};
 use dd_solver::Solver;
@@ -70,26 +70,25 @@ fn assert_ten_nodes<S: FrontStore>(
 #[test]
 fn ten_nodes_over_each_store(rt: HostRuntime) -> Result<(), Fail> {
     assert_ten_nodes(&rt, rt.alloc(), &mut NoStore)?;
-    assert_ten_nodes(&rt, rt.alloc(), &mut Idle::Forgetful)?;
-    assert_ten_nodes(&rt, rt.alloc(), &mut Idle::AlwaysBusy)
+    assert_ten_nodes(&rt, rt.alloc(), &mut Forgetful)?;
+    assert_ten_nodes(&rt, rt.alloc(), &mut AlwaysBusy)
 }
 
-/// What a search with each cut finds, in ample memory and within a million nodes, and how many nodes
-/// it enters.
+/// What a search with each cut finds, in ample memory and within `nodes` nodes.
 fn cut_search<S: FrontStore>(
     rt: &impl Abort,
     alloc: Global,
     store: &mut S,
+    budget: &mut Budget,
     node: &Node,
     moves: u8,
     alpha: &Front,
-) -> (Found, u64) {
+) -> Found {
     assert!(rt; alpha.width() == node.width() && moves <= 26);
-    let budget = &mut Budget::new(1_000_000);
-    let solver = &mut Solver::new(alloc);
     let rules = CutRules::all(Stop::Never);
-    match search(alloc, store, solver, budget, node, moves, alpha, rules) {
-        Ok(found) => (found, budget.entered().count()),
+    let mut solver = Solver::new(alloc);
+    match search(alloc, store, &mut solver, budget, node, moves, alpha, rules) {
+        Ok(found) => found,
         Err(_) => panic!(rt; "the search ended with no answer"),
     }
 }
@@ -100,13 +99,14 @@ fn what_was_found_is_found_again_at_once(rt: HostRuntime) -> Result<(), Fail> {
     let node = after_the_two(&rt, alloc)?;
     let none = Front::new(alloc, node.width());
     let mut store = LocalStore::new(alloc, 64);
-    for most in [10, 1] {
-        let (Found::Exact(front), entered) = cut_search(&rt, alloc, &mut store, &node, 1, &none)
+    for left in [0, 9] {
+        let mut budget = Budget::new(10);
+        let Found::Exact(front) = cut_search(&rt, alloc, &mut store, &mut budget, &node, 1, &none)
         else {
             return Err(Fail::from("a front that isn't covered was left out"));
         };
         assert_vectors(&rt, &front, "10 01");
-        assert!(rt; entered <= most);
+        assert!(rt; budget.left() >= left);
     }
     Ok(())
 }
@@ -116,10 +116,10 @@ fn a_front_that_alpha_covers_may_be_left_out(rt: HostRuntime) -> Result<(), Fail
     let alloc = rt.alloc();
     let node = after_the_two(&rt, alloc)?;
     let alpha = front_of(&rt, alloc, "10 01")?;
-    let (found, entered) = cut_search(&rt, alloc, &mut NoStore, &node, 1, &alpha);
-    assert!(rt; entered <= 10);
-    if let Found::Exact(front) = found {
-        assert_vectors(&rt, &front, "10 01");
+    let budget = &mut Budget::new(10);
+    match cut_search(&rt, alloc, &mut NoStore, budget, &node, 1, &alpha) {
+        Found::Exact(front) => assert_vectors(&rt, &front, "10 01"),
+        Found::Below => {}
     }
     Ok(())
 }
@@ -134,8 +134,10 @@ fn cuts_and_a_store_change_no_front(rt: HostRuntime) -> Result<(), Fail> {
         let none = Front::new(alloc, node.width());
         let mut store = LocalStore::new(alloc, 1000);
         for moves in 1..=number(&rt, parts[8]).min(26) {
-            let (Found::Exact(front), _) = cut_search(&rt, alloc, &mut store, &node, moves, &none)
-            else {
+            let budget = &mut Budget::new(1_000_000);
+            let Found::Exact(front) = cut_search(
+                &rt, alloc, &mut store, budget, &node, moves, &none,
+            ) else {
                 return Err(Fail::from("a front that isn't covered was left out"));
             };
             if moves == number(&rt, parts[8]) {

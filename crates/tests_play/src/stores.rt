@@ -3,16 +3,11 @@ use front_table::{FrontStore, Look, ProvenFront, Put};
 use pareto_fronts::Front;
 use trick_rules::Node;
 
-/// A store in which nothing is ever found or kept.
+/// Misses always, and keeps nothing.
 #[derive(Drop)]
-pub enum Idle {
-    /// It misses always, and is full.
-    Forgetful,
-    /// Somebody else is always inside.
-    AlwaysBusy,
-}
+pub struct Forgetful;
 
-impl FrontStore for Idle {
+impl FrontStore for Forgetful {
     ghost use Rattle.std.specs.Prelude.{⊤, false};
 
     ghost blind = { false };
@@ -24,16 +19,34 @@ impl FrontStore for Idle {
     ghost grown_more = { λ _ _ _ _ _. tt };
 
     fn look(&mut self, _node: &Node, _moves: u8, _out: &mut Front) -> Look {
-        match self {
-            Idle::Forgetful => Look::Miss,
-            Idle::AlwaysBusy => Look::Busy,
-        }
+        Look::Miss
     }
 
     fn put(&mut self, entry: ProvenFront) -> Put {
-        match self {
-            Idle::Forgetful => Put::Full(entry),
-            Idle::AlwaysBusy => Put::Busy(entry),
-        }
+        Put::Full(entry)
+    }
+}
+
+/// Somebody else is always inside.
+#[derive(Drop)]
+pub struct AlwaysBusy;
+
+impl FrontStore for AlwaysBusy {
+    ghost use Rattle.std.specs.Prelude.{⊤, false};
+
+    ghost blind = { false };
+
+    ghost grown = { λ _ _. ⊤ };
+
+    ghost grown_none = { λ _. tt };
+
+    ghost grown_more = { λ _ _ _ _ _. tt };
+
+    fn look(&mut self, _node: &Node, _moves: u8, _out: &mut Front) -> Look {
+        Look::Busy
+    }
+
+    fn put(&mut self, entry: ProvenFront) -> Put {
+        Put::Busy(entry)
     }
 }
