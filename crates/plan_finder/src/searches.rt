@@ -52,7 +52,7 @@ pub struct WholeFront {
     pub entered: Entered,
 }
 
-/// The rules of a search: each cut, or none. No clause says which, since no rules change an answer.
+/// The rules of a search: each cut, or none. It has no `ensures`, since no rules change an answer.
 pub fn rules_of(cuts: bool) -> CutRules {
     if cuts {
         CutRules::all(Stop::Never)

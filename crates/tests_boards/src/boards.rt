@@ -4,7 +4,6 @@ use byte_text::Text;
 use card_letters::{compass_letter, letters_of, suit_letter};
 use pbn_deal::{Board, BoardRefusal, hand_text};
 use std::alloc::Global;
-use std::process::Abort;
 use std::test::Fail;
 use trick_rules::Trump;
 
@@ -57,25 +56,6 @@ fn outcome(alloc: Global, file: &str) -> Result<Text, Fail> {
     }
 }
 
-// Fails if a file is read as another line.
-fn assert_read(rt: &impl Abort, alloc: Global, file: &str, line: &str) -> Result<(), Fail> {
-    assert_eq!(rt; outcome(alloc, file)?.bytes(), line.as_bytes(), "{file}");
-    Ok(())
-}
-
-// The same for endings with each deal, contract and rows.
-fn assert_endings(
-    rt: &impl Abort,
-    alloc: Global,
-    table: &[(&str, &str, &str, &str)],
-) -> Result<(), Fail> {
-    for (deal, contract, rows, line) in table {
-        let file = ending(alloc, *deal, *contract, *rows)?;
-        assert_read(rt, alloc, &file, *line)?;
-    }
-    Ok(())
-}
-
 #[test]
 fn small_files_are_read_as_their_boards(rt: HostRuntime) -> Result<(), Fail> {
     let table = [
@@ -101,14 +81,23 @@ fn small_files_are_read_as_their_boards(rt: HostRuntime) -> Result<(), Fail> {
             "S H 1 N | 2... | A... | - | | N",
         ),
     ];
-    assert_endings(&rt, rt.alloc(), table.as_slice())
+    for (deal, contract, rows, line) in table {
+        let file = ending(rt.alloc(), deal, contract, rows)?;
+        assert_eq!(rt;
+            outcome(rt.alloc(), &file)?.bytes(),
+            line.as_bytes(),
+            "{file}"
+        );
+    }
+    Ok(())
 }
 
 #[test]
 fn a_slam_after_seven_tricks_is_read(rt: HostRuntime) -> Result<(), Fail> {
     let line =
         "S NT 12 W | AQ.T987.KQ5.AKQ5 | 32.AKQJ.JT98.432 | KJT987654.65432.A76432.JT9876 | WCJ NC2 EC6 SCA SDK WD2 ND8 EDA EC7 SCK WC8 NC3 SCQ WC9 NC4 ECT SC5 WD3 ND9 ES4 SDQ WD4 NDT ED6 SD5 WH2 NDJ ED7 | N";
-    assert_read(&rt, rt.alloc(), SLAM, line)
+    assert_eq!(rt; outcome(rt.alloc(), SLAM)?.bytes(), line.as_bytes());
+    Ok(())
 }
 
 #[test]
@@ -166,7 +155,11 @@ fn the_play_section_is_read_by_rows(rt: HostRuntime) -> Result<(), Fail> {
     ];
     for (rows, line) in table {
         let file = format!(in rt.alloc(); "{ENDING}[Play \"N\"]\n{rows}\n")?;
-        assert_read(&rt, rt.alloc(), &file, line)?;
+        assert_eq!(rt;
+            outcome(rt.alloc(), &file)?.bytes(),
+            line.as_bytes(),
+            "{rows}"
+        );
     }
     Ok(())
 }
@@ -286,7 +279,11 @@ fn tags_are_read_in_order(rt: HostRuntime) -> Result<(), Fail> {
         ),
     ];
     for (file, line) in table {
-        assert_read(&rt, rt.alloc(), file, line)?;
+        assert_eq!(rt;
+            outcome(rt.alloc(), file)?.bytes(),
+            line.as_bytes(),
+            "{file}"
+        );
     }
     Ok(())
 }
@@ -309,7 +306,15 @@ fn a_contract_is_read_after_its_deal_and_before_the_play(rt: HostRuntime) -> Res
             "S H 1 N | .KJ.. | 32... | - | NS2 ESA SHK WH5 | S",
         ),
     ];
-    assert_endings(&rt, rt.alloc(), table.as_slice())
+    for (deal, contract, rows, line) in table {
+        let file = ending(rt.alloc(), deal, contract, rows)?;
+        assert_eq!(rt;
+            outcome(rt.alloc(), &file)?.bytes(),
+            line.as_bytes(),
+            "{file}"
+        );
+    }
+    Ok(())
 }
 
 #[test]
@@ -336,7 +341,11 @@ fn what_stands_after_the_ending_is_read(rt: HostRuntime) -> Result<(), Fail> {
     ];
     for (tail, line) in table {
         let file = format!(in rt.alloc(); "{ENDING}{tail}")?;
-        assert_read(&rt, rt.alloc(), &file, line)?;
+        assert_eq!(rt;
+            outcome(rt.alloc(), &file)?.bytes(),
+            line.as_bytes(),
+            "{tail}"
+        );
     }
     Ok(())
 }

@@ -1,8 +1,5 @@
 //! The boards and layouts that the tests work with.
-ghost use Rattle.std.specs.Prelude.{◌≤◌};
-
 use byte_text::Text;
-use card_sets::{Card, Rank, Suit};
 use layout_list::{Kept, layouts};
 use pbn_deal::{Board, BoardRefusal, read_board};
 use pbn_text::games;
@@ -84,11 +81,4 @@ pub(crate) fn kept_of(alloc: Global, board: &Board, list: &str) -> Result<Kept, 
         return Err("the layouts are too long".into());
     }
     Ok(layouts(alloc, list.as_bytes(), board)?)
-}
-
-pub(crate) fn spade(rank: u8) -> Card
-    requires low { 2 ≤ rank }
-    requires high { rank ≤ 14 }
-{
-    Card::new(Suit::Spades, Rank::new(rank))
 }

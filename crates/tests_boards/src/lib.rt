@@ -13,8 +13,6 @@ pub mod drawn;
 #[cfg(test)]
 mod endings;
 #[cfg(test)]
-mod fusions;
-#[cfg(test)]
 mod kept_layouts;
 #[cfg(test)]
 mod list_read_back;

@@ -1,15 +1,17 @@
 //! Reports of small endings and of a slam, and the other texts, byte for byte.
-ghost use Rattle.std.specs.Prelude.{◌≡◌, IfOk, length};
+ghost use Rattle.std.specs.Prelude.{◌≡◌, ◌≤◌, IfOk, length};
 
 use crate::endings::{
     ENDING, ENDING_LAYOUTS, HIDDEN, SHOWN, SLAM, SLAM_LAYOUTS, WEIGHED_LAYOUTS, board_of, ending,
-    kept_of, spade,
+    kept_of,
 };
 use am_report::{
-    Entry, MadeSummary, SolveAnswer, card_text, check_text, head_text, list_text, made_text,
-    solve_text,
+    Entry, MadeSummary, SolveAnswer, card_text, check_text, fusion_text, head_text, list_text,
+    made_text, solve_text,
 };
 use byte_text::Text;
+use card_sets::{Card, Rank, Suit};
+use fusion_base::CardVector;
 use layout_maker::all_layouts;
 use std::alloc::Global;
 use std::test::Fail;
@@ -41,6 +43,13 @@ const TRICK_HEAD: &str =
 // The head of a slam after seven tricks, of whose fourteen layouts the play rules out two.
 const SLAM_HEAD: &str =
     "alphamu report 1\ndeclarer S\ntrump NT\nneed 6\nhand S AQ.T987..\nhand N 32.AKQJ..\ntrick N -\nturn N\nmoves 3\nkept 1 2 3 4 5 6 7 8 9 10 11 12\ndropped 13 revoke 26\ndropped 14 notheld 1\n";
+
+fn spade(rank: u8) -> Card
+    requires low { 2 ≤ rank }
+    requires high { rank ≤ 14 }
+{
+    Card::new(Suit::Spades, Rank::new(rank))
+}
 
 // A vector of two layouts with a plan in text.
 fn entry(alloc: Global, first: bool, text: &str) -> Result<Entry, Fail>
@@ -157,6 +166,48 @@ fn what_is_made_of_number_0_is_written(rt: HostRuntime) -> Result<(), Fail> {
     assert_eq!(rt;
         text.bytes(),
         b"alphamu made 1\nnumber 0\nlayouts 40\nfront 1\nbest 0\ncard SQ\n".as_slice()
+    );
+    Ok(())
+}
+
+#[test]
+fn the_first_of_two_equal_cards_is_named(rt: HostRuntime) -> Result<(), Fail> {
+    let both = WinVector::none(2).set(0, true).set(1, true);
+    let table = [
+        CardVector {
+            card: spade(2),
+            vector: both,
+        },
+        CardVector {
+            card: spade(3),
+            vector: both,
+        },
+    ];
+    let text = fusion_text(rt.alloc(), &table, &Weights::equal(2))?;
+    assert_eq!(rt;
+        text.bytes(),
+        b"alphamu fusion 1\ncard S2 vector 11 count 2\ncard S3 vector 11 count 2\nnamed S2\n".as_slice()
+    );
+    Ok(())
+}
+
+#[test]
+fn the_card_of_the_greater_weight_is_named(rt: HostRuntime) -> Result<(), Fail> {
+    let none = WinVector::none(3);
+    let table = [
+        CardVector {
+            card: spade(2),
+            vector: none.set(0, true).set(1, true),
+        },
+        CardVector {
+            card: spade(3),
+            vector: none.set(2, true),
+        },
+    ];
+    let text = fusion_text(rt.alloc(), &table, &Weights::equal(3).set(2, 3))?;
+    assert_eq!(rt;
+        text.bytes(),
+        b"alphamu fusion 2\ncard S2 vector 110 weight 2\ncard S3 vector 001 weight 3\nnamed S3\n".as_slice()
     );
     Ok(())
 }

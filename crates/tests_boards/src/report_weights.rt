@@ -1,10 +1,20 @@
 //! Cards by weight, and the widest vector of a report.
-use crate::endings::spade;
-use am_report::{ReportFault, ReportKind, card_text, read_report};
+ghost use Rattle.std.specs.Prelude.{◌≤◌};
+
+use am_report::{ReportFault, ReportKind, card_text, fusion_text, read_report};
 use byte_text::Text;
+use card_sets::{Card, Rank, Suit};
+use fusion_base::CardVector;
 use std::alloc::{AllocError, Global};
 use std::test::Fail;
-use win_vectors::Weights;
+use win_vectors::{Weights, WinVector};
+
+fn spade(rank: u8) -> Card
+    requires low { 2 ≤ rank }
+    requires high { rank ≤ 14 }
+{
+    Card::new(Suit::Spades, Rank::new(rank))
+}
 
 // A report of one vector of this many ones.
 fn wide_report(alloc: Global, width: usize) -> Result<Text, AllocError> {
@@ -33,6 +43,27 @@ fn the_heavier_of_two_layouts_makes_a_card(rt: HostRuntime) -> Result<(), Fail> 
     assert_eq!(rt;
         text.bytes(),
         b"alphamu card 2\ncard SK weight 3 of 4\n".as_slice()
+    );
+    Ok(())
+}
+
+#[test]
+fn the_first_of_two_cards_of_one_weight_is_named(rt: HostRuntime) -> Result<(), Fail> {
+    let both = WinVector::all(2);
+    let table = [
+        CardVector {
+            card: spade(2),
+            vector: both,
+        },
+        CardVector {
+            card: spade(3),
+            vector: both,
+        },
+    ];
+    let text = fusion_text(rt.alloc(), &table, &Weights::equal(2).set(1, 3))?;
+    assert_eq!(rt;
+        text.bytes(),
+        b"alphamu fusion 2\ncard S2 vector 11 weight 4\ncard S3 vector 11 weight 4\nnamed S2\n".as_slice()
     );
     Ok(())
 }
