@@ -1,0 +1,7 @@
+pub mod Boths
+pub mod Found
+pub mod MergedReplies
+pub mod Joining
+pub mod Telling
+pub mod Keeping
+pub mod Cutting
