@@ -4,7 +4,7 @@ use Rattle.std.specs.List.{AllZip}
 use Rattle.win_vectors.specs.Fronts.{Vector, HaveWidth, CoversAll}
 use Rattle.trick_rules.specs.Nodes.{NodeValue, child}
 use Rattle.log_check.specs.declared.lines.LogLine.{LogLine}
-use Rattle.log_check.specs.Logs.{IsPath, node_after, our_cards, StandBehind}
+use Rattle.log_check.specs.Logs.{IsPath, node_after, our_cards, StandBehind, cited_lines}
 
 -- each number is that of one of so many lines
 abbrev pub AreNumbers : ℕ → List ℕ → Type 0
@@ -31,6 +31,11 @@ pub record StandBehindSome (path choices : List ℕ) (low : ℕ) (lines : List L
 -- the vectors of a line behind a path have a bit for each layout of its node
 abbrev pub HaveChildWidths : NodeValue → List ℕ → List LogLine → Type 0
 HaveChildWidths node path lines = (l : LogLine) (card : ℕ) → Contains lines l → l.path ≡ path ++ card ∷ [] → HaveWidth (length (child node card).lefts) l.vectors
+
+-- a line at a node cites earlier lines by their numbers, and those behind a card have the width of the child
+pub record CitesLines (node : NodeValue) (earlier : List LogLine) (line : LogLine) : Type 0 where
+  pub numbers : AreNumbers (length earlier) line.from
+  pub widths : HaveChildWidths node line.path (cited_lines earlier line.from)
 
 -- each of two lists covers the other
 abbrev pub CoverAlike : List Vector → List Vector → Type 0

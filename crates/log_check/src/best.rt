@@ -1,4 +1,4 @@
-//! Lines reduced to the best of their vectors.
+//! The Pareto front of the vectors of lines.
 ghost use Rattle.std.specs.Prelude.{◌≡◌, ◌≤◌, IfOk};
 ghost use Rattle.win_vectors.specs.Vectors.{most_layouts};
 ghost use Rattle.win_vectors.specs.Fronts.{HaveWidth};

@@ -1,10 +1,10 @@
-//! What the lines of a defender's cards leave together.
+//! The join of αμ at a defender's node: what the lines of his cards leave together.
 ghost use Rattle.std.specs.Prelude.{◌≡◌, ◌≤◌, ℕ, List, IfOk, length, map};
 ghost use Rattle.trick_rules.specs.Nodes.{choices, child_mask};
 ghost use Rattle.strategy_games.specs.Joins.{joins};
 ghost use Rattle.log_check.specs.declared.lines.LogLine.{LogLine};
 ghost use Rattle.log_check.specs.Logs.{cited_lines, StandBehind};
-ghost use Rattle.log_check.specs.Steps.{AreNumbers, StandBehindSome, HaveChildWidths, CoverAlike};
+ghost use Rattle.log_check.specs.Steps.{CitesLines, StandBehindSome, CoverAlike};
 
 use crate::best::front_of;
 use crate::lines::LogLine;
@@ -25,10 +25,9 @@ pub fn joined_lines(
     lines: &[LogLine],
     line: &LogLine,
 ) -> Result<Front, AllocError>
-    requires numbers { AreNumbers (length lines.now) line.now.from }
+    requires cites { CitesLines node.now lines.now line.now }
     requires behind { StandBehindSome line.now.path (choices node.now) 0
         (cited_lines lines.now line.now.from) }
-    requires widths { HaveChildWidths node.now line.now.path (cited_lines lines.now line.now.from) }
     ensures { IfOk result (λ front. (cards : List ℕ)
         → StandBehind line.now.path cards (cited_lines lines.now line.now.from)
         → CoverAlike (joins (length node.now.lefts) (map (λ card. child_mask node.now card) cards)

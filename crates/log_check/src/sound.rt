@@ -1,7 +1,7 @@
 //! Whether a line follows from those before it.
 ghost use Rattle.std.specs.Prelude.{◌≡◌, ◌↔◌, ◌≤◌, IsTrue, IfOk, length};
 ghost use Rattle.log_check.specs.Logs.{cited_lines, IsUnion, IsJoin, KeepsRule, IsSoundLine, AreSound};
-ghost use Rattle.log_check.specs.Steps.{AreNumbers, HaveChildWidths};
+ghost use Rattle.log_check.specs.Steps.{AreNumbers, CitesLines};
 
 use crate::cites::{are_numbers, stand_behind, stand_behind_some};
 use crate::covering::{covers, covers_all, covers_lines, have_width};
@@ -43,9 +43,7 @@ fn keeps_rule(
     earlier: &[LogLine],
     line: &LogLine,
 ) -> Result<bool, AllocError>
-    requires numbers { AreNumbers (length earlier.now) line.now.from }
-    requires widths { HaveChildWidths node.now line.now.path
-        (cited_lines earlier.now line.now.from) }
+    requires { CitesLines node.now earlier.now line.now }
     ensures { IfOk result (λ kept. IsTrue kept
         ↔ KeepsRule line.now.rule node.now line.now (cited_lines earlier.now line.now.from)) }
 {
@@ -81,9 +79,7 @@ fn is_join(
     earlier: &[LogLine],
     line: &LogLine,
 ) -> Result<bool, AllocError>
-    requires numbers { AreNumbers (length earlier.now) line.now.from }
-    requires widths { HaveChildWidths node.now line.now.path
-        (cited_lines earlier.now line.now.from) }
+    requires { CitesLines node.now earlier.now line.now }
     ensures { IfOk result (λ joined. IsTrue joined
         ↔ IsJoin node.now line.now (cited_lines earlier.now line.now.from)) }
 {

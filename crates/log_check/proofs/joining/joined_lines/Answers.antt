@@ -26,28 +26,22 @@ numbers-init c =
 
 pub overflow_sub-cited : goal.overflow_sub-cited
 overflow_sub-cited c =
-    let more = c.numbers-test.true in
-    let within = c.numbers.invariant.within in
-    let low : c.numbers.place - 1 < length c.as_slice-numbers.result.now = omega arith in
-    (number_at c.args.lines.now c.args.line.now.from c.as_slice-numbers.result.now (c.numbers.place - 1) c.as_slice-numbers.ensures c.requires.numbers low).0
+    let low : c.numbers.place - 1 < length c.as_slice-numbers.result.now = omega (arith, c.numbers-test.true, c.numbers.invariant.within) in
+    (number_at c.args.lines.now c.args.line.now.from c.as_slice-numbers.result.now (c.numbers.place - 1) c.as_slice-numbers.ensures c.requires.cites.numbers low).0
 
 pub bounds-lines-numbers : goal.bounds-lines-numbers
 bounds-lines-numbers c =
-    let more = c.numbers-test.true in
-    let within = c.numbers.invariant.within in
-    let low : c.numbers.place - 1 < length c.as_slice-numbers.result.now = omega arith in
-    let n = number_at c.args.lines.now c.args.line.now.from c.as_slice-numbers.result.now (c.numbers.place - 1) c.as_slice-numbers.ensures c.requires.numbers low in
+    let low : c.numbers.place - 1 < length c.as_slice-numbers.result.now = omega (arith, c.numbers-test.true, c.numbers.invariant.within) in
+    let n = number_at c.args.lines.now c.args.line.now.from c.as_slice-numbers.result.now (c.numbers.place - 1) c.as_slice-numbers.ensures c.requires.cites.numbers low in
     let first = n.0 in
     let last = n.1 in
     omega arith
 
 pub get-requires : goal.get-requires
 get-requires c =
-    let more = c.numbers-test.true in
-    let within = c.numbers.invariant.within in
-    let low : c.numbers.place - 1 < length c.as_slice-numbers.result.now = omega arith in
+    let low : c.numbers.place - 1 < length c.as_slice-numbers.result.now = omega (arith, c.numbers-test.true, c.numbers.invariant.within) in
     let at = placed_by c.args.line.now.path c.requires.behind.cards c.args.lines.now c.args.line.now.from c.as_slice-numbers.result.now (c.numbers.place - 1)
-    c.index-lines-numbers.result c.as_slice-numbers.ensures c.requires.numbers low c.index-lines-numbers.is c.requires.behind.behind in
+    c.index-lines-numbers.result c.as_slice-numbers.ensures c.requires.cites.numbers low c.index-lines-numbers.is c.requires.behind.behind in
     let long : length c.index-lines-numbers.result.path ≡ length c.args.line.now.path + 1
     = ap (λ (xs : List ℕ). length xs) at.path_is ∙ length-append c.args.line.now.path (at.card ∷ []) in
     let is = c.len.ensures.value in
@@ -55,11 +49,9 @@ get-requires c =
 
 pub child-requires : goal.child-requires
 child-requires c =
-    let more = c.numbers-test.true in
-    let within = c.numbers.invariant.within in
-    let low : c.numbers.place - 1 < length c.as_slice-numbers.result.now = omega arith in
+    let low : c.numbers.place - 1 < length c.as_slice-numbers.result.now = omega (arith, c.numbers-test.true, c.numbers.invariant.within) in
     let at = placed_by c.args.line.now.path c.requires.behind.cards c.args.lines.now c.args.line.now.from c.as_slice-numbers.result.now (c.numbers.place - 1)
-    c.index-lines-numbers.result c.as_slice-numbers.ensures c.requires.numbers low c.index-lines-numbers.is c.requires.behind.behind in
+    c.index-lines-numbers.result c.as_slice-numbers.ensures c.requires.cites.numbers low c.index-lines-numbers.is c.requires.behind.behind in
     let card = last_card c.args.line.now.path c.index-lines-numbers.result.path at.card c.get.result c.len.result at.path_is c.len.ensures.value c.get.ensures in
     subst (λ x. has_card (choices c.args.node.now) x ≡ true) (sym card)
     (has_card-from_Contains (choices c.args.node.now) at.card
@@ -67,18 +59,16 @@ child-requires c =
 
 pub front_of-requires-clause-widths : goal.front_of-requires-clause-widths
 front_of-requires-clause-widths c =
-    let more = c.numbers-test.true in
-    let within = c.numbers.invariant.within in
-    let low : c.numbers.place - 1 < length c.as_slice-numbers.result.now = omega arith in
+    let low : c.numbers.place - 1 < length c.as_slice-numbers.result.now = omega (arith, c.numbers-test.true, c.numbers.invariant.within) in
     let at = placed_by c.args.line.now.path c.requires.behind.cards c.args.lines.now c.args.line.now.from c.as_slice-numbers.result.now (c.numbers.place - 1)
-    c.index-lines-numbers.result c.as_slice-numbers.ensures c.requires.numbers low c.index-lines-numbers.is c.requires.behind.behind in
+    c.index-lines-numbers.result c.as_slice-numbers.ensures c.requires.cites.numbers low c.index-lines-numbers.is c.requires.behind.behind in
     let card = last_card c.args.line.now.path c.index-lines-numbers.result.path at.card c.get.result c.len.result at.path_is c.len.ensures.value c.get.ensures in
     let child_is : length (child c.args.node.now at.card).lefts ≡ c.width-in-numbers.result
     = sym (c.width-in-numbers.ensures.value ∙ ap (λ (n : NodeValue). length n.lefts) c.in_ok-child.ensures.node
     ∙ ap (λ x. length (child c.args.node.now x).lefts) card) in
     subst (λ (vs : List Vector). HaveWidth c.width-in-numbers.result vs) (sym c.as_slice.ensures)
     (subst (λ w. HaveWidth w c.index-lines-numbers.result.vectors) child_is
-    (c.requires.widths c.index-lines-numbers.result at.card at.cited at.path_is))
+    (c.requires.cites.widths c.index-lines-numbers.result at.card at.cited at.path_is))
 
 pub joined_front-requires-clause-mask_width : goal.joined_front-requires-clause-mask_width
 joined_front-requires-clause-mask_width c =
@@ -100,7 +90,7 @@ numbers-preserved c =
       within = omega arith;
       so_far = λ cards behind.
           let at = placed_by c.args.line.now.path cards c.args.lines.now c.args.line.now.from c.as_slice-numbers.result.now (c.numbers.place - 1)
-          c.index-lines-numbers.result c.as_slice-numbers.ensures c.requires.numbers low c.index-lines-numbers.is behind in
+          c.index-lines-numbers.result c.as_slice-numbers.ensures c.requires.cites.numbers low c.index-lines-numbers.is behind in
           let card = last_card c.args.line.now.path c.index-lines-numbers.result.path at.card c.get.result c.len.result at.path_is c.len.ensures.value c.get.ensures in
           joined-next c.args.node.now c.args.line.now.path cards c.args.lines.now c.args.line.now.from (c.numbers.place - 1) c.index-lines-numbers.result
           c.in_ok-child.mask c.numbers.front.vectors c.in_ok-won.won.vectors c.in_ok-front.front.vectors at
