@@ -173,23 +173,7 @@ reads all to = Leads (at [] None idle) all to
 
 -- no option is given
 abbrev no_values : OptionValues
-no_values = record {
-  job = None;
-  deal = None;
-  layouts = None;
-  report = None;
-  moves = None;
-  number = None;
-  layout = None;
-  switch = None;
-  log = None;
-  nodes = None;
-  workers = None;
-  shards = None;
-  room = None;
-  no_table = false;
-  no_cuts = false;
-}
+no_values = options_at []
 
 -- the words with these values
 module _ (job deal : Text) where

@@ -48,6 +48,7 @@ pub fn read_words<'a>(
 
 /// The plain words for a job, which give just what it requires, ask for just that, whatever the
 /// names of the files. A number among them is written in decimal digits.
+#[tactic(auto, using(crate::proofs::PlainLemmas::solve_asks, crate::proofs::PlainLemmas::card_asks, crate::proofs::PlainLemmas::match_asks, crate::proofs::PlainLemmas::fusion_asks, crate::proofs::PlainLemmas::list_asks, crate::proofs::PlainLemmas::check_asks, crate::proofs::PlainLemmas::made_asks, crate::proofs::PlainLemmas::prove_asks, crate::proofs::PlainLemmas::audit_asks, crate::proofs::PlainLemmas::boards_asks))]
 pub fn plain_words_are_read()
     ensures solve { (deal layouts moves : List ℕ) (number : ℕ) → is_value deal ≡ true
         → is_value layouts ≡ true

@@ -54,6 +54,7 @@ pub(crate) fn number_or(default: u64, least: u64, most: u64, value: Option<&str>
 }
 
 /// The job of this name.
+#[tactic(auto, unfolding(crate::specs::Values::job_named))]
 pub(crate) fn job_named(name: &str) -> Option<Job>
     ensures { result ≡ job_named name.now }
 {

@@ -1,47 +1,7 @@
-use Rattle.std.proofs.Common.{sym, ap, refl, codes}
+use Rattle.std.proofs.Common.{refl, codes}
 use Rattle.job_words.specs.Values.{job_named}
 use Rattle.job_words.proofs.TextLemmas.{bytes_ne}
 use Rattle.job_words.proofs.values.job_named.Goals as goal
-
-pub returns-in-solve : goal.returns-in-solve
-unfolding job_named
-returns-in-solve c = sym (ap job_named c.in-solve.is)
-
-pub returns-in-card : goal.returns-in-card
-unfolding job_named
-returns-in-card c = sym (ap job_named c.in-card.is)
-
-pub returns-in-match : goal.returns-in-match
-unfolding job_named
-returns-in-match c = sym (ap job_named c.in-match.is)
-
-pub returns-in-fusion : goal.returns-in-fusion
-unfolding job_named
-returns-in-fusion c = sym (ap job_named c.in-fusion.is)
-
-pub returns-in-list : goal.returns-in-list
-unfolding job_named
-returns-in-list c = sym (ap job_named c.in-list.is)
-
-pub returns-in-check : goal.returns-in-check
-unfolding job_named
-returns-in-check c = sym (ap job_named c.in-check.is)
-
-pub returns-in-made : goal.returns-in-made
-unfolding job_named
-returns-in-made c = sym (ap job_named c.in-made.is)
-
-pub returns-in-prove : goal.returns-in-prove
-unfolding job_named
-returns-in-prove c = sym (ap job_named c.in-prove.is)
-
-pub returns-in-audit : goal.returns-in-audit
-unfolding job_named
-returns-in-audit c = sym (ap job_named c.in-audit.is)
-
-pub returns-in-boards : goal.returns-in-boards
-unfolding job_named
-returns-in-boards c = sym (ap job_named c.in-boards.is)
 
 pub returns-in_default : goal.returns-in_default
 unfolding job_named
