@@ -83,7 +83,7 @@ pub fn ran_at<R: Threads + Sync, G: Gate>(
     Ok(Run { status, out, err })
 }
 
-/// Where a run writes its output and its error line.
+/// The two streams of a run: one for its output and one for its error line.
 #[derive(Drop)]
 pub struct Sinks {
     pub out: MemorySink,
