@@ -23,12 +23,14 @@ use Rattle.am_report.specs.declared.version.Version.TheVariants.{Counts, Weights
 use Rattle.am_report.specs.Versions.{version_of, most_written, may_stand, weight_text}
 use Rattle.am_report.specs.Answers.{EntryValue, ReadEntryValue}
 use Rattle.am_report.specs.Card.{named_text}
-use Rattle.am_report.specs.Solve.{bit_letter, vector_line, entry_text}
-use Rattle.am_report.specs.ReportLines.{ends_bits, is_one, front_said, weight_said, weighed, bits_said, vector_said, card_said}
+use Rattle.am_report.specs.Solve.{vector_line, entry_text}
+use Rattle.am_report.specs.ReportLines.{ends_bits, front_said, weight_said, weighed, bits_said, vector_said, card_said}
 use Rattle.am_report.specs.Reading.{expected, entry_read, entries_read}
 use Rattle.am_report.specs.ReadBack.{IsPrintablePlan, ArePrintableWeights, IsPrintableEntry, printed_entry}
 use Rattle.byte_text.proofs.ReadNumbers.{le_true, number_within-decimal}
 use Rattle.byte_text.proofs.PlainLines.{is_plain, plain_both, decimal_plain, said_at-here}
+use Rattle.bit_letters.specs.Bits.{bit_letter, is_one}
+use Rattle.bit_letters.proofs.Written.{bits_back}
 use Rattle.am_report.proofs.PlainTexts.{card_text_plain}
 use Rattle.am_report.proofs.Versions.{sum_written, weight_stands, weight_plain}
 use Rattle.am_report.proofs.ReportSteps.{entry_read-plan}
@@ -60,11 +62,6 @@ bits_end : (vector : List Bool) (text : List ℕ) → position_or_len ends_bits 
 bits_end [] text = refl
 bits_end (true ∷ vector) text = omega (arith, bits_end vector text)
 bits_end (false ∷ vector) text = omega (arith, bits_end vector text)
-
-bits_back : (vector : List Bool) → map is_one (map bit_letter vector) ≡ vector
-bits_back [] = refl
-bits_back (true ∷ vector) = ap (λ more. true ∷ more) (bits_back vector)
-bits_back (false ∷ vector) = ap (λ more. false ∷ more) (bits_back vector)
 
 weight_ends : (version : Version) (vector : List Bool) (weight : ℕ) → position_or_len ends_bits (map bit_letter vector ++ weight_text version weight) ≡ length vector
 weight_ends Counts vector weight = bits_end vector (codes "count " ++ decimal weight)

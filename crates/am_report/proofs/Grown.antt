@@ -1,6 +1,6 @@
 -- Texts that have grown by one piece more.
-use Rattle.std.proofs.Common.{◌≡◌, ℕ, zero, suc, ◌+◌, ◌<◌, Bool, Some, List, [], ◌∷◌, ◌++◌, length, map, take, flat_map, slice_get, get_or, max, All, arith, refl, sym, ap, subst, ◌∙◌, append_assoc, codes}
-use Rattle.std.proofs.lemmas.List.{append-nil, map-append}
+use Rattle.std.proofs.Common.{◌≡◌, ℕ, zero, suc, ◌+◌, ◌<◌, Bool, Some, List, [], ◌∷◌, ◌++◌, length, take, flat_map, slice_get, get_or, max, All, arith, refl, sym, ap, subst, ◌∙◌, append_assoc, codes}
+use Rattle.std.proofs.lemmas.List.{append-nil}
 use Rattle.std.proofs.lemmas.Grind.{take_at_read, flat_map-append}
 use Rattle.std.proofs.lemmas.List.Elements.{All-get_or}
 use Rattle.std.proofs.lemmas.Option.{slice_get_within, get_or_from_slice_get}
@@ -16,7 +16,7 @@ use Rattle.am_report.specs.Answers.{EntryValue}
 use Rattle.am_report.specs.Fusion.{greatest_of}
 use Rattle.am_report.specs.Lines.{spaced, space_before}
 use Rattle.am_report.specs.Head.{seat_text, trump_text, hand_line, trick_line, position_text}
-use Rattle.am_report.specs.Solve.{bit_letter, vector_line, entry_text}
+use Rattle.am_report.specs.Solve.{vector_line, entry_text}
 
 -- the first elements of a list, and one more
 take-more : {X : Type 0} (xs : List X) (k : ℕ) (x : X) → k < length xs → x ≡ get_or xs k x → take (k + 1) xs ≡ take k xs ++ x ∷ []
@@ -28,14 +28,6 @@ pub piece_more : {X : Type 0} (f : X → List ℕ) (start now next : List ℕ) (
 piece_more f start now next xs k x inside is so_far grew =
     grew ∙ ap (λ t. t ++ f x) so_far ∙ append_assoc start (flat_map f (take k xs)) (f x)
     ∙ ap (λ t. start ++ t) (ap (λ t. flat_map f (take k xs) ++ t) (sym (append-nil (f x))) ∙ sym (flat_map-append f (take k xs) (x ∷ [])) ∙ ap (flat_map f) (sym (take-more xs k x inside is)))
-
--- one more bit of a vector
-pub bit_more : (start now next : List ℕ) (vector : List Bool) (k : ℕ) (bit : Bool) → slice_get vector k ≡ Some bit
-    → now ≡ start ++ map bit_letter (take k vector) → next ≡ now ++ bit_letter bit ∷ [] → next ≡ start ++ map bit_letter (take (k + 1) vector)
-bit_more start now next vector k bit here so_far grew =
-    let more = take-more vector k bit (slice_get_within vector k bit here) (sym (get_or_from_slice_get vector k bit bit here)) in
-    grew ∙ ap (λ t. t ++ bit_letter bit ∷ []) so_far ∙ append_assoc start (map bit_letter (take k vector)) (bit_letter bit ∷ [])
-    ∙ ap (λ t. start ++ t) (sym (map-append bit_letter (take k vector) (bit ∷ [])) ∙ ap (map bit_letter) (sym more))
 
 -- ---- what stands at a place of a table
 

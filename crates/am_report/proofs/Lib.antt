@@ -1,7 +1,6 @@
 pub mod EntryLines
 pub mod Grown
 pub mod HeadLines
-pub mod Bits
 pub mod PlainTexts
 pub mod ReportReadBack
 pub mod ReportSteps

@@ -4,7 +4,7 @@ use Rattle.std.specs.Fmt.{decimal}
 use Rattle.card_letters.specs.Letters.{letters_of}
 use Rattle.byte_text.specs.Lines.{line_of}
 use Rattle.am_report.specs.Lines.{spaced}
-use Rattle.am_report.specs.Solve.{bit_letter}
+use Rattle.bit_letters.specs.Bits.{bit_letter}
 
 -- the layout's number, the vector's bit at it, the cards in the order of play, and whether declarer's side made
 unfoldable pub match_text : ℕ → Bool → List ℕ → Bool → List ℕ

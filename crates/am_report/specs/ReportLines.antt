@@ -1,7 +1,8 @@
 -- What the lines of a report say.
-use Rattle.std.specs.Prelude.{ℕ, Bool, ◌&&◌, ◌||◌, ◌==◌, not, nat_le, Option, None, Some, option_and_then, List, ◌∷◌, map, drop, take, if◌then◌else◌, codes}
+use Rattle.std.specs.Prelude.{ℕ, Bool, ◌&&◌, not, nat_le, Option, None, Some, option_and_then, List, ◌∷◌, map, drop, take, if◌then◌else◌, codes}
 use Rattle.std.specs.Option.{option_map}
 use Rattle.std.specs.List.{position_or_len}
+use Rattle.bit_letters.specs.Bits.{is_bit, is_one}
 use Rattle.card_letters.specs.Letters.{card_read}
 use Rattle.byte_text.specs.Lines.{text_after}
 use Rattle.byte_text.specs.Numerals.{number_within}
@@ -26,10 +27,7 @@ weight_said version text = option_and_then (number_within 0 (most_written versio
 
 -- a byte that is no bit
 abbrev pub ends_bits : ℕ → Bool
-ends_bits byte = not (byte == 48 || byte == 49)
-
-abbrev pub is_one : ℕ → Bool
-is_one byte = byte == 49
+ends_bits byte = not (is_bit byte)
 
 -- a vector with its weight, if the text gives one that may follow it
 abbrev pub weighed : Version → List Bool → List ℕ → Option (List Bool × ℕ)

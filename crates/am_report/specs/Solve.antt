@@ -1,6 +1,7 @@
 -- The report of an answer.
-use Rattle.std.specs.Prelude.{ℕ, Bool, List, ◌++◌, length, map, flat_map, if◌then◌else◌, codes}
+use Rattle.std.specs.Prelude.{ℕ, Bool, List, ◌++◌, length, map, flat_map, codes}
 use Rattle.std.specs.Fmt.{decimal}
+use Rattle.bit_letters.specs.Bits.{bit_letter}
 use Rattle.win_vectors.specs.Weights.{weight_of}
 use Rattle.pbn_deal.specs.Boards.{BoardValue}
 use Rattle.layout_list.specs.Kept.{KeptValue}
@@ -10,10 +11,6 @@ use Rattle.am_report.specs.Answers.{EntryValue, SolveAnswerValue}
 use Rattle.am_report.specs.Head.{head_text}
 use Rattle.am_report.specs.Card.{named_text}
 use Rattle.am_report.specs.Versions.{version_of, weight_text}
-
--- 1 if the contract is made, and 0 if it isn't
-abbrev pub bit_letter : Bool → ℕ
-bit_letter bit = if bit then 49 else 48
 
 -- a vector's bits, one for each kept layout, and how many of them are ones, or the weight of these
 unfoldable pub vector_line : List ℕ → List Bool → List ℕ

@@ -2,7 +2,7 @@
 ghost use Rattle.std.specs.Prelude.{◌≡◌, IfOk};
 ghost use Rattle.am_report.specs.Audit.{audit_text};
 
-use crate::lines::push_number_line;
+use crate::lines::verdict_text;
 use byte_text::Text;
 use std::alloc::{AllocError, Global};
 
@@ -11,9 +11,5 @@ use std::alloc::{AllocError, Global};
 pub fn audit_text(alloc: Global, lines: u32) -> Result<Text, AllocError>
     ensures { IfOk result (λ text. text ≡ audit_text lines) }
 {
-    let mut text = Text::new(alloc);
-    text.push(b"alphamu audit 1\n")?;
-    push_number_line(&mut text, alloc, b"lines ", u64::from(lines))?;
-    text.push(b"complete\n")?;
-    Ok(text)
+    verdict_text(alloc, b"alphamu audit 1", b"lines ", lines, b"complete")
 }

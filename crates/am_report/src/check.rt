@@ -2,7 +2,7 @@
 ghost use Rattle.std.specs.Prelude.{◌≡◌, ◌++◌, IfOk};
 ghost use Rattle.am_report.specs.Check.{check_text};
 
-use crate::lines::push_number_line;
+use crate::lines::verdict_text;
 use byte_text::Text;
 use std::alloc::{AllocError, Global};
 
@@ -11,9 +11,5 @@ use std::alloc::{AllocError, Global};
 pub fn check_text(alloc: Global, plans: u32) -> Result<Text, AllocError>
     ensures { IfOk result (λ text. text ≡ check_text plans) }
 {
-    let mut text = Text::new(alloc);
-    text.push(b"alphamu check 1\n")?;
-    push_number_line(&mut text, alloc, b"plans ", u64::from(plans))?;
-    text.push(b"good\n")?;
-    Ok(text)
+    verdict_text(alloc, b"alphamu check 1", b"plans ", plans, b"good")
 }

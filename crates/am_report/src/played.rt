@@ -4,10 +4,9 @@ ghost use Rattle.byte_text.specs.Lines.{line_of};
 ghost use Rattle.card_letters.specs.Letters.{letters_of};
 ghost use Rattle.am_report.specs.Lines.{spaced};
 ghost use Rattle.am_report.specs.Match.{match_text};
-ghost use Rattle.am_report.specs.Solve.{bit_letter};
 
 use crate::lines::{push_line, push_number_line, push_space};
-use crate::solve::bit_letter;
+use bit_letters::bit_letter;
 use byte_text::Text;
 use card_letters::letters_of;
 use std::alloc::{AllocError, Global};

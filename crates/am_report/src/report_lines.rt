@@ -3,12 +3,13 @@ ghost use Rattle.std.specs.Prelude.{◌≡◌, ◌==◌, ◌≤◌, ◌<◌, ◌
 ghost use Rattle.std.specs.List.{position_or_len};
 ghost use Rattle.byte_text.specs.Lines.{said_at};
 ghost use Rattle.layout_list.specs.Lines.{most_listed};
-ghost use Rattle.am_report.specs.ReportLines.{ends_bits, is_one, front_said, moves_said};
+ghost use Rattle.am_report.specs.ReportLines.{ends_bits, front_said, moves_said};
 ghost use Rattle.am_report.specs.ReportLines.{weight_said, bits_said, vector_said};
 ghost use Rattle.am_report.specs.ReportLines.{weighed, card_weighed, card_said};
 ghost use Rattle.am_report.specs.Versions.{may_stand};
 
 use crate::version::Version;
+use bit_letters::vector_of;
 use byte_text::{line_at, read_number, text_after};
 use card_letters::read_card;
 use card_sets::Card;
@@ -56,19 +57,6 @@ fn bits_len(text: &[u8]) -> usize
     text.iter()
         .position(|byte| !matches!(*byte, b'0' | b'1'))
         .unwrap_or(text.len())
-}
-
-// The vector with a one wherever the text has one.
-fn vector_of(text: &[u8]) -> WinVector
-    requires low { 1 ≤ length text.now }
-    requires high { length text.now ≤ most_listed }
-    ensures { result ≡ map is_one text.now }
-{
-    let mut vector = WinVector::none(text.len() as u16);
-    for (place, bit) in text.iter().enumerate() {
-        vector = vector.set(place as u16, *bit == b'1');
-    }
-    vector
 }
 
 // The vector with its weight, if the text gives one that may follow it.

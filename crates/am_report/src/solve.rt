@@ -1,37 +1,20 @@
 //! The report of an answer, whole, and its parts for a writer that puts plans between them.
-ghost use Rattle.std.specs.Prelude.{◌≡◌, ◌++◌, IfOk, OnOk, map, flat_map, length, All};
-ghost use Rattle.am_report.specs.Card.{named_text};
-ghost use Rattle.am_report.specs.Solve.{bit_letter, vector_line, entry_text};
+ghost use Rattle.std.specs.Prelude.{◌≡◌, ◌++◌, IfOk, OnOk, flat_map, length, All};
+ghost use Rattle.am_report.specs.Solve.{vector_line, entry_text};
 ghost use Rattle.am_report.specs.Solve.{solve_start, solve_end, solve_text};
-ghost use Rattle.byte_text.specs.Lines.{line_of};
 
 use crate::answer::{Entry, SolveAnswer};
 use crate::card::push_named;
 use crate::head::head_text;
 use crate::lines::push_number_line;
 use crate::version::{Version, push_weight};
+use bit_letters::push_bits;
 use byte_text::Text;
 use card_sets::Card;
 use layout_list::Kept;
 use pbn_deal::Board;
 use std::alloc::{AllocError, Global};
 use win_vectors::{Weights, WinVector};
-
-pub(crate) fn bit_letter(bit: bool) -> u8
-    ensures { result ≡ bit_letter bit }
-{
-    if bit { b'1' } else { b'0' }
-}
-
-// Appends the bits of a vector.
-fn push_bits(text: &mut Text, vector: WinVector) -> Result<(), AllocError>
-    ensures { OnOk result (text.new ≡ text.old ++ map bit_letter vector) }
-{
-    for place in 0..vector.width() {
-        text.push(&[bit_letter(vector.get(place))])?;
-    }
-    Ok(())
-}
 
 #[tactic(auto, unfolding(crate::specs::Solve::vector_line))]
 pub(crate) fn push_vector_line(
@@ -64,20 +47,6 @@ fn push_entries(
         entry.plan.lines(alloc, text)?;
     }
     Ok(())
-}
-
-// Appends the line of the card to play.
-fn push_named_line(
-    text: &mut Text,
-    alloc: Global,
-    version: Version,
-    card: Card,
-    weight: u32,
-) -> Result<(), AllocError>
-    ensures { OnOk result (text.new ≡ text.old ++ line_of (named_text version card weight)) }
-{
-    push_named(text, alloc, version, card, weight)?;
-    text.push(b"\n")
 }
 
 /// The report up to the first vector: its head, and how many vectors the front has.
@@ -119,7 +88,8 @@ pub fn solve_end(
     ensures { IfOk result (λ text. text ≡ solve_end weights.now card weight) }
 {
     let mut text = Text::new(alloc);
-    push_named_line(&mut text, alloc, Version::of(weights), card, weight)?;
+    push_named(&mut text, alloc, Version::of(weights), card, weight)?;
+    text.push(b"\n")?;
     text.push(b"end\n")?;
     Ok(text)
 }

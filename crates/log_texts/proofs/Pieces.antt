@@ -1,9 +1,8 @@
 -- Texts that have grown by one piece more.
-use Rattle.std.proofs.Common.{◌≡◌, ◌+◌, ◌<◌, ◌≤◌, ◌∙◌, ℕ, zero, suc, Bool, Some, List, [], ◌∷◌, ◌++◌, length, map, take, flat_map, get_or, slice_get, refl, sym, ap, arith, append_assoc}
-use Rattle.std.proofs.lemmas.List.{append-nil, map-append, take_all}
+use Rattle.std.proofs.Common.{◌≡◌, ◌+◌, ◌<◌, ◌≤◌, ◌∙◌, ℕ, zero, suc, List, [], ◌∷◌, ◌++◌, length, take, flat_map, get_or, refl, sym, ap, arith, append_assoc}
+use Rattle.std.proofs.lemmas.List.{append-nil, take_all}
 use Rattle.std.proofs.lemmas.Grind.{take_at_read, flat_map-append}
-use Rattle.std.proofs.lemmas.Option.{slice_get_within, get_or_from_slice_get}
-use Rattle.log_texts.specs.LogText.{apart, listed, mark_before, bit_letter}
+use Rattle.log_texts.specs.LogText.{apart, listed, mark_before}
 
 -- the first elements of a list, and one more
 take-more : {X : Type 0} (xs : List X) (k : ℕ) (x : X) → k < length xs → x ≡ get_or xs k x → take (k + 1) xs ≡ take k xs ++ x ∷ []
@@ -53,11 +52,3 @@ listed_none mark piece (x ∷ xs) none = absurd (omega arith)
 
 pub nothing_yet : (start : List ℕ) → start ≡ start ++ []
 nothing_yet start = sym (append-nil start)
-
--- one more bit of a vector
-pub bit_more : (start now next : List ℕ) (vector : List Bool) (k : ℕ) (bit : Bool) → slice_get vector k ≡ Some bit
-    → now ≡ start ++ map bit_letter (take k vector) → next ≡ now ++ bit_letter bit ∷ [] → next ≡ start ++ map bit_letter (take (k + 1) vector)
-bit_more start now next vector k bit here so_far grew =
-    let more = take-more vector k bit (slice_get_within vector k bit here) (sym (get_or_from_slice_get vector k bit bit here)) in
-    grew ∙ ap (λ t. t ++ bit_letter bit ∷ []) so_far ∙ append_assoc start (map bit_letter (take k vector)) (bit_letter bit ∷ [])
-    ∙ ap (λ t. start ++ t) (sym (map-append bit_letter (take k vector) (bit ∷ [])) ∙ ap (λ (bits : List Bool). map bit_letter bits) (sym more))

@@ -16,9 +16,11 @@ use Rattle.card_letters.specs.Letters.{letters_of}
 use Rattle.strategy_tree.specs.PlanRead.{card_named}
 use Rattle.log_check.specs.declared.lines.Rule.{Rule}
 use Rattle.log_check.specs.declared.lines.Rule.TheVariants.{Leaf, Union, Join}
-use Rattle.log_texts.specs.LogText.{rule_word, bit_letter, apart, path_text, numbers_text, vectors_text}
-use Rattle.log_texts.specs.Reading.{pieces_at, all_said, unless_none, rule_said, cards_said, numbers_said, is_bit, is_one, bits_said, vectors_said}
+use Rattle.log_texts.specs.LogText.{rule_word, apart, path_text, numbers_text, vectors_text}
+use Rattle.log_texts.specs.Reading.{pieces_at, all_said, unless_none, rule_said, cards_said, numbers_said, bits_said, vectors_said}
 use Rattle.log_texts.specs.ReadBack.{IsLineNumber, HasLayouts}
+use Rattle.bit_letters.specs.Bits.{bit_letter, is_bit}
+use Rattle.bit_letters.proofs.Written.{bits_back}
 use Rattle.log_texts.proofs.Cut.{is_above, piece_first, piece_last}
 use Rattle.log_texts.proofs.SaidPieces.{within}
 
@@ -190,11 +192,6 @@ bits_all : (vector : List Bool) → list_all is_bit (map bit_letter vector) ≡ 
 bits_all [] = refl
 bits_all (true ∷ vector) = bits_all vector
 bits_all (false ∷ vector) = bits_all vector
-
-bits_back : (vector : List Bool) → map is_one (map bit_letter vector) ≡ vector
-bits_back [] = refl
-bits_back (true ∷ vector) = ap (λ more. true ∷ more) (bits_back vector)
-bits_back (false ∷ vector) = ap (λ more. false ∷ more) (bits_back vector)
 
 vector_back : (vector : List Bool) → HasLayouts vector → bits_said (map bit_letter vector) ≡ Some vector
 unfolding bits_said

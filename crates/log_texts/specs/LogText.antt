@@ -1,7 +1,8 @@
 -- How a log is written: a line for each of its lines, between a first one and a last.
-use Rattle.std.specs.Prelude.{ℕ, zero, suc, Bool, List, [], ◌∷◌, ◌++◌, map, flat_map, if◌then◌else◌, codes}
+use Rattle.std.specs.Prelude.{ℕ, zero, suc, Bool, List, [], ◌∷◌, ◌++◌, map, flat_map, codes}
 use Rattle.std.specs.Fmt.{decimal}
 use Rattle.byte_text.specs.Lines.{line_of}
+use Rattle.bit_letters.specs.Bits.{bit_letter}
 use Rattle.card_letters.specs.Letters.{letters_of}
 use Rattle.log_check.specs.declared.lines.Rule.{Rule}
 use Rattle.log_check.specs.declared.lines.Rule.TheVariants.{Leaf, Union, Join}
@@ -11,10 +12,6 @@ abbrev pub rule_word : Rule → List ℕ
 rule_word Leaf = codes "leaf"
 rule_word Union = codes "union"
 rule_word Join = codes "join"
-
--- 1 where the contract is made, and 0 where it isn't
-abbrev pub bit_letter : Bool → ℕ
-bit_letter bit = if bit then 49 else 48
 
 -- pieces with a mark between each two
 abbrev pub apart : {X : Type 0} → ℕ → (X → List ℕ) → List X → List ℕ

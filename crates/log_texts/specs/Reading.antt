@@ -1,10 +1,11 @@
 -- How a log is read: the version, its lines and the end. The first line of the file that doesn't stand is the answer.
-use Rattle.std.specs.Prelude.{◌≡◌, ℕ, ◌+◌, Bool, ◌==◌, ◌||◌, ◌&&◌, nat_le, List, [], ◌∷◌, map, length, Option, Some, None, option_and_then, Result, Ok, Err, if◌then◌else◌, bytes_eq, codes}
+use Rattle.std.specs.Prelude.{◌≡◌, ℕ, ◌+◌, Bool, ◌==◌, ◌&&◌, nat_le, List, [], ◌∷◌, map, length, Option, Some, None, option_and_then, Result, Ok, Err, if◌then◌else◌, bytes_eq, codes}
 use Rattle.std.specs.Option.{option_map}
 use Rattle.std.specs.List.{slice_split, list_all}
 use Rattle.byte_text.specs.Lines.{line_of, text_after}
 use Rattle.byte_text.specs.Numerals.{number_within}
 use Rattle.byte_text.specs.Steps.{◌>>=◌}
+use Rattle.bit_letters.specs.Bits.{is_bit, is_one}
 use Rattle.win_vectors.specs.Vectors.{most_layouts}
 use Rattle.trick_rules.specs.Nodes.{most_moves}
 use Rattle.strategy_tree.specs.PlanRead.{card_named}
@@ -45,12 +46,6 @@ cards_said word = if nat_le (length (pieces_at 46 word)) 52 then all_said card_n
 -- numbers from 1 that fit 32 bits, with commas between them
 unfoldable pub numbers_said : List ℕ → Option (List ℕ)
 numbers_said word = all_said (number_within 1 4294967295) (pieces_at 44 word)
-
-abbrev pub is_bit : ℕ → Bool
-is_bit byte = byte == 48 || byte == 49
-
-abbrev pub is_one : ℕ → Bool
-is_one byte = byte == 49
 
 -- a vector of 1 to 256 bits
 unfoldable pub bits_said : List ℕ → Option (List Bool)

@@ -5,9 +5,11 @@ ghost use Rattle.byte_text.specs.Numerals.{number_within};
 ghost use Rattle.win_vectors.specs.Vectors.{most_layouts};
 ghost use Rattle.trick_rules.specs.Nodes.{most_moves};
 ghost use Rattle.strategy_tree.specs.PlanRead.{card_named};
-ghost use Rattle.log_texts.specs.Reading.{is_bit, is_one, unless_none, rule_said, cards_said, numbers_said, bits_said, vectors_said};
+ghost use Rattle.bit_letters.specs.Bits.{is_bit};
+ghost use Rattle.log_texts.specs.Reading.{unless_none, rule_said, cards_said, numbers_said, bits_said, vectors_said};
 
 use crate::marks::split_at_mark;
+use bit_letters::vector_of;
 use byte_text::read_number;
 use card_letters::read_card;
 use card_sets::Card;
@@ -99,19 +101,6 @@ fn read_numbers(alloc: Global, word: &[u8]) -> Result<Option<LineList>, AllocErr
         rest = after;
     }
     Ok(Some(numbers))
-}
-
-// The vector with a one wherever the text has one.
-fn vector_of(text: &[u8]) -> WinVector
-    requires low { 1 ≤ length text.now }
-    requires high { length text.now ≤ most_layouts }
-    ensures { result ≡ map is_one text.now }
-{
-    let mut vector = WinVector::none(text.len() as u16);
-    for (place, bit) in text.iter().enumerate() {
-        vector = vector.set(place as u16, *bit == b'1');
-    }
-    vector
 }
 
 fn are_bits(text: &[u8]) -> bool

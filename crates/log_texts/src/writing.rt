@@ -1,9 +1,10 @@
 //! The text of a log.
 ghost use Rattle.std.specs.Prelude.{◌≡◌, ◌<◌, ◌++◌, ◌∷◌, [], IfOk, OnOk, map, flat_map};
 ghost use Rattle.log_check.specs.Limits.{most_lines};
-ghost use Rattle.log_texts.specs.LogText.{rule_word, bit_letter, mark_before, path_text, numbers_text, vectors_text, log_line, log_text};
+ghost use Rattle.log_texts.specs.LogText.{rule_word, mark_before, path_text, numbers_text, vectors_text, log_line, log_text};
 ghost use Rattle.log_texts.specs.Written.{begun, finished, IsLongerBy};
 
+use bit_letters::push_bits;
 use byte_text::Text;
 use card_letters::letters_of;
 use log_check::{Log, LogLine, Rule};
@@ -164,20 +165,4 @@ fn push_vectors(text: &mut Text, vectors: &[WinVector]) -> Result<(), AllocError
         push_bits(text, *vector)?;
     }
     Ok(())
-}
-
-// Appends the bits of a vector.
-fn push_bits(text: &mut Text, vector: WinVector) -> Result<(), AllocError>
-    ensures { OnOk result (text.new ≡ text.old ++ map bit_letter vector) }
-{
-    for place in 0..vector.width() {
-        text.push(&[bit_letter(vector.get(place))])?;
-    }
-    Ok(())
-}
-
-fn bit_letter(bit: bool) -> u8
-    ensures { result ≡ bit_letter bit }
-{
-    if bit { b'1' } else { b'0' }
 }

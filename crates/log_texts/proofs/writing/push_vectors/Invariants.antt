@@ -1,5 +1,6 @@
 use Rattle.std.proofs.Common.{◌≡◌, ◌++◌, map, take}
-use Rattle.log_texts.specs.LogText.{apart, bit_letter}
+use Rattle.bit_letters.specs.Bits.{bit_letter}
+use Rattle.log_texts.specs.LogText.{apart}
 use Rattle.log_texts.proofs.writing.push_vectors.Given as goal
 
 abbrev pub invariant-loop-place : goal.invariant-loop-place

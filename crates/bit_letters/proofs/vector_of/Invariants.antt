@@ -1,7 +1,7 @@
 use Rattle.std.proofs.Common.{◌≡◌, ◌-◌, ◌++◌, false, length, map, take}
 use Rattle.std.specs.Prelude.{replicate}
-use Rattle.am_report.specs.ReportLines.{is_one}
-use Rattle.am_report.proofs.report_lines.vector_of.Given as goal
+use Rattle.bit_letters.specs.Bits.{is_one}
+use Rattle.bit_letters.proofs.vector_of.Given as goal
 
 abbrev pub invariant-loop-place : goal.invariant-loop-place
 invariant-loop-place l = record {

@@ -1,5 +1,0 @@
-use Rattle.am_report.proofs.Grown.{bit_more}
-use Rattle.am_report.proofs.solve.push_bits.Goals as goal
-
-pub loop-place-preserved : goal.loop-place-preserved
-loop-place-preserved c = bit_more c.args.text.now c.loop-place.text c.push.new.self c.args.vector c.loop-place.place c.get.result c.get.ensures c.loop-place.invariant (rw c.bit_letter.ensures at c.in_ok-push.ensures.appended)
