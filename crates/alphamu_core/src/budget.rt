@@ -92,8 +92,8 @@ impl Budget {
         }
     }
 
-    // Pays for one node, or is spent.
-    pub(crate) fn enter(&mut self) -> Result<(), SearchFault>
+    /// Pays for one node, or is spent.
+    pub fn enter(&mut self) -> Result<(), SearchFault>
         ensures paid { OnOk result (self.new.left + 1 ≡ self.old.left) }
         ensures spent { OnErr result ((self.old.left ≡ 0) × (self.new.left ≡ 0)) }
         ensures nodes { self.new.nodes ≡ self.old.nodes }

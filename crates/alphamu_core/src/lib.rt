@@ -19,4 +19,5 @@ mod walk;
 pub use answers::{Found, RootFault, SearchFault};
 pub use budget::{Budget, Entered};
 pub use exact::exact_front;
+pub use kept::{cards_to_try, take_highest};
 pub use node_search::search;
