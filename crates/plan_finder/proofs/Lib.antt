@@ -1,4 +1,7 @@
-pub mod NullWindow
+pub mod PartsAbove
+pub mod DoubleDummy
+pub mod AboveSoFar
+pub mod SameAbove
 pub mod Picks
 pub mod Passed
 pub mod Replied

@@ -1,8 +1,7 @@
 -- The vector that a plan goes on with.
-use Rattle.std.proofs.Common.{◌≡◌, ◌∙◌, ◌-◌, ◌+◌, ◌*◌, ◌<◌, ℕ, zero, suc, Bool, true, false, Result, Ok, Err, IsErrAnd, IsErrOf, Contains, length, sym, subst, inl, true≢false, arith}
+use Rattle.std.proofs.Common.{◌≡◌, ◌∙◌, ◌-◌, ◌+◌, ◌*◌, ◌<◌, ℕ, zero, suc, Bool, true, false, Option, None, Some, IsSome, Result, Ok, Err, IsErrAnd, IsErrOf, Contains, length, refl, sym, subst, inl, true≢false, arith}
 use Rattle.win_vectors.specs.Fronts.{Vector, IsFirstAbove}
 use Rattle.win_vectors.proofs.Orders.{Dominates-refl}
-use Rattle.pareto_fronts.specs.FrontValue.{FrontValue}
 use Rattle.trick_rules.specs.Play.{cards_left}
 use Rattle.trick_rules.specs.Nodes as nodes
 use Rattle.trick_rules.specs.Nodes.{NodeValue, IsNode, choices, child}
@@ -15,7 +14,6 @@ use Rattle.strategy_tree.specs.Bridge.{bridge}
 use Rattle.strategy_tree.proofs.CardLists.{has_card-from_Contains}
 use Rattle.strategy_tree.proofs.BridgeLaws.{one_front, sizes}
 use Rattle.strategy_tree.proofs.BridgeNodes.{length-states, stops-bridge}
-use Rattle.front_table.specs.Proven.{IsFrontAt}
 use Rattle.alphamu_core.proofs.OpenNodes.{fewer_cards}
 use Rattle.plan_finder.specs.Targets.{IsOfFront}
 use Rattle.plan_finder.specs.SpentPlans.{IsPlanSpentAt}
@@ -41,10 +39,12 @@ own_pick n moves vector of = (
 pick_unique : (n : NodeValue) (moves : ℕ) (t u w : Vector) → IsPick bridge n moves t u → IsPick bridge n moves t w → u ≡ w
 pick_unique n moves t u w a b = first_above_unique a.0 t u w a.2 (subst (λ f. IsFirstAbove f t w) (front_unique (CanWin bridge n moves) b.0 a.0 b.1 a.1) b.2)
 
--- what is picked of a front that a search found
-pub picked : (n : NodeValue) (moves : ℕ) (found : FrontValue) (t u : Vector) → IsFrontAt n moves found → IsFirstAbove found.vectors t u → IsPick bridge n moves t u
-picked n moves found t u front first = (found.vectors, front.front, first)
+-- what isn't none is something
+pub some_picked : (pick : Option Vector) → (pick ≡ None → ⊥) → IsSome pick
+some_picked None h = absurd (h refl)
+some_picked (Some u) h = refl
 
+-- what is picked is of the front
 pub picked_of : (n : NodeValue) (moves : ℕ) (t u : Vector) → IsPick bridge n moves t u → IsOfFront n moves u
 picked_of n moves t u pick = (pick.0, pick.1, pick.2.member)
 

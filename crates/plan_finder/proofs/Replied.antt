@@ -4,22 +4,21 @@ use Rattle.std.proofs.lemmas.List.{append-nil}
 use Rattle.win_vectors.specs.Vectors.{ones_of, restrict_of}
 use Rattle.win_vectors.specs.Fronts.{Vector, Covers, IsFirstAbove}
 use Rattle.win_vectors.proofs.Orders.{length-restrict_of}
-use Rattle.pareto_fronts.specs.FrontValue.{FrontValue}
 use Rattle.trick_rules.specs.Play.{cards_left}
 use Rattle.trick_rules.specs.Nodes.{NodeValue, IsNode, choices, child, child_mask}
 use Rattle.trick_rules.proofs.PlayLaws as play
 use Rattle.strategy_games.specs.Games.{mask}
-use Rattle.strategy_games.specs.Plans.{Plan, Replies, NoReply, Reply, cards_of, stops, tree_size}
+use Rattle.strategy_games.specs.Plans.{Plan, Replies, NoReply, Reply, cards_of, stops, tree_size, IsFront}
 use Rattle.strategy_games.specs.Choosing.{IsPick, IsChosenPlan, AreChosenReplies}
 use Rattle.strategy_games.proofs.Lists.{Contains-here, Contains-append_second}
 use Rattle.strategy_tree.specs.Bridge.{bridge}
 use Rattle.strategy_tree.proofs.CardLists.{has_card-from_Contains}
-use Rattle.strategy_tree.proofs.BridgeLaws.{chosen_plan, sizes}
+use Rattle.strategy_tree.proofs.BridgeLaws.{one_front, chosen_plan, sizes}
 use Rattle.strategy_tree.proofs.BridgeNodes.{mask-bridge, length-child_mask, length-child_lefts, some_layout}
-use Rattle.front_table.specs.Proven.{IsFrontAt}
 use Rattle.alphamu_core.proofs.OpenNodes.{fewer_cards}
 use Rattle.plan_finder.specs.Targets.{IsOfFront}
-use Rattle.plan_finder.proofs.Picks.{length-of_front, picked, picked_of, chosen_for}
+use Rattle.plan_finder.specs.Choices.{KeepsNone}
+use Rattle.plan_finder.proofs.Picks.{length-of_front, picked_of, chosen_for}
 
 -- the replies so far are those that are printed for the vector's parts
 pub record RepliedSoFar (n : NodeValue) (moves : ℕ) (vector : Vector) (cards : List ℕ) (replies : Replies ℕ) : Type 0 where
@@ -40,14 +39,15 @@ chosen-then : (n : NodeValue) (moves : ℕ) (vector : Vector) (replies : Replies
 chosen-then n moves vector NoReply card plan so last = (last, so)
 chosen-then n moves vector (Reply c q later) card plan so last = (so.0, chosen-then n moves vector later card plan so.1 last)
 
--- the front of a child covers the vector's part
-pub part_covered : (n : NodeValue) (moves : ℕ) (vector : Vector) (card : ℕ) (m : NodeValue) (bits : Vector) (found : FrontValue) → IsNode n → stops bridge n moves ≡ false → bridge.is_ours n ≡ false → IsOfFront n moves vector
-    → Contains (choices n) card → m ≡ child n card → bits ≡ child_mask n card → IsFrontAt m moves found → Covers found.vectors (restrict_of vector bits)
-part_covered n zero vector card m bits found sound goes_on theirs of among is_child is_mask front = absurd (true≢false goes_on)
-part_covered n (suc k) vector card m bits found sound goes_on theirs of among is_child is_mask front =
-    let here : IsFrontAt (child n card) (suc k) found = subst (λ m. IsFrontAt m (suc k) found) is_child front in
+-- the child keeps the vector's part
+part_kept_by : (n : NodeValue) (moves : ℕ) (vector : Vector) (card : ℕ) (m : NodeValue) (bits : Vector) → IsNode n → IsNode m → stops bridge n moves ≡ false → bridge.is_ours n ≡ false → IsOfFront n moves vector
+    → Contains (choices n) card → m ≡ child n card → bits ≡ child_mask n card → KeepsNone m moves (restrict_of vector bits) → ⊥
+part_kept_by n zero vector card m bits sound sound_m goes_on theirs of among is_child is_mask none = absurd (true≢false goes_on)
+part_kept_by n (suc k) vector card m bits sound sound_m goes_on theirs of among is_child is_mask none =
+    let front = one_front.exists m (suc k) sound_m in
+    let here : IsFront bridge (child n card) (suc k) front.0 = subst (λ m. IsFront bridge m (suc k) front.0) is_child front.1 in
     let same : mask bridge n card ≡ bits = mask-bridge n card ∙ sym is_mask in
-    subst (λ bits. Covers found.vectors (restrict_of vector bits)) same (chosen_plan.part n k vector of.0 found.vectors card sound goes_on theirs of.1 of.2 among here.front)
+    none front.0 front.1 (subst (λ bits. Covers front.0 (restrict_of vector bits)) same (chosen_plan.part n k vector of.0 front.0 card sound goes_on theirs of.1 of.2 among here))
 
 -- a child's tree is smaller than the node's
 pub larger_below : (n : NodeValue) (moves : ℕ) (card : ℕ) (m : NodeValue) (nodes : ℕ) → IsNode n → stops bridge n moves ≡ false → bridge.is_ours n ≡ false → Contains (choices n) card → m ≡ child n card
@@ -90,28 +90,27 @@ module _ (n : NodeValue) (moves : ℕ) (vector : Vector) where
           pub mask_some : IsNode n → 1 ≤ ones_of bits
           mask_some sound = subst (λ (v : Vector). 1 ≤ ones_of v) (sym is_mask) (some_layout n card sound (has_card-from_Contains (choices n) card next_reply))
 
-          module _ (found : FrontValue) (front : IsFrontAt m moves found) where
-            pub part_width : IsOfFront n moves vector → length (restrict_of vector bits) ≡ found.width
-            part_width of =
-                length-restrict_of vector bits (mask_width of) ∙ ap (λ (v : Vector). ones_of v) is_mask ∙ sym (length-child_lefts n card) ∙ ap (λ (m : NodeValue). length m.lefts) (sym is_child) ∙ sym front.width
+          pub part_width : IsOfFront n moves vector → length (restrict_of vector bits) ≡ length m.lefts
+          part_width of =
+              length-restrict_of vector bits (mask_width of) ∙ ap (λ (v : Vector). ones_of v) is_mask ∙ sym (length-child_lefts n card) ∙ ap (λ (m : NodeValue). length m.lefts) (sym is_child)
 
-            pub part_above : IsNode n → stops bridge n moves ≡ false → bridge.is_ours n ≡ false → IsOfFront n moves vector → Covers found.vectors (restrict_of vector bits)
-            part_above sound goes_on theirs of = part_covered n moves vector card m bits found sound goes_on theirs of next_reply is_child is_mask front
+          pub part_kept : IsNode n → stops bridge n moves ≡ false → bridge.is_ours n ≡ false → IsOfFront n moves vector → KeepsNone m moves (restrict_of vector bits) → ⊥
+          part_kept sound goes_on theirs of = part_kept_by n moves vector card m bits sound (node_below sound) goes_on theirs of next_reply is_child is_mask
 
-            module _ {part above : Vector} (of_part : part ≡ restrict_of vector bits) (first : IsFirstAbove found.vectors part above) where
-              picked_here : IsPick bridge m moves (restrict_of vector bits) above
-              picked_here = picked m moves found (restrict_of vector bits) above front (subst (λ t. IsFirstAbove found.vectors t above) of_part first)
+          module _ {part above : Vector} (of_part : part ≡ restrict_of vector bits) (first : IsPick bridge m moves part above) where
+            picked_here : IsPick bridge m moves (restrict_of vector bits) above
+            picked_here = subst (λ t. IsPick bridge m moves t above) of_part first
 
-              pub above_of : IsOfFront m moves above
-              above_of = picked_of m moves (restrict_of vector bits) above picked_here
+            pub above_of : IsOfFront m moves above
+            above_of = picked_of m moves (restrict_of vector bits) above picked_here
 
-              pub replied_more : (plan : Plan ℕ) → IsChosenPlan bridge plan m moves above → RepliedSoFar n moves vector rest (then_reply replies card plan)
-              replied_more plan chosen =
-                  let same : restrict_of vector bits ≡ restrict_of vector (mask bridge n card) = ap (restrict_of vector) (is_mask ∙ sym (mask-bridge n card)) in
-                  let for_part : IsChosenPlan bridge plan m moves (restrict_of vector bits) = chosen_for plan m moves (restrict_of vector bits) above picked_here chosen in
-                  let last : IsChosenPlan bridge plan (child n card) moves (restrict_of vector (mask bridge n card)) =
-                  subst (λ (t : Vector). IsChosenPlan bridge plan (child n card) moves t) same (subst (λ (m : NodeValue). IsChosenPlan bridge plan m moves (restrict_of vector bits)) is_child for_part) in
-                  record {
-                    split = parts ∙ sym (append_assoc (cards_of replies) (card ∷ []) rest) ∙ ap (λ cards. cards ++ rest) (sym (cards-then replies card plan));
-                    chosen = chosen-then n moves vector replies card plan so.chosen last;
-                  }
+            pub replied_more : (plan : Plan ℕ) → IsChosenPlan bridge plan m moves above → RepliedSoFar n moves vector rest (then_reply replies card plan)
+            replied_more plan chosen =
+                let same : restrict_of vector bits ≡ restrict_of vector (mask bridge n card) = ap (restrict_of vector) (is_mask ∙ sym (mask-bridge n card)) in
+                let for_part : IsChosenPlan bridge plan m moves (restrict_of vector bits) = chosen_for plan m moves (restrict_of vector bits) above picked_here chosen in
+                let last : IsChosenPlan bridge plan (child n card) moves (restrict_of vector (mask bridge n card)) =
+                subst (λ (t : Vector). IsChosenPlan bridge plan (child n card) moves t) same (subst (λ (m : NodeValue). IsChosenPlan bridge plan m moves (restrict_of vector bits)) is_child for_part) in
+                record {
+                  split = parts ∙ sym (append_assoc (cards_of replies) (card ∷ []) rest) ∙ ap (λ cards. cards ++ rest) (sym (cards-then replies card plan));
+                  chosen = chosen-then n moves vector replies card plan so.chosen last;
+                }

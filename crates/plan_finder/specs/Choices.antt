@@ -19,10 +19,6 @@ pub record IsChoiceSpentAt (n : NodeValue) (moves : ℕ) (vector : Vector) (node
   pub larger : nodes < tree_size bridge (child n card) (moves - 1)
   pub not_after : (first : ℕ) → IsFirstOf (Keeps bridge n (moves - 1) vector) (choices n) first → card ≤ first
 
--- no vector of alpha dominates this one: a node where alpha covers what every strategy wins doesn't keep the vector
-abbrev pub IsNullWindow : Vector → List Vector → Type 0
-IsNullWindow vector alpha = (above : Vector) → Contains alpha above → Dominates above vector → ⊥
-
 -- no vector of the front dominates this one
 abbrev pub KeepsNone : NodeValue → ℕ → Vector → Type 0
 KeepsNone n moves vector = (front : List Vector) → IsFront bridge n moves front → Covers front vector → ⊥

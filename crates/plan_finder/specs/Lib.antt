@@ -1,3 +1,5 @@
+pub mod AboveSearches
+pub mod Above
 pub mod PlanSearches
 pub mod Targets
 pub mod SpentPlans

@@ -8,7 +8,6 @@ ghost use Rattle.plan_finder.specs.Choices.{IsFirstChoice, IsChoiceSpentAt};
 ghost use Rattle.plan_finder.specs.PlanSearches.{IsSameSearch};
 ghost use Rattle.plan_finder.specs.Targets.{IsOfFront};
 
-use crate::null_window::null_window;
 use crate::searches::PlanSearch;
 use alphamu_core::{Entered, RootFault, SearchFault};
 use card_sets::Card;
@@ -45,12 +44,11 @@ impl<S: FrontStore> PlanSearch<'_, S> {
             → IsChoiceSpentAt node.now moves vector.now self.old.nodes card }
         ensures same { IsSameSearch S.grown self.old self.new }
     {
-        let alpha = null_window(self.alloc, vector, self.rules.bound)?;
         let mut most = None;
         let mut cards = node.choices();
         'cards: while let Some(card) = cards.pop_first() {
             let (child, _) = node.child(self.alloc, card)?;
-            match self.pick_of(&child, moves - 1, vector, &alpha) {
+            match self.pick_of(&child, moves - 1, vector) {
                 Ok(picked) => {
                     let entered = picked.entered.larger(most);
                     most = Some(entered);

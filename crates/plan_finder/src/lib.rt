@@ -3,10 +3,10 @@
 //! A plan that is found is the chosen one; `Spent` names a card whose tree is larger than the budget of a search.
 #![tactic(auto)]
 
+mod above;
 mod choice;
 mod digest;
 mod finder;
-mod null_window;
 mod plan_lines;
 mod searches;
 mod writer;

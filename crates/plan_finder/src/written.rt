@@ -204,12 +204,12 @@ impl<S: FrontStore> PlanSearch<'_, S> {
         let mut cards = node.choices();
         'cards: while let Some(card) = cards.pop_first() {
             let (child, mask) = node.child(self.alloc, card)?;
-            let whole = self.whole_front(&child, moves)?;
             let part = vector.restrict(mask);
-            let above = whole.front.pick(&part).unwrap();
+            let picked = self.pick_of(&child, moves, &part)?;
+            let above = picked.vector.unwrap();
             push_on(out, card)?;
             let below = self.write_below(out, &child, moves, &above)?;
-            most = Some(whole.entered.larger(most).larger(below));
+            most = Some(picked.entered.larger(most).larger(below));
         }
         Ok(most)
     }

@@ -1,11 +1,14 @@
 use Rattle.std.proofs.Common.{◌≡◌, ◌∙◌, ℕ, List, Option, IfSome, length, sym, ap, subst, Err, arith}
 use Rattle.std.proofs.lemmas.Result.{on_ok_weaker}
-use Rattle.win_vectors.specs.Fronts.{Vector, Covers, IsFirstAbove}
+use Rattle.win_vectors.specs.Fronts.{Vector}
+use Rattle.strategy_games.specs.Choosing.{IsPick}
+use Rattle.strategy_tree.specs.Bridge.{bridge}
 use Rattle.strategy_tree.proofs.CardLists.{has_card-from_Contains}
 use Rattle.alphamu_core.specs.declared.answers.SearchFault.TheVariants.{Spent}
+use Rattle.plan_finder.specs.Choices.{KeepsNone}
 use Rattle.plan_finder.proofs.SameSearch.{same_none, same_more, still_within, most_within, still_larger}
-use Rattle.plan_finder.proofs.Picks.{open_at, too_large_first, too_large_below, larger_than, node_after, fewer_after, vector_after, passed_on}
-use Rattle.plan_finder.proofs.Replied.{replied_none, next_reply, node_below, fewer_below, spent_below, mask_width, mask_some, part_width, part_above, above_of, replied_more}
+use Rattle.plan_finder.proofs.Picks.{open_at, too_large_first, too_large_below, larger_than, node_after, fewer_after, vector_after, passed_on, some_picked}
+use Rattle.plan_finder.proofs.Replied.{replied_none, next_reply, node_below, fewer_below, spent_below, mask_width, mask_some, part_width, part_kept, above_of, replied_more}
 use Rattle.plan_finder.proofs.WrittenPlans.{stop_written, play_written, hear_written, none_written, so_far, all_written, one_more_written}
 use Rattle.plan_finder.proofs.searches.PlanSearch.+write.Goals as goal
 
@@ -76,10 +79,10 @@ write_replies-cards-init g t c = record {
 pub write_replies-child-requires : goal.write_replies-child-requires
 write_replies-child-requires g t c = has_card-from_Contains _ _ (next_reply c.args.node.now c.args.moves c.args.vector.now (so_far c.args.node.now c.args.moves c.args.vector.now c.cards.invariant.written) c.in-Some.ensures.value)
 
-pub write_replies-returns-in_err-whole-clause-spent : goal.write_replies-returns-in_err-whole-clause-spent
-write_replies-returns-in_err-whole-clause-spent g t c = λ e.
-    let fault = passed_on c.from_residual-in_err-whole.result c.in_err-whole.field-0.0 Spent c.from_residual-in_err-whole.ensures.1 e in
-    spent_below c.args.node.now c.args.moves c.args.vector.now (so_far c.args.node.now c.args.moves c.args.vector.now c.cards.invariant.written) c.in-Some.ensures.value c.in_ok-child.ensures.node c.args.self.now.nodes c.requires.a_node c.requires.goes_on c.requires.theirs (still_larger c.cards.invariant.same _ (c.in_err-whole.ensures.spent (ap Err fault)))
+pub write_replies-returns-in_err-picked-clause-spent : goal.write_replies-returns-in_err-picked-clause-spent
+write_replies-returns-in_err-picked-clause-spent g t c = λ e.
+    let fault = passed_on c.from_residual-in_err-picked.result c.in_err-picked.field-0.0 Spent c.from_residual-in_err-picked.ensures.1 e in
+    spent_below c.args.node.now c.args.moves c.args.vector.now (so_far c.args.node.now c.args.moves c.args.vector.now c.cards.invariant.written) c.in-Some.ensures.value c.in_ok-child.ensures.node c.args.self.now.nodes c.requires.a_node c.requires.goes_on c.requires.theirs (still_larger c.cards.invariant.same _ (c.in_err-picked.ensures.spent (ap Err fault)))
 
 pub write_replies-restrict-part-requires-clause-same_width : goal.write_replies-restrict-part-requires-clause-same_width
 write_replies-restrict-part-requires-clause-same_width g t c =
@@ -89,53 +92,54 @@ pub write_replies-restrict-part-requires-clause-not_empty : goal.write_replies-r
 write_replies-restrict-part-requires-clause-not_empty g t c =
     mask_some c.args.node.now c.args.moves c.args.vector.now (so_far c.args.node.now c.args.moves c.args.vector.now c.cards.invariant.written) c.in-Some.ensures.value c.in_ok-child.ensures.node _ c.in_ok-child.ensures.mask c.requires.a_node
 
-pub write_replies-pick-requires : goal.write_replies-pick-requires
-write_replies-pick-requires g t c =
+pub write_replies-pick_of-requires-clause-width : goal.write_replies-pick_of-requires-clause-width
+write_replies-pick_of-requires-clause-width g t c =
     ap (λ (v : Vector). length v) c.restrict-part.ensures
-    ∙ part_width c.args.node.now c.args.moves c.args.vector.now (so_far c.args.node.now c.args.moves c.args.vector.now c.cards.invariant.written) c.in-Some.ensures.value c.in_ok-child.ensures.node _ c.in_ok-child.ensures.mask c.in_ok-whole.whole.front c.in_ok-whole.ensures.front c.requires.vector
+    ∙ part_width c.args.node.now c.args.moves c.args.vector.now (so_far c.args.node.now c.args.moves c.args.vector.now c.cards.invariant.written) c.in-Some.ensures.value c.in_ok-child.ensures.node _ c.in_ok-child.ensures.mask c.requires.vector
 
 pub write_replies-unwrap-above-requires : goal.write_replies-unwrap-above-requires
 write_replies-unwrap-above-requires g t c =
-    let covered = part_above c.args.node.now c.args.moves c.args.vector.now (so_far c.args.node.now c.args.moves c.args.vector.now c.cards.invariant.written) c.in-Some.ensures.value c.in_ok-child.ensures.node _ c.in_ok-child.ensures.mask c.in_ok-whole.whole.front c.in_ok-whole.ensures.front
-    c.requires.a_node c.requires.goes_on c.requires.theirs c.requires.vector in
-    c.pick.ensures.found.1 (subst (λ (t : Vector). Covers c.in_ok-whole.whole.front.vectors t) (sym c.restrict-part.ensures) covered)
+    some_picked c.in_ok-picked.picked.vector (λ none.
+    part_kept c.args.node.now c.args.moves c.args.vector.now (so_far c.args.node.now c.args.moves c.args.vector.now c.cards.invariant.written) c.in-Some.ensures.value c.in_ok-child.ensures.node _ c.in_ok-child.ensures.mask
+    c.requires.a_node c.requires.goes_on c.requires.theirs c.requires.vector
+    (subst (λ (t : Vector). KeepsNone c.in_ok-child.child c.args.moves t) c.restrict-part.ensures (c.in_ok-picked.ensures.none none)))
 
 pub write_replies-write_below-requires : goal.write_replies-write_below-requires
 write_replies-write_below-requires g t c κs within =
     let so = so_far c.args.node.now c.args.moves c.args.vector.now c.cards.invariant.written in
     let less = fewer_below c.args.node.now c.args.moves c.args.vector.now so c.in-Some.ensures.value c.in_ok-child.ensures.node c.requires.a_node in
-    let first = subst (λ (o : Option Vector). IfSome o (IsFirstAbove c.in_ok-whole.whole.front.vectors c.restrict-part.result)) c.unwrap-above.ensures c.pick.ensures.first in
-    let of = above_of c.args.node.now c.args.moves c.args.vector.now so c.in-Some.ensures.value c.in_ok-child.ensures.node _ c.in_ok-child.ensures.mask c.in_ok-whole.whole.front c.in_ok-whole.ensures.front c.restrict-part.ensures first in
+    let first = subst (λ (o : Option Vector). IfSome o (IsPick bridge c.in_ok-child.child c.args.moves c.restrict-part.result)) c.unwrap-above.ensures c.in_ok-picked.ensures.picked in
+    let of = above_of c.args.node.now c.args.moves c.args.vector.now so c.in-Some.ensures.value c.in_ok-child.ensures.node _ c.in_ok-child.ensures.mask c.restrict-part.ensures first in
     (omega arith, (within, (c.requires.few_moves, (node_below c.args.node.now c.args.moves c.args.vector.now so c.in-Some.ensures.value c.in_ok-child.ensures.node c.requires.a_node, of))))
 
 pub write_replies-returns-in_err-below-clause-spent : goal.write_replies-returns-in_err-below-clause-spent
 write_replies-returns-in_err-below-clause-spent g t c = λ e.
     let fault = passed_on c.from_residual-in_err-below.result c.in_err-below.field-0.0 Spent c.from_residual-in_err-below.ensures.1 e in
-    spent_below c.args.node.now c.args.moves c.args.vector.now (so_far c.args.node.now c.args.moves c.args.vector.now c.cards.invariant.written) c.in-Some.ensures.value c.in_ok-child.ensures.node c.args.self.now.nodes c.requires.a_node c.requires.goes_on c.requires.theirs (still_larger (same_more g.met.S.FrontStore.grown_more c.cards.invariant.same c.in_ok-whole.ensures.same) _ (c.in_err-below.ensures.spent (ap Err fault)))
+    spent_below c.args.node.now c.args.moves c.args.vector.now (so_far c.args.node.now c.args.moves c.args.vector.now c.cards.invariant.written) c.in-Some.ensures.value c.in_ok-child.ensures.node c.args.self.now.nodes c.requires.a_node c.requires.goes_on c.requires.theirs (still_larger (same_more g.met.S.FrontStore.grown_more c.cards.invariant.same c.in_ok-picked.ensures.same) _ (c.in_err-below.ensures.spent (ap Err fault)))
 
-pub write_replies-returns-in_err-whole-clause-same : goal.write_replies-returns-in_err-whole-clause-same
-write_replies-returns-in_err-whole-clause-same g t c = same_more g.met.S.FrontStore.grown_more c.cards.invariant.same c.in_err-whole.ensures.same
+pub write_replies-returns-in_err-picked-clause-same : goal.write_replies-returns-in_err-picked-clause-same
+write_replies-returns-in_err-picked-clause-same g t c = same_more g.met.S.FrontStore.grown_more c.cards.invariant.same c.in_err-picked.ensures.same
 
 pub write_replies-returns-in_err-push_on-clause-same : goal.write_replies-returns-in_err-push_on-clause-same
-write_replies-returns-in_err-push_on-clause-same g t c = same_more g.met.S.FrontStore.grown_more c.cards.invariant.same c.in_ok-whole.ensures.same
+write_replies-returns-in_err-push_on-clause-same g t c = same_more g.met.S.FrontStore.grown_more c.cards.invariant.same c.in_ok-picked.ensures.same
 
 pub write_replies-returns-in_err-below-clause-same : goal.write_replies-returns-in_err-below-clause-same
 write_replies-returns-in_err-below-clause-same g t c =
     let more = g.met.S.FrontStore.grown_more in
-    same_more more (same_more more c.cards.invariant.same c.in_ok-whole.ensures.same) c.in_err-below.ensures.same
+    same_more more (same_more more c.cards.invariant.same c.in_ok-picked.ensures.same) c.in_err-below.ensures.same
 
 pub write_replies-cards-preserved : goal.write_replies-cards-preserved
 write_replies-cards-preserved g t c =
-    let first = subst (λ (o : Option Vector). IfSome o (IsFirstAbove c.in_ok-whole.whole.front.vectors c.restrict-part.result)) c.unwrap-above.ensures c.pick.ensures.first in
+    let first = subst (λ (o : Option Vector). IfSome o (IsPick bridge c.in_ok-child.child c.args.moves c.restrict-part.result)) c.unwrap-above.ensures c.in_ok-picked.ensures.picked in
     let more = g.met.S.FrontStore.grown_more in
-    let same = same_more more c.cards.invariant.same c.in_ok-whole.ensures.same in
+    let same = same_more more c.cards.invariant.same c.in_ok-picked.ensures.same in
     let so = so_far c.args.node.now c.args.moves c.args.vector.now c.cards.invariant.written in
     let plan = c.in_ok-below.ensures.plan in
     record {
       written = one_more_written c.args.node.now c.args.moves c.args.vector.now c.cards.invariant.written _ c.push_on.new.out c.write_below.new.out _ _ _ c.in_ok-push_on.ensures plan
-          (replied_more c.args.node.now c.args.moves c.args.vector.now so c.in-Some.ensures.value c.in_ok-child.ensures.node _ c.in_ok-child.ensures.mask c.in_ok-whole.whole.front c.in_ok-whole.ensures.front c.restrict-part.ensures first plan.plan plan.chosen);
+          (replied_more c.args.node.now c.args.moves c.args.vector.now so c.in-Some.ensures.value c.in_ok-child.ensures.node _ c.in_ok-child.ensures.mask c.restrict-part.ensures first plan.plan plan.chosen);
       same = same_more more same c.in_ok-below.ensures.same;
-      most = c.larger-in-Some.ensures.within c.args.self.now.nodes (c.larger.ensures.within c.args.self.now.nodes (still_within c.cards.invariant.same _ c.in_ok-whole.ensures.within) c.cards.invariant.most) (most_within same _ c.in_ok-below.ensures.within);
+      most = c.larger-in-Some.ensures.within c.args.self.now.nodes (c.larger.ensures.within c.args.self.now.nodes (still_within c.cards.invariant.same _ c.in_ok-picked.ensures.within) c.cards.invariant.most) (most_within same _ c.in_ok-below.ensures.within);
     }
 
 pub write_replies-returns-clause-replies : goal.write_replies-returns-clause-replies

@@ -19,11 +19,6 @@ pub pick_of-requires-clause-width : goal.pick_of-requires-clause-width
 pick_of-requires-clause-width g c =
     same_width c.args.node.now c.args.moves c.args.vector.now c.cards.invariant.so c.in-Some.ensures.value c.in_ok-child.ensures.node c.requires.ours c.requires.vector
 
-pub pick_of-requires-clause-alpha_width : goal.pick_of-requires-clause-alpha_width
-pick_of-requires-clause-alpha_width g c =
-    c.in_ok-alpha.ensures.width
-    ∙ same_width c.args.node.now c.args.moves c.args.vector.now c.cards.invariant.so c.in-Some.ensures.value c.in_ok-child.ensures.node c.requires.ours c.requires.vector
-
 pub returns-in-Some-vector-clause-first : goal.returns-in-Some-vector-clause-first
 returns-in-Some-vector-clause-first g c =
     let pick = subst (λ found. IfSome found (IsPick bridge c.in_ok-child.child (c.args.moves - 1) c.args.vector.now)) c.in-Some-vector.is c.in-Ok.ensures.picked in
