@@ -10,6 +10,7 @@ use Rattle.trick_rules.specs.Play.{take_out, after_card, after, legal_in, is_dec
 use Rattle.trick_rules.specs.Nodes.{NodeValue, IsNode, choices, is_legal}
 use Rattle.trick_rules.proofs.NodeLemmas.{legal_in-ours}
 use Rattle.trick_rules.proofs.PlayLaws.{our_choices_are_legal_everywhere, a_legal_card_leads_to_a_state}
+use Rattle.fusion_base.specs.declared.table.CardVector.{CardVector}
 use Rattle.fusion_base.specs.Sampling.{made_after, cards_that_make}
 
 set-between : (before after : List Bool) (old new : Bool) → set (before ++ old ∷ after) (length before) new ≡ before ++ new ∷ after
@@ -94,6 +95,10 @@ module _ (n : NodeValue) (left : List ℕ) where
 
   pub sifted-all : (rest : List ℕ) → rest ≡ [] → sifted rest ≡ cards_that_make n left
   sifted-all rest e = ap sifted e
+
+-- a card with its vector
+abbrev pub line_of : NodeValue → ℕ → CardVector
+line_of n card = record { card = card; vector = made_after n card }
 
 -- ---- in which layouts a card makes
 

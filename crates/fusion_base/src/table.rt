@@ -42,7 +42,7 @@ fn made_cards(alloc: Global, node: &Node, left: CardSet) -> CardSet
 }
 
 // The same in each layout, in order. The layouts are shared out among threads.
-fn made_in_each<R: Threads + Sync>(
+fn made_in_threads<R: Threads + Sync>(
     rt: &R,
     alloc: Global,
     node: &Node,
@@ -64,6 +64,19 @@ fn made_in_each<R: Threads + Sync>(
         .collect(rt, alloc)
 }
 
+// The same by the calling thread, layout by layout.
+fn made_in_turn(alloc: Global, node: &Node) -> Result<Vec<CardSet>, AllocError>
+    requires { is_declarers (to_play node.now.position) ≡ true }
+    ensures { IfOk result
+        (λ made. made.items ≡ map (cards_that_make node.now) node.now.lefts) }
+{
+    let mut made = Vec::new(alloc);
+    for left in node.lefts() {
+        made.push(made_cards(alloc, node, *left))?;
+    }
+    Ok(made)
+}
+
 // In which layouts a card is among those that make.
 fn vector_of(node: &Node, made: &[CardSet], card: Card) -> WinVector
     requires made { made.now ≡ map (cards_that_make node.now) node.now.lefts }
@@ -77,11 +90,18 @@ fn vector_of(node: &Node, made: &[CardSet], card: Card) -> WinVector
     vector
 }
 
-// The cards of a set, in card order.
-fn list_of(alloc: Global, cards: CardSet) -> Result<Vec<Card>, AllocError>
-    ensures { IfOk result (λ list. list.items ≡ cards) }
+// Each legal card, in card order, with its vector.
+fn lines_of(alloc: Global, node: &Node, made: &[CardSet]) -> Result<Vec<CardVector>, AllocError>
+    requires made { made.now ≡ map (cards_that_make node.now) node.now.lefts }
+    ensures { IfOk result (λ table. table.items ≡ card_vectors node.now) }
 {
-    cards.into_iter().collect(alloc)
+    let mut lines = Vec::new(alloc);
+    let mut rest = node.choices();
+    while let Some(card) = rest.pop_first() {
+        let vector = vector_of(node, made, card);
+        lines.push(CardVector { card, vector })?;
+    }
+    Ok(lines)
 }
 
 /// Plain sampling at a node where declarer's side is to play: each legal card, in card order, with
@@ -98,23 +118,16 @@ pub fn per_card<R: Threads + Sync>(
     requires goes_on { is_over node.now.position ≡ false }
     ensures { IfOk result (λ table. table.items ≡ card_vectors node.now) }
 {
-    let made = made_in_each(rt, alloc, node)?;
-    let cards = list_of(alloc, node.choices())?;
-    let made_of = made.as_slice();
-    cards
-        .par_iter()
-        .map(
-            |card: &Card| -> CardVector
-                requires made { made_of.now ≡ map (cards_that_make node.now) node.now.lefts }
-                requires choice { has_card (choices node.now) card.now ≡ true }
-                ensures { result
-                    ≡ record { card = card.now; vector = made_after node.entry.now card.now } }
-            {
-                CardVector {
-                    card: *card,
-                    vector: vector_of(node, made_of, *card),
-                }
-            },
-        )
-        .collect(rt, alloc)
+    let made = made_in_threads(rt, alloc, node)?;
+    lines_of(alloc, node, &made)
+}
+
+/// What `per_card` gives, with no thread but the caller's.
+pub fn per_card_alone(alloc: Global, node: &Node) -> Result<Vec<CardVector>, AllocError>
+    requires ours { is_declarers (to_play node.now.position) ≡ true }
+    requires goes_on { is_over node.now.position ≡ false }
+    ensures { IfOk result (λ table. table.items ≡ card_vectors node.now) }
+{
+    let made = made_in_turn(alloc, node)?;
+    lines_of(alloc, node, &made)
 }

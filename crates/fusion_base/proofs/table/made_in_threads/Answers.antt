@@ -2,7 +2,7 @@ use Rattle.std.proofs.Common.{◌≡◌, ◌∙◌, ap}
 use Rattle.rayon.proofs.ListFacts.{IfOk-then}
 use Rattle.rayon.proofs.ToStd.{slice-map}
 use Rattle.fusion_base.specs.Sampling.{cards_that_make}
-use Rattle.fusion_base.proofs.table.made_in_each.Goals as goal
+use Rattle.fusion_base.proofs.table.made_in_threads.Goals as goal
 
 pub returns : goal.returns
 returns g c =
