@@ -5,3 +5,4 @@ pub mod Plain
 pub mod Founds
 pub mod Reports
 pub mod Questions
+pub mod Crews

@@ -1,5 +1,5 @@
 -- What a root is asked, and how its search may end.
-use Rattle.std.specs.Prelude.{◌≡◌, ◌≢◌, ◌≤◌, ⊤, ℕ, true, false, List, Result, Ok, Err, length}
+use Rattle.std.specs.Prelude.{◌≡◌, ◌≢◌, ◌≤◌, ⊤, ℕ, true, false, List, Result, Ok, Err, IfOk, IsErrOf, length}
 use Rattle.trick_rules.specs.Nodes.{NodeValue, most_moves}
 use Rattle.strategy_games.specs.Choosing.{IsBestWeight, IsNamedByWeight}
 use Rattle.strategy_tree.specs.Bridge.{bridge}
@@ -47,3 +47,15 @@ IsRoundEnd r result = IsRootEnd r.node.now r.moves r.nodes r.weights.now (r.rule
 -- how the search of a root may end
 abbrev pub IsAnswer : Question → Type 0 → Result RoundFront RootFault → Type 0
 IsAnswer q whole result = IsRootEnd q.node.now q.moves q.options.now.nodes q.weights.now whole (q.options.now.cuts ≡ true) (IsPlain q.options.now) result
+
+-- the root card that a search names as spent has too large a tree
+abbrev pub NamesSpent : {A : Type 0} → Question → Result A RootFault → Type 0
+NamesSpent q result = (card : ℕ) → IsErrOf result (Spent card) → IsSpentAt q.node.now q.moves q.options.now.nodes card
+
+-- in a plain search it is the first such card
+abbrev pub NamesFirstSpent : {A : Type 0} → Question → Result A RootFault → Type 0
+NamesFirstSpent q result = IsPlain q.options.now → (card : ℕ) → IsErrOf result (Spent card) → IsFirstSpentAt q.node.now q.moves q.options.now.nodes card
+
+-- a plain search that finds something has met no tree that is too large
+abbrev pub FitsIfPlain : {A : Type 0} → Question → Result A RootFault → Type 0
+FitsIfPlain q result = IsPlain q.options.now → IfOk result (λ _. AllFit q.node.now q.moves q.options.now.nodes)

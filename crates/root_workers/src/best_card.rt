@@ -14,10 +14,12 @@ ghost use Rattle.shared_table.specs.Passes.{IsPassOf};
 ghost use Rattle.strategy_tree.specs.RootTrees.{IsSpentAt, IsFirstSpentAt, AllFit};
 ghost use Rattle.root_workers.specs.Founds.{AreFound};
 ghost use Rattle.root_workers.specs.Questions.{IsRoundEnd};
-ghost use Rattle.root_workers.specs.Rounds.{IsRound, IsPlainRound, IsKnownAt, HasSeenMore, size_after};
+ghost use Rattle.root_workers.specs.Rounds.{IsRound, IsPlainRound, IsKnownAt};
+ghost use Rattle.root_workers.specs.Rounds.{HasSeenMore, size_after};
 ghost use Rattle.worker_pool.specs.Findings.{AreRight};
 
 use crate::card_search::search_card;
+use crate::crew::RootCrew;
 use crate::leading::{found, is_enough, with_card};
 use crate::round_work::RoundWork;
 use crate::rounds::{Round, RoundFront};
@@ -30,9 +32,7 @@ use card_sets::Card;
 use cut_rules::Stop;
 use pareto_fronts::Front;
 use shared_table::Pass;
-use std::alloc::AllocError;
-use std::thread::Threads;
-use worker_pool::{Finding, take_finding, work_side_by_side};
+use worker_pool::{Finding, take_finding};
 
 // What is found after the card at a place: what a worker knows, or else by a search now.
 fn after_place<G: Gate>(
@@ -157,13 +157,14 @@ pub fn best_over<G: Gate>(
 }
 
 /// A round: the workers search the root cards side by side, and what they know is put together.
-pub fn run_round<R: Threads + Sync, G: Gate>(
-    rt: &R,
+pub fn run_round<C: RootCrew<G>, G: Gate>(
+    crew: &C,
     round: &Round,
     gate: &G,
     workers: &mut [RootWorker],
     pass: &mut Pass,
 ) -> Result<RoundFront, RootFault>
+    requires ready { C.ready crew.now }
     requires round { IsRound round.now }
     requires some { 1 ≤ length workers.old }
     requires pass { IsPassOf round.now.table.now pass.old }
@@ -171,30 +172,6 @@ pub fn run_round<R: Threads + Sync, G: Gate>(
     ensures pass { IsPassOf round.now.table.now pass.new }
     ensures grown { HasSeenMore pass.old pass.new }
 {
-    let findings = searched_by_all(rt, round, gate, workers, pass)?;
+    let findings = crew.searched(round, gate, workers, pass)?;
     best_over(round, gate, &mut workers[0], pass, findings)
-}
-
-// What the workers find together: nothing, if there is no work for two. No more workers begin than
-// there are cards for them.
-fn searched_by_all<R: Threads + Sync, G: Gate>(
-    rt: &R,
-    round: &Round,
-    gate: &G,
-    workers: &mut [RootWorker],
-    pass: &mut Pass,
-) -> Result<Vec<Finding<Known>>, AllocError>
-    requires round { IsRound round.now }
-    requires some { 1 ≤ length workers.old }
-    requires pass { IsPassOf round.now.table.now pass.old }
-    ensures right { IfOk result (λ findings. AreRight (IsKnownAt round.now) findings.items) }
-    ensures pass { IsPassOf round.now.table.now pass.new }
-    ensures grown { HasSeenMore pass.old pass.new }
-{
-    let count = workers.len().min(usize::from(round.shared_cards.count()));
-    if count < 2 {
-        return Ok(Vec::new(round.alloc));
-    }
-    let work = RoundWork { round, gate };
-    work_side_by_side(rt, round.alloc, &work, &mut workers[..count], pass)
 }

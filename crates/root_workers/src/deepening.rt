@@ -1,13 +1,13 @@
 //! Rounds with a move more each, by as many workers as are asked for.
-ghost use Rattle.std.specs.Prelude.{◌≡◌, ◌≢◌, ◌≤◌, ◌-◌, ℕ, ⊤, true, IfOk, IfSome, IsErrOf, length};
+ghost use Rattle.std.specs.Prelude.{◌≡◌, ◌≢◌, ◌≤◌, ◌-◌, ⊤, true, IfOk, IfSome, length};
 ghost use Rattle.front_table.specs.Proven.{IsFrontAt};
 ghost use Rattle.alphamu_core.specs.Costs.{IsWithin};
 ghost use Rattle.shared_table.specs.Passes.{IsPassOf};
-ghost use Rattle.strategy_tree.specs.RootTrees.{IsSpentAt};
-ghost use Rattle.root_workers.specs.Questions.{IsQuestion, IsAnswer};
+ghost use Rattle.root_workers.specs.Questions.{IsQuestion, IsAnswer, NamesSpent};
 ghost use Rattle.root_workers.specs.Rounds.{HasSeenMore};
 
 use crate::best_card::run_round;
+use crate::crew::RootCrew;
 use crate::question::Question;
 use crate::rounds::{Round, RoundFront};
 use crate::searches::double_dummy;
@@ -20,7 +20,6 @@ use cut_rules::{CutRules, Stop};
 use front_table::NoStore;
 use pareto_fronts::Front;
 use shared_table::Pass;
-use std::thread::Threads;
 
 // What the rounds so far leave to the next one: the front, the root cards for its workers, and the
 // most nodes that one of their searches entered.
@@ -33,14 +32,15 @@ struct Before {
 
 // The rounds before the last one: with no moves it is double dummy, and each round has a move more.
 // With the front they leave the cards for the workers of a round that stops as said.
-fn deepened<R: Threads + Sync, G: Gate>(
-    rt: &R,
+fn deepened<C: RootCrew<G>, G: Gate>(
+    crew: &C,
     question: &Question,
     pass: &mut Pass,
     gate: &G,
     workers: &mut [RootWorker],
     stop: Stop,
 ) -> Result<Before, RootFault>
+    requires ready { C.ready crew.now }
     requires question { IsQuestion question.now }
     requires pass { IsPassOf question.now.table.now pass.old }
     requires some { 1 ≤ length workers.old }
@@ -48,8 +48,7 @@ fn deepened<R: Threads + Sync, G: Gate>(
         IsFrontAt question.now.node.now (question.now.moves - 1) before.front) }
     ensures within { IfOk result (λ before.
         IfSome before.most (IsWithin question.now.options.now.nodes)) }
-    ensures spent { (card : ℕ) → IsErrOf result (RootFault.Spent card) → IsSpentAt
-        question.now.node.now question.now.moves question.now.options.now.nodes card }
+    ensures spent { NamesSpent question.now result }
     ensures pass { IsPassOf question.now.table.now pass.new }
     ensures grown { HasSeenMore pass.old pass.new }
 {
@@ -71,7 +70,7 @@ fn deepened<R: Threads + Sync, G: Gate>(
             uses_table: question.options.table,
             shared_cards,
         };
-        let next = run_round(rt, &round, gate, workers, pass)?;
+        let next = run_round(crew, &round, gate, workers, pass)?;
         let next_stop = if fewer + 1 < moves {
             Stop::SameFront
         } else {
@@ -89,14 +88,15 @@ fn deepened<R: Threads + Sync, G: Gate>(
 }
 
 // The last round with cuts, after those with fewer moves.
-fn cut_rounds<R: Threads + Sync, G: Gate>(
-    rt: &R,
+fn cut_rounds<C: RootCrew<G>, G: Gate>(
+    crew: &C,
     question: &Question,
     pass: &mut Pass,
     gate: &G,
     workers: &mut [RootWorker],
     stop: Stop,
 ) -> Result<RoundFront, RootFault>
+    requires ready { C.ready crew.now }
     requires question { IsQuestion question.now }
     requires pass { IsPassOf question.now.table.now pass.old }
     requires some { 1 ≤ length workers.old }
@@ -106,7 +106,7 @@ fn cut_rounds<R: Threads + Sync, G: Gate>(
     ensures pass { IsPassOf question.now.table.now pass.new }
     ensures grown { HasSeenMore pass.old pass.new }
 {
-    let before = deepened(rt, question, pass, gate, workers, stop)?;
+    let before = deepened(crew, question, pass, gate, workers, stop)?;
     let round = Round {
         alloc: question.alloc,
         node: question.node,
@@ -119,19 +119,20 @@ fn cut_rounds<R: Threads + Sync, G: Gate>(
         uses_table: question.options.table,
         shared_cards: before.shared_cards,
     };
-    let mut last = run_round(rt, &round, gate, workers, pass)?;
+    let mut last = run_round(crew, &round, gate, workers, pass)?;
     last.most = last.most.larger(before.most);
     Ok(last)
 }
 
 // The only round without cuts.
-fn whole_round<R: Threads + Sync, G: Gate>(
-    rt: &R,
+fn whole_round<C: RootCrew<G>, G: Gate>(
+    crew: &C,
     question: &Question,
     pass: &mut Pass,
     gate: &G,
     workers: &mut [RootWorker],
 ) -> Result<RoundFront, RootFault>
+    requires ready { C.ready crew.now }
     requires question { IsQuestion question.now }
     requires pass { IsPassOf question.now.table.now pass.old }
     requires some { 1 ≤ length workers.old }
@@ -152,17 +153,18 @@ fn whole_round<R: Threads + Sync, G: Gate>(
         uses_table: question.options.table,
         shared_cards: question.node.choices(),
     };
-    run_round(rt, &round, gate, workers, pass)
+    run_round(crew, &round, gate, workers, pass)
 }
 
 /// All rounds, with cuts or the only one without, by as many workers as the options ask for.
-pub fn rounds<R: Threads + Sync, G: Gate>(
-    rt: &R,
+pub fn rounds<C: RootCrew<G>, G: Gate>(
+    crew: &C,
     question: &Question,
     pass: &mut Pass,
     gate: &G,
     stop: Stop,
 ) -> Result<RoundFront, RootFault>
+    requires ready { C.ready crew.now }
     requires question { IsQuestion question.now }
     requires pass { IsPassOf question.now.table.now pass.old }
     requires stop { stop ≢ Stop.Never }
@@ -173,8 +175,8 @@ pub fn rounds<R: Threads + Sync, G: Gate>(
     let mut workers = workers_for(question.alloc, question.options, question.node)?;
     let workers = workers.as_mut_slice();
     if question.options.cuts {
-        cut_rounds(rt, question, pass, gate, workers, stop)
+        cut_rounds(crew, question, pass, gate, workers, stop)
     } else {
-        whole_round(rt, question, pass, gate, workers)
+        whole_round(crew, question, pass, gate, workers)
     }
 }

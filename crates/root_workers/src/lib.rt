@@ -1,11 +1,14 @@
-//! What a job does at the root: the front over all root cards, the card to name, and the best weight.
-//! It builds on the search, which it gives each root card with a budget of its own, and on the laws of cuts.
-//! Its contract promises the definition's front, named card and best weight for any number of workers, every table and with cuts or none, or a root card whose tree is too large.
+//! What a job does at the root: the front over all root cards, the card to name, and the best
+//! weight. It builds on the search, which it gives each root card with a budget of its own, and on
+//! the laws of cuts.
+//! Its contract promises the definition's front, named card and best weight, whatever the workers,
+//! the table and the gate do, with cuts or without, or a root card whose tree is too large.
 #![tactic(auto)]
 
 mod alpha;
 mod best_card;
 mod card_search;
+mod crew;
 mod deepening;
 mod leading;
 mod question;
@@ -18,6 +21,9 @@ mod shared_cards;
 mod worker_results;
 mod workers;
 
+pub use crew::{Alone, InThreads, RootCrew, searched_in_threads};
 pub use question::Question;
 pub use reports::{CardReport, Outcome, Stored};
-pub use root::{Options, RootCard, RootFront, root_card, root_front};
+pub use root::{
+    Options, RootCard, RootFront, root_card, root_card_with, root_front, root_front_with,
+};

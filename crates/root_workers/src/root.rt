@@ -8,9 +8,11 @@ ghost use Rattle.alphamu_core.specs.Costs.{IsWithin};
 ghost use Rattle.shared_table.specs.Passes.{IsPassOf};
 ghost use Rattle.strategy_tree.specs.RootTrees.{IsSpentAt, IsFirstSpentAt, AllFit};
 ghost use Rattle.root_workers.specs.Plain.{IsPlain, HasWorkers};
+ghost use Rattle.root_workers.specs.Questions.{IsQuestion, NamesSpent, NamesFirstSpent, FitsIfPlain};
 ghost use Rattle.root_workers.specs.Rounds.{HasSeenMore};
 ghost use Rattle.root_workers.specs.Reports.{AreReports, course_of};
 
+use crate::crew::{InThreads, RootCrew, searched_in_threads};
 use crate::deepening::rounds;
 use crate::question::Question;
 use crate::reports::{CardReport, reports};
@@ -38,8 +40,8 @@ pub struct Options {
     pub cuts: bool,
 }
 
-/// The front of a root, the card to play, the weight of the layouts that it wins, and what became of
-/// each root card, in card order.
+/// The front of a root, the card to play, the weight of the layouts that it wins, and what became
+/// of each root card, in card order.
 #[derive(Drop)]
 pub struct RootFront {
     pub front: Front,
@@ -107,7 +109,10 @@ pub fn root_front<R: Threads + Sync, G: Gate>(
     ensures pass { IsPassOf table.now pass.new }
     ensures grown { HasSeenMore pass.old pass.new }
 {
-    let stop = Stop::SameFront;
+    let crew = InThreads {
+        rt,
+        search: searched_in_threads,
+    };
     let question = Question {
         alloc,
         node,
@@ -116,8 +121,39 @@ pub fn root_front<R: Threads + Sync, G: Gate>(
         options,
         table,
     };
-    let found = rounds(rt, &question, pass, gate, stop)?;
-    let cards = reports(&question, pass, &found.founds)?;
+    root_front_with(&crew, &question, pass, gate)
+}
+
+/// What `root_front` finds, with a crew that searches root cards beforehand.
+pub fn root_front_with<C: RootCrew<G>, G: Gate>(
+    crew: &C,
+    question: &Question,
+    pass: &mut Pass,
+    gate: &G,
+) -> Result<RootFront, RootFault>
+    requires ready { C.ready crew.now }
+    requires question { IsQuestion question.now }
+    requires workers { HasWorkers question.now.options.now }
+    requires pass { IsPassOf question.now.table.now pass.old }
+    ensures front { IfOk result (λ root. IsFrontAt question.now.node.now question.now.moves
+        root.front) }
+    ensures card { IfOk result (λ root. IsNamedByWeight bridge question.now.weights.now
+        question.now.node.now question.now.moves root.card) }
+    ensures weight { IfOk result (λ root. IsBestWeight bridge question.now.weights.now
+        question.now.node.now question.now.moves root.weight) }
+    ensures cards { IfOk result (λ root. AreReports (course_of question.now.node.now
+        question.now.moves question.now.options.now question.now.table.now pass.old pass.new)
+        root.cards.items) }
+    ensures within { IfOk result (λ root. IsWithin question.now.options.now.nodes root.most) }
+    ensures fits { FitsIfPlain question.now result }
+    ensures spent { NamesSpent question.now result }
+    ensures first_spent { NamesFirstSpent question.now result }
+    ensures pass { IsPassOf question.now.table.now pass.new }
+    ensures grown { HasSeenMore pass.old pass.new }
+{
+    let stop = Stop::SameFront;
+    let found = rounds(crew, question, pass, gate, stop)?;
+    let cards = reports(question, pass, &found.founds)?;
     Ok(RootFront {
         front: found.front,
         card: found.card,
@@ -127,8 +163,8 @@ pub fn root_front<R: Threads + Sync, G: Gate>(
     })
 }
 
-/// The card to play at a root, and its weight, as `root_front` names them. It may end earlier, since
-/// the front need not be whole.
+/// The card to play at a root, and its weight, as `root_front` names them. It may end earlier,
+/// since the front need not be whole.
 pub fn root_card<R: Threads + Sync, G: Gate>(
     rt: &R,
     alloc: Global,
@@ -162,7 +198,10 @@ pub fn root_card<R: Threads + Sync, G: Gate>(
     ensures pass { IsPassOf table.now pass.new }
     ensures grown { HasSeenMore pass.old pass.new }
 {
-    let stop = Stop::SameWeight;
+    let crew = InThreads {
+        rt,
+        search: searched_in_threads,
+    };
     let question = Question {
         alloc,
         node,
@@ -171,7 +210,33 @@ pub fn root_card<R: Threads + Sync, G: Gate>(
         options,
         table,
     };
-    let found = rounds(rt, &question, pass, gate, stop)?;
+    root_card_with(&crew, &question, pass, gate)
+}
+
+/// What `root_card` finds, with a crew that searches root cards beforehand.
+pub fn root_card_with<C: RootCrew<G>, G: Gate>(
+    crew: &C,
+    question: &Question,
+    pass: &mut Pass,
+    gate: &G,
+) -> Result<RootCard, RootFault>
+    requires ready { C.ready crew.now }
+    requires question { IsQuestion question.now }
+    requires workers { HasWorkers question.now.options.now }
+    requires pass { IsPassOf question.now.table.now pass.old }
+    ensures card { IfOk result (λ root. IsNamedByWeight bridge question.now.weights.now
+        question.now.node.now question.now.moves root.card) }
+    ensures weight { IfOk result (λ root. IsBestWeight bridge question.now.weights.now
+        question.now.node.now question.now.moves root.weight) }
+    ensures within { IfOk result (λ root. IsWithin question.now.options.now.nodes root.most) }
+    ensures fits { FitsIfPlain question.now result }
+    ensures spent { NamesSpent question.now result }
+    ensures first_spent { NamesFirstSpent question.now result }
+    ensures pass { IsPassOf question.now.table.now pass.new }
+    ensures grown { HasSeenMore pass.old pass.new }
+{
+    let stop = Stop::SameWeight;
+    let found = rounds(crew, question, pass, gate, stop)?;
     Ok(RootCard {
         card: found.card,
         weight: found.weight,

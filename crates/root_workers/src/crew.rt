@@ -1,0 +1,109 @@
+//! Who searches the root cards that the workers of a round share.
+ghost use Rattle.std.specs.Prelude.{◌≤◌, ⊤, IfOk, length};
+ghost use Rattle.std.specs.Thread.{IsSync};
+ghost use Rattle.shared_table.specs.Passes.{IsPassOf};
+ghost use Rattle.root_workers.specs.Crews.{Searches};
+ghost use Rattle.root_workers.specs.Rounds.{IsRound, IsKnownAt, HasSeenMore};
+ghost use Rattle.worker_pool.specs.Findings.{AreRight};
+
+use crate::round_work::RoundWork;
+use crate::rounds::Round;
+use crate::worker_results::Known;
+use crate::workers::RootWorker;
+use am_outside::Gate;
+use shared_table::Pass;
+use std::alloc::AllocError;
+use std::thread::Threads;
+use worker_pool::{Finding, work_side_by_side};
+
+/// What workers know of root cards, or that there was no memory for it.
+pub type Searched = Result<Vec<Finding<Known>>, AllocError>;
+
+/// Searches root cards of a round before the caller goes through all of them. No answer depends on
+/// which cards those are.
+pub trait RootCrew<G: Gate> {
+    /// It can search.
+    ghost ready: { Self → Type 0 };
+
+    /// What is known of root cards once the workers have searched.
+    fn searched(
+        &self,
+        round: &Round,
+        gate: &G,
+        workers: &mut [RootWorker],
+        pass: &mut Pass,
+    ) -> Searched
+        requires ready { ready self.now }
+        requires round { IsRound round.now }
+        requires some { 1 ≤ length workers.old }
+        requires pass { IsPassOf round.now.table.now pass.old }
+        ensures right { IfOk result (λ findings. AreRight (IsKnownAt round.now) findings.items) }
+        ensures pass { IsPassOf round.now.table.now pass.new }
+        ensures grown { HasSeenMore pass.old pass.new };
+}
+
+/// Nobody but the caller, who searches every root card, in card order.
+#[derive(Clone, Copy, Debug)]
+pub struct Alone;
+
+impl<G: Gate> RootCrew<G> for Alone {
+    ghost ready = { λ _. ⊤ };
+
+    fn searched(
+        &self,
+        round: &Round,
+        _gate: &G,
+        _workers: &mut [RootWorker],
+        _pass: &mut Pass,
+    ) -> Searched {
+        Ok(Vec::new(round.alloc))
+    }
+}
+
+/// Workers in threads: `search` is `searched_in_threads`, and `rt` starts them. A method of a trait
+/// may start no thread for a gate that it knows by a bound alone, so it is handed the function.
+#[derive(Drop)]
+pub struct InThreads<'a, R, F> {
+    pub rt: &'a R,
+    pub search: F,
+}
+
+impl<R, G: Gate, F: Fn(&R, &Round, &G, &mut [RootWorker], &mut Pass) -> Searched + Drop> RootCrew<G>
+    for InThreads<'_, R, F> {
+    ghost ready = { λ it. Searches (F.pre it.search it.rt) (F.post it.search it.rt) };
+
+    fn searched(
+        &self,
+        round: &Round,
+        gate: &G,
+        workers: &mut [RootWorker],
+        pass: &mut Pass,
+    ) -> Searched {
+        (self.search)(self.rt, round, gate, workers, pass)
+    }
+}
+
+/// What the workers find together: nothing, if there is no work for two. No more workers begin than
+/// there are cards for them.
+pub fn searched_in_threads<R: Threads + Sync, G: Gate>(
+    rt: &R,
+    round: &Round,
+    gate: &G,
+    workers: &mut [RootWorker],
+    pass: &mut Pass,
+) -> Searched
+    requires threads { IsSync R.row × IsSync G.row }
+    requires round { IsRound round.now }
+    requires some { 1 ≤ length workers.old }
+    requires pass { IsPassOf round.now.table.now pass.old }
+    ensures right { IfOk result (λ findings. AreRight (IsKnownAt round.now) findings.items) }
+    ensures pass { IsPassOf round.now.table.now pass.new }
+    ensures grown { HasSeenMore pass.old pass.new }
+{
+    let count = workers.len().min(usize::from(round.shared_cards.count()));
+    if count < 2 {
+        return Ok(Vec::new(round.alloc));
+    }
+    let work = RoundWork { round, gate };
+    work_side_by_side(rt, round.alloc, &work, &mut workers[..count], pass)
+}
