@@ -8,7 +8,6 @@ use Rattle.pareto_fronts.specs.FrontValue.{FrontValue}
 use Rattle.front_join.specs.JoinerValue.{JoinerValue}
 use Rattle.trick_rules.specs.Play.{makes}
 use Rattle.trick_rules.specs.Nodes.{NodeValue, IsNode, states, choices, child, child_mask}
-use Rattle.strategy_games.specs.Games.{mask}
 use Rattle.strategy_games.specs.Plans.{Hear, stops, wins, IsFront}
 use Rattle.strategy_games.proofs.Lists.{All-at, Contains-nil, Contains-single}
 use Rattle.strategy_games.proofs.Vectors.{Dominates-trans}

@@ -1,5 +1,5 @@
 -- What double dummy makes, beside a target and beside a vector.
-use Rattle.std.proofs.Common.{◌≡◌, ◌∙◌, ◌+◌, ◌<◌, ◌≤◌, ℕ, zero, suc, true, false, Some, List, [], ◌∷◌, get_or, length, map, slice_get, refl, sym, subst, zero-add, arith}
+use Rattle.std.proofs.Common.{◌≡◌, ◌∙◌, ◌+◌, ◌<◌, ◌≤◌, ℕ, zero, suc, true, false, Some, [], ◌∷◌, get_or, length, map, slice_get, refl, sym, subst, zero-add, arith}
 use Rattle.win_vectors.specs.Fronts.{Vector, Dominates}
 use Rattle.trick_rules.specs.Play.{makes}
 use Rattle.trick_rules.specs.Nodes.{NodeValue, IsNode, states}

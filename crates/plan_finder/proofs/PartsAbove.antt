@@ -1,5 +1,5 @@
 -- The vectors of lists that dominate a target, in unions and joins.
-use Rattle.std.proofs.Common.{◌≡◌, ◌⊎◌, ◌++◌, ◌∙◌, ◌↔◌, ℕ, List, [], ◌∷◌, Contains, length, take, Option, None, Some, IfSome, IsSome, refl, sym, ap, subst, ⊎_elim}
+use Rattle.std.proofs.Common.{◌≡◌, ◌++◌, ◌∙◌, ◌↔◌, ℕ, List, [], ◌∷◌, Contains, length, take, Option, None, Some, IfSome, IsSome, refl, sym, ap, subst, ⊎_elim}
 use Rattle.win_vectors.specs.Vectors.{ones_of, meet_of, spread_of, restrict_of}
 use Rattle.win_vectors.specs.Fronts.{Vector, Dominates, Covers, IsFrontOf, IsReduced, IsFirstAbove, meets, spreads}
 use Rattle.win_vectors.proofs.Orders.{Dominates-meet_left, Dominates-meet_right, meet_of-greatest, length-spread_of, Dominates-spread_of}

@@ -2,7 +2,7 @@
 use Rattle.std.proofs.Common.{◌≡◌, ◌∙◌, ◌+◌, ◌*◌, ◌<◌, ◌≤◌, ◌++◌, ℕ, zero, suc, false, List, [], ◌∷◌, Contains, length, refl, sym, ap, subst, append_assoc, true≢false, arith}
 use Rattle.std.proofs.lemmas.List.{append-nil}
 use Rattle.win_vectors.specs.Vectors.{ones_of, restrict_of}
-use Rattle.win_vectors.specs.Fronts.{Vector, Covers, IsFirstAbove}
+use Rattle.win_vectors.specs.Fronts.{Vector, Covers}
 use Rattle.win_vectors.proofs.Orders.{length-restrict_of}
 use Rattle.trick_rules.specs.Play.{cards_left}
 use Rattle.trick_rules.specs.Nodes.{NodeValue, IsNode, choices, child, child_mask}

@@ -1,6 +1,6 @@
 -- The card that a plan takes.
 use Rattle.std.specs.Prelude.{◌≡◌, ◌-◌, ◌<◌, ◌≤◌, ℕ, List, Contains}
-use Rattle.win_vectors.specs.Fronts.{Vector, Dominates, Covers}
+use Rattle.win_vectors.specs.Fronts.{Vector, Covers}
 use Rattle.trick_rules.specs.Nodes.{NodeValue, choices, child}
 use Rattle.strategy_games.specs.Plans.{IsFront, tree_size}
 use Rattle.strategy_games.specs.Choosing.{Keeps, IsFirstOf, IsPick}

@@ -21,6 +21,9 @@ use std::alloc::{AllocError, Global};
 use trick_rules::Node;
 use win_vectors::WinVector;
 
+/// What a search above a target finds.
+pub type VectorsAbove = Result<Front, SearchFault>;
+
 /// What a search above a target works with, and by which rules.
 #[derive(Drop)]
 pub struct AboveSearch<'a, S> {
@@ -148,7 +151,7 @@ impl<S: FrontStore> AboveSearch<'_, S> {
     /// Enters a node, for which the budget pays, and finds the vectors of its front that dominate
     /// the target.
     #[cycle(above)]
-    pub fn visit(&mut self, node: Node, moves: u8, target: &WinVector) -> Result<Front, SearchFault>
+    pub fn visit(&mut self, node: Node, moves: u8, target: &WinVector) -> VectorsAbove
         requires few_moves { moves ≤ most_moves }
         requires width { length target.now ≡ length node.lefts }
         ensures above { IfOk result (AreAbove node moves target.now) }
@@ -168,7 +171,7 @@ impl<S: FrontStore> AboveSearch<'_, S> {
     // The same, but without asking double dummy. After a defender's card there is no need to ask,
     // since a layout that was made is made still.
     #[cycle(above)]
-    fn go_on(&mut self, node: Node, moves: u8, target: &WinVector) -> Result<Front, SearchFault>
+    fn go_on(&mut self, node: Node, moves: u8, target: &WinVector) -> VectorsAbove
         requires few_moves { moves ≤ most_moves }
         requires width { length target.now ≡ length node.lefts }
         ensures above { IfOk result (AreAbove node moves target.now) }
@@ -186,12 +189,7 @@ impl<S: FrontStore> AboveSearch<'_, S> {
     }
 
     // Searches the front and takes its vectors above the target.
-    fn by_whole_front(
-        &mut self,
-        node: &Node,
-        moves: u8,
-        target: &WinVector,
-    ) -> Result<Front, SearchFault>
+    fn by_whole_front(&mut self, node: &Node, moves: u8, target: &WinVector) -> VectorsAbove
         requires few_moves { moves ≤ most_moves }
         requires width { length target.now ≡ length node.now.lefts }
         ensures above { IfOk result (AreAbove node.now moves target.now) }
@@ -231,7 +229,7 @@ impl<S: FrontStore> AboveSearch<'_, S> {
 
     // The vectors above the target of a node where play goes on, which is paid for.
     #[cycle(above)]
-    fn open(&mut self, node: &Node, moves: u8, target: &WinVector) -> Result<Front, SearchFault>
+    fn open(&mut self, node: &Node, moves: u8, target: &WinVector) -> VectorsAbove
         requires few_moves { moves ≤ most_moves }
         requires width { length target.now ≡ length node.now.lefts }
         requires goes_on { stops bridge node.now moves ≡ false }
@@ -253,12 +251,7 @@ impl<S: FrontStore> AboveSearch<'_, S> {
     // The best of the vectors above the target after each card of declarer's side, each with a
     // move less, until they win all that double dummy makes. The node itself is paid for.
     #[cycle(above)]
-    fn at_declarer(
-        &mut self,
-        node: &Node,
-        moves: u8,
-        target: &WinVector,
-    ) -> Result<Front, SearchFault>
+    fn at_declarer(&mut self, node: &Node, moves: u8, target: &WinVector) -> VectorsAbove
         requires few_moves { moves ≤ most_moves }
         requires width { length target.now ≡ length node.now.lefts }
         requires goes_on { stops bridge node.now moves ≡ false }
@@ -284,12 +277,7 @@ impl<S: FrontStore> AboveSearch<'_, S> {
     // The best of all meets of what is won above the target's part after each card of a defender;
     // nothing, as soon as nothing is won there. The node itself is paid for.
     #[cycle(above)]
-    fn at_defender(
-        &mut self,
-        node: &Node,
-        moves: u8,
-        target: &WinVector,
-    ) -> Result<Front, SearchFault>
+    fn at_defender(&mut self, node: &Node, moves: u8, target: &WinVector) -> VectorsAbove
         requires few_moves { moves ≤ most_moves }
         requires width { length target.now ≡ length node.now.lefts }
         requires goes_on { stops bridge node.now moves ≡ false }

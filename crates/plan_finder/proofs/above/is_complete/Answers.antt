@@ -1,4 +1,4 @@
-use Rattle.std.proofs.Common.{◌∙◌, false, length, ap, sym}
+use Rattle.std.proofs.Common.{◌∙◌, false, length, ap}
 use Rattle.std.proofs.lemmas.List.{length-replicate}
 use Rattle.win_vectors.specs.Fronts.{Vector}
 use Rattle.alphamu_core.proofs.Judging.{dominates-length}

@@ -1,5 +1,4 @@
-use Rattle.std.proofs.Common.{◌≡◌, ◌∙◌, ◌<◌, Some, map, slice_get, length, ap, sym, subst, arith}
-use Rattle.win_vectors.specs.Fronts.{Vector}
+use Rattle.std.proofs.Common.{◌∙◌, ◌<◌, Some, map, length, ap, sym, arith}
 use Rattle.trick_rules.specs.Play.{makes}
 use Rattle.trick_rules.specs.Positions.{PositionValue}
 use Rattle.trick_rules.specs.Nodes.{NodeValue, states}

@@ -1,11 +1,11 @@
-use Rattle.std.proofs.Common.{◌∙◌, ◌-◌, ◌+◌, List, ℕ, length, refl, sym, ap, subst, arith}
+use Rattle.std.proofs.Common.{◌∙◌, ◌-◌, length, refl, sym, ap, subst, arith}
 use Rattle.win_vectors.specs.Fronts.{Vector}
 use Rattle.trick_rules.specs.Nodes.{NodeValue}
 use Rattle.alphamu_core.proofs.Taken.{taken_first}
 use Rattle.alphamu_core.proofs.OpenNodes.{fewer_cards, size_ours, size_theirs}
 use Rattle.alphamu_core.proofs.Paid.{costs_one, costs_none, paid_none, paid_more, paid_memory, paid_all, paid_below}
 use Rattle.alphamu_core.proofs.OursSoFar.{ours_next, ours_width}
-use Rattle.alphamu_core.proofs.TheirsSoFar.{theirs_next, theirs_width}
+use Rattle.alphamu_core.proofs.TheirsSoFar.{theirs_next}
 use Rattle.strategy_games.specs.Plans.{tree_size}
 use Rattle.strategy_tree.specs.Bridge.{bridge}
 use Rattle.strategy_tree.proofs.CardLists.{has_card-from_Contains}

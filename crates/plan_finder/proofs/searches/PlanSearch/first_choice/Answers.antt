@@ -1,4 +1,4 @@
-use Rattle.std.proofs.Common.{◌≡◌, ◌∙◌, ◌-◌, IfSome, sym, ap, subst, Err}
+use Rattle.std.proofs.Common.{◌≡◌, ◌-◌, IfSome, sym, ap, subst, Err}
 use Rattle.alphamu_core.specs.declared.answers.RootFault.TheVariants.{Spent}
 use Rattle.strategy_games.specs.Choosing.{IsPick}
 use Rattle.strategy_tree.specs.Bridge.{bridge}

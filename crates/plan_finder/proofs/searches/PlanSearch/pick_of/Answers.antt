@@ -1,4 +1,3 @@
-use Rattle.std.proofs.Common.{subst}
 use Rattle.plan_finder.proofs.PartsAbove.{picked_above, none_above}
 use Rattle.plan_finder.proofs.searches.PlanSearch.pick_of.Goals as goal
 
