@@ -53,7 +53,7 @@ dominates_clear (a ∷ u) [] i h e = elim h [ ]
 dominates_clear (a ∷ u) (b ∷ v) zero h e = (subst (λ c. IsAtLeast false c) (sym e) tt, h.1)
 dominates_clear (a ∷ u) (b ∷ v) (suc i) h e = (h.0, dominates_clear u v i h.1 e)
 
-dominates_bits : (u v : Vector) → length u ≡ length v → ((i : ℕ) → get_or v i false ≡ true → get_or u i false ≡ true) → Dominates u v
+pub dominates_bits : (u v : Vector) → length u ≡ length v → ((i : ℕ) → get_or v i false ≡ true → get_or u i false ≡ true) → Dominates u v
 dominates_bits [] [] e h = tt
 dominates_bits [] (b ∷ v) e h = absurd cc
 dominates_bits (a ∷ u) [] e h = absurd cc

@@ -1,6 +1,12 @@
 pub mod Judging
 pub mod Bounds
 pub mod OneLayout
+pub mod Narrowed
+pub mod Parts
+pub mod Unions
+pub mod MadeLayouts
+pub mod CutDowns
+pub mod FrontParts
 pub mod Standing
 pub mod Enough
 pub mod Taken

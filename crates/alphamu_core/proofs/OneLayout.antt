@@ -77,7 +77,7 @@ module _ (n : NodeValue) (s : State) (sound : IsNode n) (one : states n ≡ s �
       here = rw made refl
 
 -- what a plan that wins the one layout wins in it
-won_one : (n : NodeValue) (s : State) (one : states n ≡ s ∷ []) (p : Plan ℕ) → wins_vector bridge p n ≡ true ∷ [] → wins bridge p s ≡ true
+pub won_one : (n : NodeValue) (s : State) (one : states n ≡ s ∷ []) (p : Plan ℕ) → wins_vector bridge p n ≡ true ∷ [] → wins bridge p s ≡ true
 won_one n s one p all = first (sym (ap (λ ss. map (λ s. wins bridge p s) ss) one) ∙ all)
   where
     first : {b : Bool} → b ∷ [] ≡ true ∷ [] → b ≡ true
@@ -119,7 +119,7 @@ by_replies n s less sound one live theirs each =
     (Hear rs.0, (live, theirs, rs.1, rs.2), wins_one n s sound one (Hear rs.0) ∙ ap (λ (b : Bool). b ∷ []) rs.3)
 
 -- what double dummy makes is won with any number of moves
-won_in_one : {s : State} → Makes s → (n : NodeValue) (moves : ℕ) → IsNode n → states n ≡ s ∷ [] → CanWin bridge n moves (true ∷ [])
+pub won_in_one : {s : State} → Makes s → (n : NodeValue) (moves : ℕ) → IsNode n → states n ≡ s ∷ [] → CanWin bridge n moves (true ∷ [])
 won_in_one {s} (ended over none) n moves sound one =
     let over_here : is_over n.position ≡ true = subst (λ t. is_over t ≡ true) (table_of n s (among n s sound one)) over in
     by_cases n moves (stopped_here n s sound one moves (made n s sound one (ended over none)))

@@ -36,8 +36,8 @@ fewer_cards n m card sound among e =
     let same : cards_left m.position ≡ cards_left (child n card).position = ap (λ (m : NodeValue). cards_left m.position) e in
     omega (arith, cards_left-child n card sound (has_card-from_Contains (choices n) card among))
 
-pub fewer_by_four : (n m : NodeValue) (card : ℕ) → IsNode n → Contains (choices n) card → m ≡ child n card → 4 * cards_left m.position + 3 < 4 * cards_left n.position
-fewer_by_four n m card sound among e = let less = fewer_cards n m card sound among e in omega arith
+pub fewer_by_five : (n m : NodeValue) (card : ℕ) → IsNode n → Contains (choices n) card → m ≡ child n card → 5 * cards_left m.position + 4 < 5 * cards_left n.position
+fewer_by_five n m card sound among e = let less = fewer_cards n m card sound among e in omega arith
 
 -- a card of declarer's side leaves each layout
 pub length-our_child : (n : NodeValue) (card : ℕ) → bridge.is_ours n ≡ true → has_card (choices n) card ≡ true → length (child n card).lefts ≡ length n.lefts

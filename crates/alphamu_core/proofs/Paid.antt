@@ -47,6 +47,28 @@ costs_none {T} Each whole before after result fault is some was now = passed_on 
   falls = omega arith;
 })
 
+-- a search that is paid for by one of a tree that is no larger
+module _ (Each : Type 0) (not_each : Each → ⊥) (part whole : ℕ) (smaller : part ≤ whole) (before after : ℕ) where
+  -- has its answer by that of the other,
+  pub costs_by_part : {T U : Type 0} (found : T) (other : U) → Costs {T = T} Each part before after (Ok found) → Costs {T = U} Each whole before after (Ok other)
+  costs_by_part found other costs = record {
+    counts = λ each. absurd (not_each each);
+    spent = λ e. absurd cc;
+    entered = costs.entered;
+    never_rises = costs.never_rises;
+    falls = omega (arith, costs.falls);
+  }
+
+  -- or none, as the other
+  pub costs_of_part : {T U : Type 0} (result : Result T SearchFault) (fault : SearchFault) → Costs {T = U} Each part before after (Err fault) → IsErrAnd result (λ e. e ≡ fault) → Costs Each whole before after result
+  costs_of_part {T} {U} result fault costs is = passed_on Each whole before after result fault is (record {
+    counts = λ each. tt;
+    spent = λ e. let of_fault : fault ≡ Spent = cc in let short = costs.spent (ap Err of_fault) in omega arith;
+    entered = tt;
+    never_rises = costs.never_rises;
+    falls = omega (arith, costs.falls);
+  })
+
 -- once the node itself was paid for: of the cards, each with so many moves after it, these are left, and the others were paid for at most
 pub record HasPaid (Each : Type 0) (n : NodeValue) (moves : ℕ) (cards : List ℕ) (before after : ℕ) : Type 0 where
   pub counts : Each → before + sum_by (size_after n moves) cards ≡ after + sum_by (size_after n moves) (choices n)

@@ -19,7 +19,7 @@ use Rattle.strategy_tree.proofs.Rules.{going_on, settled}
 use Rattle.strategy_tree.proofs.BridgeLaws.{one_front, steps, cuts}
 use Rattle.strategy_tree.proofs.BridgeNodes.{mask-bridge, length-states, length-child_lefts}
 use Rattle.front_table.specs.Proven.{IsFrontAt}
-use Rattle.alphamu_core.proofs.OpenNodes.{some_moves, is_open, fewer_by_four}
+use Rattle.alphamu_core.proofs.OpenNodes.{some_moves, is_open, fewer_by_five}
 use Rattle.alphamu_core.specs.Kept.{AreEnough, IsTaken}
 use Rattle.alphamu_core.proofs.Standing.{StandForAll, enough_replies}
 use Rattle.alphamu_core.proofs.Trying.{IsTrying, trying_none, trying_more, trying_all}
@@ -125,8 +125,8 @@ module _ (n : NodeValue) (moves : ℕ) where
       theirs_next = so.trying.rest card taken.among
 
       module _ {m : NodeValue} (is_child : m ≡ child n card) where
-        pub theirs_fewer : IsNode n → 4 * cards_left m.position + 3 < 4 * cards_left n.position
-        theirs_fewer sound = fewer_by_four n m card sound theirs_next is_child
+        pub theirs_fewer : IsNode n → 5 * cards_left m.position + 4 < 5 * cards_left n.position
+        theirs_fewer sound = fewer_by_five n m card sound theirs_next is_child
 
         pub theirs_width : (won : FrontValue) (bits : Vector) → bits ≡ child_mask n card → IsFrontAt m moves won → won.width ≡ ones_of bits
         theirs_width won bits is_mask found = found.width ∙ ap (λ (m : NodeValue). length m.lefts) is_child ∙ length-child_lefts n card ∙ ap ones_of (sym is_mask)

@@ -1,9 +1,10 @@
 -- Layouts of a node that are judged by double dummy, some after others.
-use Rattle.std.specs.Prelude.{◌≡◌, ◌<◌, ℕ, Bool, true, false, map, slice_index_or}
+use Rattle.std.specs.Prelude.{◌≡◌, ◌<◌, ℕ, Bool, true, false, ⊤, All, map, slice_index_or}
 use Rattle.win_vectors.specs.Fronts.{Vector, Dominates}
 use Rattle.trick_rules.specs.Play.{makes}
 use Rattle.trick_rules.specs.Nodes.{NodeValue, states}
 use Rattle.alphamu_core.specs.declared.known.Known.{Known}
+use Rattle.alphamu_core.specs.declared.known.Known.TheVariants.{Nothing, AllMade}
 
 -- double dummy's result in the layout at a place
 abbrev pub makes_at : NodeValue → ℕ → Bool
@@ -16,7 +17,7 @@ pub record IsJudged (results mask : Vector) (bit : Bool) (start : Vector) (place
   pub right : (i : ℕ) → i < places → slice_index_or mask i false ≡ bit
       → slice_index_or made i false ≡ true → slice_index_or results i false ≡ true
 
--- what is known to be made is made, and what is known to be lost is lost
-pub record IsKnown (n : NodeValue) (known : Known) : Type 0 where
-  pub made : Dominates (map makes (states n)) known.made
-  pub possible : Dominates known.possible (map makes (states n))
+-- if each layout is known to be made, each is made
+abbrev pub IsKnown : NodeValue → Known → Type 0
+IsKnown n Nothing = ⊤
+IsKnown n AllMade = All (λ s. makes s ≡ true) (states n)

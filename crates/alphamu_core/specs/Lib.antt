@@ -1,7 +1,9 @@
 pub mod Findings
 pub mod Budgets
 pub mod Costs
+pub mod Parts
 pub mod Limits
+pub mod CutDown
 pub mod Judging
 pub mod Kept
 pub mod TreeSearches

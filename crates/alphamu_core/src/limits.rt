@@ -1,14 +1,16 @@
 // What is known of a node's front before its children are searched.
-ghost use Rattle.std.specs.Prelude.{◌≡◌, ◌≢◌, ◌≤◌, ◌<◌, ◌+◌, [], ◌∷◌, true, false, length, IfOk, IfSome};
-ghost use Rattle.trick_rules.specs.Nodes.{IsNode};
+ghost use Rattle.std.specs.Prelude.{◌≡◌, ◌≢◌, ◌≤◌, ◌-◌, [], ◌∷◌, true, false, List, length, map, IfOk, IfSome};
+ghost use Rattle.win_vectors.specs.Fronts.{Vector};
+ghost use Rattle.trick_rules.specs.Play.{makes};
+ghost use Rattle.trick_rules.specs.Nodes.{IsNode, states};
 ghost use Rattle.strategy_games.specs.Plans.{stops};
 ghost use Rattle.strategy_tree.specs.Bridge.{bridge};
 ghost use Rattle.front_table.specs.Proven.{IsFrontAt};
-ghost use Rattle.front_table.specs.Entries.{most_entry_vectors};
+ghost use Rattle.cut_rules.specs.declared.CutRules.{CutRules};
 ghost use Rattle.cut_rules.specs.Rules.{no_cuts};
 ghost use Rattle.alphamu_core.specs.Findings.{IsAnswer};
 ghost use Rattle.alphamu_core.specs.Judging.{IsKnown};
-ghost use Rattle.alphamu_core.specs.Limits.{IsLimit, IsUnknown, IsUpperBound};
+ghost use Rattle.alphamu_core.specs.Limits.{IsLimit, IsUnknown, IsUpperBound, IsUnionOf};
 ghost use Rattle.alphamu_core.specs.TreeSearches.{IsSameSearch};
 
 use crate::answers::Found;
@@ -28,8 +30,10 @@ use win_vectors::WinVector;
 pub enum Limit {
     /// The answer itself.
     Settled(Found),
-    /// Perhaps an upper bound, the front with fewer moves; and what is known of the layouts.
-    Upper(Option<Front>, Known),
+    /// The layouts that double dummy makes; and an upper bound, the front with fewer moves.
+    Upper(WinVector, Front),
+    /// Nothing.
+    Open,
 }
 
 impl<S: FrontStore> TreeSearch<'_, S> {
@@ -40,10 +44,10 @@ impl<S: FrontStore> TreeSearch<'_, S> {
         node: &Node,
         moves: u8,
         alpha: &Front,
-        known: &Known,
+        known: Known,
     ) -> Result<Limit, AllocError>
         requires width { alpha.now.width ≡ length node.now.lefts }
-        requires known { IsKnown node.now known.now }
+        requires known { IsKnown node.now known }
         requires goes_on { stops bridge node.now moves ≡ false }
         ensures limit { IfOk result (IsLimit node.now moves alpha.now.vectors self.old.rules) }
         ensures unknown { self.old.rules ≡ no_cuts → S.blind ≡ true → IfOk result IsUnknown }
@@ -53,51 +57,72 @@ impl<S: FrontStore> TreeSearch<'_, S> {
         if let Some(front) = self.scratch.known(self.store, node, moves)? {
             return Ok(Limit::Settled(Found::Exact(front)));
         }
+        if let Some(previous) = self.previous(node, moves)? {
+            return by_previous(self.alloc, node, moves, alpha, previous);
+        }
+        if !self.rules.bound {
+            return Ok(Limit::Open);
+        }
         let question = Question {
             node,
             known,
             alpha,
             rules: self.rules,
         };
-        match by_double_dummy(self.alloc, self.solver, &question, moves)? {
-            Limit::Settled(found) => Ok(Limit::Settled(found)),
-            Limit::Upper(upper, known) => self.by_previous(node, moves, alpha, upper, known),
-        }
+        by_double_dummy(self.alloc, self.solver, &question, moves)
     }
 
-    // By the front with a move less, if the store has it; else the upper bound that there is.
-    fn by_previous(
-        &mut self,
-        node: &Node,
-        moves: u8,
-        alpha: &Front,
-        upper: Option<Front>,
-        known: Known,
-    ) -> Result<Limit, AllocError>
-        requires width { alpha.now.width ≡ length node.now.lefts }
+    // The front with a move less, if the rules use it and the store has it.
+    fn previous(&mut self, node: &Node, moves: u8) -> Result<Option<Front>, AllocError>
         requires goes_on { stops bridge node.now moves ≡ false }
-        requires upper { IsLimit node.now moves alpha.now.vectors self.old.rules
-            (Limit.Upper upper known) }
-        ensures limit { IfOk result (IsLimit node.now moves alpha.now.vectors self.old.rules) }
-        ensures unknown { self.old.rules ≡ no_cuts → IfOk result IsUnknown }
+        ensures front { IfOk result (λ front. IfSome front (IsFrontAt node.now (moves - 1))) }
+        ensures deepens { IfOk result (λ front. IfSome front (λ _. self.old.rules ≢ no_cuts)) }
         ensures unpaid { self.new.budget.now.left ≡ self.old.budget.now.left }
         ensures same { IsSameSearch S.grown self.old self.new }
     {
         if !self.rules.deepen {
-            return Ok(Limit::Upper(upper, known));
+            return Ok(None);
         }
-        let Some(previous) = self.scratch.known(self.store, node, moves - 1)? else {
-            return Ok(Limit::Upper(upper, known));
-        };
-        if cut(&previous, alpha) {
-            return Ok(Limit::Settled(Found::Below));
-        }
-        Ok(Limit::Upper(Some(previous), known))
+        self.scratch.known(self.store, node, moves - 1)
     }
 }
 
-// By double dummy at the node itself: no strategy wins a layout that can't be made. If there is one
-// layout, nothing is hidden, and its result is the front.
+// By the front with a move less. Double dummy needn't be asked: a layout that it makes is won by
+// some vector of that front.
+fn by_previous(
+    alloc: Global,
+    node: &Node,
+    moves: u8,
+    alpha: &Front,
+    previous: Front,
+) -> Result<Limit, AllocError>
+    requires width { alpha.now.width ≡ length node.now.lefts }
+    requires goes_on { stops bridge node.now moves ≡ false }
+    requires previous { IsFrontAt node.now (moves - 1) previous }
+    requires a_node { IsNode node.now }
+    ensures { (rules : CutRules) → rules ≢ no_cuts
+        → IfOk result (IsLimit node.now moves alpha.now.vectors rules) }
+{
+    if cut(&previous, alpha) {
+        return Ok(Limit::Settled(Found::Below));
+    }
+    let made = union_of(&previous);
+    by_results(alloc, node, moves, made, previous)
+}
+
+// The vector with a 1 at each layout at which some vector of the front has 1.
+fn union_of(front: &Front) -> WinVector
+    ensures { IsUnionOf front.now.width front.now.vectors result }
+{
+    let count = front.len();
+    let mut union = WinVector::none(front.width());
+    for place in 0..count {
+        union = union.either(front.get(place));
+    }
+    union
+}
+
+// By double dummy at the node itself: no strategy wins a layout that can't be made.
 fn by_double_dummy(
     alloc: Global,
     solver: &mut Solver,
@@ -105,26 +130,38 @@ fn by_double_dummy(
     moves: u8,
 ) -> Result<Limit, AllocError>
     requires width { question.now.alpha.now.width ≡ length question.now.node.now.lefts }
-    requires known { IsKnown question.now.node.now question.now.known.now }
+    requires known { IsKnown question.now.node.now question.now.known }
     requires goes_on { stops bridge question.now.node.now moves ≡ false }
-    ensures limit { IfOk result (IsLimit question.now.node.now moves
+    requires bound { question.now.rules.bound ≡ true }
+    ensures { IfOk result (IsLimit question.now.node.now moves
         question.now.alpha.now.vectors question.now.rules) }
-    ensures unknown { question.now.rules ≡ no_cuts → IfOk result IsUnknown }
 {
-    if !question.rules.bound {
-        return Ok(Limit::Upper(None, question.known.copy()));
-    }
     let Some(made) = results(solver, question) else {
         return Ok(Limit::Settled(Found::Below));
     };
-    let front = single(alloc, made)?;
-    if made.count() == 0 {
-        return Ok(Limit::Settled(Found::Exact(front)));
+    let upper = single(alloc, made)?;
+    by_results(alloc, question.node, moves, made, upper)
+}
+
+// By double dummy's results. If it makes one layout at most, nothing that matters is hidden, and
+// the results are the front.
+fn by_results(
+    alloc: Global,
+    node: &Node,
+    moves: u8,
+    made: WinVector,
+    upper: Front,
+) -> Result<Limit, AllocError>
+    requires a_node { IsNode node.now }
+    requires results { made ≡ map makes (states node.now) }
+    requires upper { IsUpperBound node.now moves upper }
+    ensures { (alpha : List Vector) (rules : CutRules) → rules ≢ no_cuts
+        → IfOk result (IsLimit node.now moves alpha rules) }
+{
+    if made.count() < 2 {
+        return Ok(Limit::Settled(Found::Exact(single(alloc, made)?)));
     }
-    if question.node.width() == 1 {
-        return Ok(Limit::Settled(Found::Exact(front)));
-    }
-    Ok(Limit::Upper(Some(front), Known::exactly(made)))
+    Ok(Limit::Upper(made, upper))
 }
 
 /// Where plans stop: double dummy's results, or below.
@@ -135,7 +172,7 @@ pub fn leaf(
     moves: u8,
 ) -> Result<Found, AllocError>
     requires width { question.now.alpha.now.width ≡ length question.now.node.now.lefts }
-    requires known { IsKnown question.now.node.now question.now.known.now }
+    requires known { IsKnown question.now.node.now question.now.known }
     requires stopped { stops bridge question.now.node.now moves ≡ true }
     ensures { IfOk result (IsAnswer question.now.node.now moves question.now.alpha.now.vectors
         question.now.rules) }

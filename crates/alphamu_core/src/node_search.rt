@@ -53,7 +53,6 @@ pub fn search<S: FrontStore>(
     ensures grown { S.grown store.old store.new }
 {
     let mut scratch = Scratch::new(alloc, node)?;
-    let known = Known::nothing(node.width());
     let node = node.copy(alloc)?;
     let mut search = TreeSearch {
         alloc,
@@ -63,5 +62,5 @@ pub fn search<S: FrontStore>(
         scratch: &mut scratch,
         rules,
     };
-    search.visit(node, moves, alpha, &known)
+    search.visit(node, moves, alpha, Known::Nothing)
 }

@@ -12,12 +12,12 @@ use pareto_fronts::Front;
 use trick_rules::Node;
 use win_vectors::WinVector;
 
-/// What is asked of double dummy: the results at a node, of which some may be known already. If the
-/// rules allow a cut, they needn't be found if alpha dominates them.
+/// What is asked of double dummy: the results at a node, if they aren't known already. If the rules
+/// allow a cut, they needn't be found if alpha dominates them.
 #[derive(Drop)]
 pub struct Question<'a> {
     pub node: &'a Node,
-    pub known: &'a Known,
+    pub known: Known,
     pub alpha: &'a Front,
     pub rules: CutRules,
 }
@@ -28,15 +28,34 @@ pub struct Question<'a> {
 /// alpha dominates.
 pub fn results(solver: &mut Solver, question: &Question) -> Option<WinVector>
     requires alpha { question.now.alpha.now.width ≡ length question.now.node.now.lefts }
-    requires known { IsKnown question.now.node.now question.now.known.now }
+    requires known { IsKnown question.now.node.now question.now.known }
     ensures a_node { IsNode question.now.node.now }
     ensures results { IfSome result (λ made. made ≡ map makes (states question.now.node.now)) }
     ensures cut { IsNone result → (question.now.rules.bound ≡ true)
         × Covers question.now.alpha.now.vectors (map makes (states question.now.node.now)) }
 {
-    let sure = common(question.alpha);
-    let made = judge(solver, question, sure, false, question.known.possible)?;
-    judge(solver, question, sure, true, made)
+    let all = WinVector::all(question.node.width());
+    match question.known {
+        Known::AllMade => unless_covered(question, all),
+        Known::Nothing => {
+            let sure = common(question.alpha);
+            let made = judge(solver, question, sure, false, all)?;
+            judge(solver, question, sure, true, made)
+        }
+    }
+}
+
+// Results that are known; or none, if a cut is allowed and alpha dominates them.
+fn unless_covered(question: &Question, made: WinVector) -> Option<WinVector>
+    requires { length made ≡ question.now.alpha.now.width }
+    ensures results { IfSome result (λ results. results ≡ made) }
+    ensures cut { IsNone result → (question.now.rules.bound ≡ true)
+        × Covers question.now.alpha.now.vectors made }
+{
+    if question.rules.bound && question.alpha.covers(&made) {
+        return None;
+    }
+    Some(made)
 }
 
 // The vector with a 1 at each layout at which every vector of the front has 1.
@@ -61,7 +80,6 @@ fn judge(
     start: WinVector,
 ) -> Option<WinVector>
     requires alpha { question.now.alpha.now.width ≡ length question.now.node.now.lefts }
-    requires known { IsKnown question.now.node.now question.now.known.now }
     requires mask { length mask ≡ length question.now.node.now.lefts }
     requires above { Dominates start (map makes (states question.now.node.now)) }
     ensures a_node { IsNode question.now.node.now }
@@ -73,7 +91,7 @@ fn judge(
     let mut made = start;
     for place in 0..question.node.width() {
         if mask.get(place) == bit {
-            made = judge_at(solver, question.node, question.known, place, made);
+            made = judge_at(solver, question.node, place, made);
             if question.rules.bound && question.alpha.covers(&made) {
                 return None;
             }
@@ -83,36 +101,22 @@ fn judge(
 }
 
 // Takes a layout out if it can't be made.
-fn judge_at(
-    solver: &mut Solver,
-    node: &Node,
-    known: &Known,
-    place: u16,
-    made: WinVector,
-) -> WinVector
+fn judge_at(solver: &mut Solver, node: &Node, place: u16, made: WinVector) -> WinVector
     requires within { place < length node.now.lefts }
-    requires known { IsKnown node.now known.now }
     requires width { length made ≡ length node.now.lefts }
     ensures { result ≡ (if makes_at node.now place then made else slice_set made place false) }
 {
-    if is_made(solver, node, known, place) {
+    if is_made(solver, node, place) {
         made
     } else {
         made.set(place, false)
     }
 }
 
-// Double dummy's result in a layout, which is asked only if it isn't known.
-fn is_made(solver: &mut Solver, node: &Node, known: &Known, place: u16) -> bool
-    requires within { place < length node.now.lefts }
-    requires known { IsKnown node.now known.now }
+// Double dummy's result in a layout.
+fn is_made(solver: &mut Solver, node: &Node, place: u16) -> bool
+    requires { place < length node.now.lefts }
     ensures { result ≡ makes_at node.now place }
 {
-    if known.made.get(place) {
-        return true;
-    }
-    if !known.possible.get(place) {
-        return false;
-    }
     solver.makes(node.position(), node.left(place))
 }

@@ -5,7 +5,7 @@ ghost use Rattle.strategy_tree.specs.Bridge.{bridge};
 ghost use Rattle.cut_rules.specs.Rules.{no_cuts};
 ghost use Rattle.alphamu_core.specs.Findings.{IsAnswer, IsExactOfWidth};
 ghost use Rattle.alphamu_core.specs.Judging.{IsKnown};
-ghost use Rattle.alphamu_core.specs.Limits.{IsUpperBound, IsUnited, IsReached};
+ghost use Rattle.alphamu_core.specs.Limits.{IsLimit, IsUpperBound, IsUnited, IsReached};
 ghost use Rattle.alphamu_core.specs.TreeSearches.{IsSameSearch, Pays, PaysBelow};
 
 use crate::answers::{Found, SearchFault};
@@ -13,6 +13,7 @@ use crate::kept::{cards_to_try, take_highest};
 use crate::known::Known;
 use crate::limits::{Limit, leaf};
 use crate::offers::offer;
+use crate::part::{cut_down, fill};
 use crate::results::Question;
 use crate::tree_search::TreeSearch;
 use cut_rules::cut;
@@ -21,6 +22,7 @@ use front_table::FrontStore;
 use pareto_fronts::Front;
 use std::alloc::AllocError;
 use trick_rules::Node;
+use win_vectors::WinVector;
 
 impl<S: FrontStore> TreeSearch<'_, S> {
     /// Enters a node, for which the budget pays, and answers for it.
@@ -30,10 +32,10 @@ impl<S: FrontStore> TreeSearch<'_, S> {
         node: Node,
         moves: u8,
         alpha: &Front,
-        known: &Known,
+        known: Known,
     ) -> Result<Found, SearchFault>
         requires width { alpha.now.width ≡ length node.lefts }
-        requires known { IsKnown node known.now }
+        requires known { IsKnown node known }
         ensures answer { IfOk result (IsAnswer node moves alpha.now.vectors self.old.rules) }
         ensures costs { Pays S.blind node moves self.old self.new result }
         ensures same { IsSameSearch S.grown self.old self.new }
@@ -61,26 +63,48 @@ impl<S: FrontStore> TreeSearch<'_, S> {
         node: Node,
         moves: u8,
         alpha: &Front,
-        known: &Known,
+        known: Known,
     ) -> Result<Found, SearchFault>
         requires width { alpha.now.width ≡ length node.lefts }
-        requires known { IsKnown node known.now }
+        requires known { IsKnown node known }
         requires goes_on { stops bridge node moves ≡ false }
         ensures answer { IfOk result (IsAnswer node moves alpha.now.vectors self.old.rules) }
         ensures costs { PaysBelow S.blind node moves self.old self.new result }
         ensures same { IsSameSearch S.grown self.old self.new }
     {
-        match self.limit(&node, moves, alpha, known)? {
-            Limit::Settled(found) => Ok(found),
-            Limit::Upper(upper, known) => {
-                let answer = self.by_cards(&node, moves, alpha, &upper, &known);
-                offer(self.store, node, moves, &answer);
-                answer
-            }
-        }
+        let answer = match self.limit(&node, moves, alpha, known)? {
+            Limit::Settled(found) => return Ok(found),
+            Limit::Upper(made, upper) => self.in_made(&node, moves, alpha, made, upper),
+            Limit::Open => self.by_cards(&node, moves, alpha, &None, Known::Nothing),
+        };
+        offer(self.store, node, moves, &answer);
+        answer
     }
 
-    // Answers by the fronts after the cards.
+    // Answers by the layouts that double dummy makes: no strategy wins another.
+    #[cycle(walk)]
+    fn in_made(
+        &mut self,
+        node: &Node,
+        moves: u8,
+        alpha: &Front,
+        made: WinVector,
+        upper: Front,
+    ) -> Result<Found, SearchFault>
+        requires width { alpha.now.width ≡ length node.now.lefts }
+        requires goes_on { stops bridge node.now moves ≡ false }
+        requires limit { IsLimit node.now moves alpha.now.vectors self.old.rules
+            (Limit.Upper made upper) }
+        ensures answer { IfOk result (IsAnswer node.now moves alpha.now.vectors self.old.rules) }
+        ensures costs { PaysBelow S.blind node.now moves self.old self.new result }
+        ensures same { IsSameSearch S.grown self.old self.new }
+    {
+        let part = cut_down(self.alloc, node, moves, alpha, made, upper)?;
+        let found = self.by_cards(&part.node, moves, &part.alpha, &part.upper, Known::AllMade)?;
+        Ok(fill(self.alloc, found, made)?)
+    }
+
+    // Answers by the fronts after the cards, where each layout is known to be made, or nothing is.
     #[cycle(walk)]
     fn by_cards(
         &mut self,
@@ -88,10 +112,10 @@ impl<S: FrontStore> TreeSearch<'_, S> {
         moves: u8,
         alpha: &Front,
         upper: &Option<Front>,
-        known: &Known,
+        known: Known,
     ) -> Result<Found, SearchFault>
         requires width { alpha.now.width ≡ length node.now.lefts }
-        requires known { IsKnown node.now known.now }
+        requires known { IsKnown node.now known }
         requires goes_on { stops bridge node.now moves ≡ false }
         requires upper { IfSome upper.now (IsUpperBound node.now moves) }
         requires none { self.old.rules ≡ no_cuts → upper.now ≡ None }
@@ -100,7 +124,7 @@ impl<S: FrontStore> TreeSearch<'_, S> {
         ensures same { IsSameSearch S.grown self.old self.new }
     {
         if node.is_ours() {
-            self.at_declarer(node, moves, alpha, upper, known)
+            self.at_declarer(node, moves, alpha, upper)
         } else {
             self.at_defender(node, moves, alpha, known)
         }
@@ -115,9 +139,7 @@ impl<S: FrontStore> TreeSearch<'_, S> {
         moves: u8,
         alpha: &Front,
         upper: &Option<Front>,
-        known: &Known,
     ) -> Result<Found, SearchFault>
-        requires known { IsKnown node.now known.now }
         requires goes_on { stops bridge node.now moves ≡ false }
         requires ours { bridge.is_ours node.now ≡ true }
         requires upper { IfSome upper.now (IsUpperBound node.now moves) }
@@ -128,10 +150,9 @@ impl<S: FrontStore> TreeSearch<'_, S> {
     {
         let mut front = Front::new(self.alloc, node.width());
         let mut cards = cards_to_try(node, self.rules);
-        let below = known.after_declarer();
         'cards: while let Some(card) = take_highest(&mut cards) {
             let (child, _) = node.child(self.alloc, card)?;
-            let found = self.visit(child, moves - 1, &front, &below)?;
+            let found = self.visit(child, moves - 1, &front, Known::Nothing)?;
             unite(&mut front, &found)?;
             if is_reached(upper, &front) {
                 return Ok(Found::Exact(front));
@@ -141,6 +162,7 @@ impl<S: FrontStore> TreeSearch<'_, S> {
     }
 
     // The best of all meets of what is won after each card of a defender, until alpha covers them.
+    // A layout that is made is made still after the card.
     // The node itself is paid for.
     #[cycle(walk)]
     fn at_defender(
@@ -148,10 +170,10 @@ impl<S: FrontStore> TreeSearch<'_, S> {
         node: &Node,
         moves: u8,
         alpha: &Front,
-        known: &Known,
+        known: Known,
     ) -> Result<Found, SearchFault>
         requires width { alpha.now.width ≡ length node.now.lefts }
-        requires known { IsKnown node.now known.now }
+        requires known { IsKnown node.now known }
         requires goes_on { stops bridge node.now moves ≡ false }
         requires theirs { bridge.is_ours node.now ≡ false }
         ensures answer { IfOk result (IsAnswer node.now moves alpha.now.vectors self.old.rules) }
@@ -163,8 +185,7 @@ impl<S: FrontStore> TreeSearch<'_, S> {
         'cards: while let Some(card) = cards.pop_first() {
             let (child, mask) = node.child(self.alloc, card)?;
             let none = Front::new(self.alloc, child.width());
-            let below = known.after_defender(mask);
-            let won = match self.visit(child, moves, &none, &below)? {
+            let won = match self.visit(child, moves, &none, known)? {
                 Found::Exact(won) => won,
                 Found::Below => unreachable!(),
             };

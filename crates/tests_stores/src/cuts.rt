@@ -195,6 +195,18 @@ fn one_layout_is_settled(rt: HostRuntime) -> Result<(), Fail> {
     Ok(())
 }
 
+// If Left has SA SQ, declarer wins no trick. Right may play S5 only then, so S5 isn't entered:
+// 1 + (1 + 2) + 1 + 1, as above. Else it is entered too.
+#[test]
+fn a_lost_layout_is_left_out(rt: HostRuntime) -> Result<(), Fail> {
+    let alloc = rt.alloc();
+    let hands = [[3, 10], [3, 12], [10, 12]];
+    let node = root(&rt, alloc, &KING_JACK, &QUEEN_ACE, 1, &hands)?;
+    let node = after(&rt, alloc, &node, 0)?;
+    assert_eq!(rt; with_cuts(&rt, alloc, &node, 1), (6, true));
+    Ok(())
+}
+
 // S3 and S2 are equal: 1 + 6 nodes, as above after S2. Else the other card is entered too.
 #[test]
 fn equal_cards_once(rt: HostRuntime) -> Result<(), Fail> {

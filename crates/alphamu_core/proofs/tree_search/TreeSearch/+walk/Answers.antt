@@ -1,7 +1,8 @@
-use Rattle.std.proofs.Common.{◌∙◌, ◌-◌, ◌+◌, ◌≤◌, length, refl, sym, ap, subst, arith}
-use Rattle.win_vectors.specs.Vectors.{ones_of}
-use Rattle.win_vectors.specs.Fronts.{Vector, CoversAll}
+use Rattle.std.proofs.Common.{◌≡◌, ◌∙◌, ◌-◌, ◌+◌, refl, sym, ap, subst, arith}
+use Rattle.win_vectors.specs.Fronts.{CoversAll}
 use Rattle.pareto_fronts.specs.FrontValue.{FrontValue}
+use Rattle.trick_rules.specs.Positions.{PositionValue}
+use Rattle.trick_rules.specs.Play.{cards_left}
 use Rattle.front_table.specs.Proven.{IsFrontAt}
 use Rattle.alphamu_core.specs.Findings.{IsAnswer}
 use Rattle.alphamu_core.specs.Limits.{IsUnknown}
@@ -10,11 +11,11 @@ use Rattle.strategy_games.specs.Plans.{tree_size}
 use Rattle.strategy_tree.specs.Bridge.{bridge}
 use Rattle.strategy_tree.proofs.CardLists.{has_card-from_Contains}
 use Rattle.strategy_tree.proofs.BridgeLaws.{sizes}
-use Rattle.strategy_tree.proofs.BridgeNodes.{stopped, tree_size-positive, length-child_mask, some_layout}
+use Rattle.strategy_tree.proofs.BridgeNodes.{stopped, tree_size-positive}
 use Rattle.alphamu_core.proofs.Bounds.{cuts_early, width_of_upper, never_reached}
 use Rattle.alphamu_core.proofs.OpenNodes.{is_open, size_ours, size_theirs}
-use Rattle.alphamu_core.proofs.Inherited.{known_ours, known_theirs, known_width}
-use Rattle.alphamu_core.proofs.Paid.{costs_memory, costs_one, costs_none, paid_none, paid_more, paid_memory, paid_all, paid_below}
+use Rattle.alphamu_core.proofs.Inherited.{known_theirs}
+use Rattle.alphamu_core.proofs.Paid.{costs_memory, costs_one, costs_none, costs_by_part, costs_of_part, paid_none, paid_more, paid_memory, paid_all, paid_below}
 use Rattle.alphamu_core.proofs.SameSearch.{same_none, same_more, still_early, costs_by}
 use Rattle.alphamu_core.proofs.OursSoFar.{ours_none, ours_all, ours_enough, ours_next, ours_fewer, ours_width, ours_found_width, ours_more}
 use Rattle.alphamu_core.proofs.Taken.{taken_first}
@@ -41,11 +42,8 @@ at_declarer-returns-in_err-child-clause-costs g t c =
 pub at_declarer-visit-requires : goal.at_declarer-visit-requires
 at_declarer-visit-requires g t c κs within =
     let less = ours_fewer c.args.node.now (c.args.moves - 1) c.cards.invariant.so c.in-Some.ensures c.in_ok-child.ensures.node c.width.ensures.a_node in
-    let next = ours_next c.args.node.now (c.args.moves - 1) c.cards.invariant.so c.in-Some.ensures in
-    let live = is_open c.args.node.now c.args.moves c.requires.goes_on in
     let width = ours_width c.args.node.now (c.args.moves - 1) c.cards.invariant.so c.in-Some.ensures c.in_ok-child.ensures.node c.requires.ours in
-    let known = known_ours c.args.node.now _ c.width.ensures.a_node live next _ c.args.known.now c.after_declarer-below.result c.requires.ours c.in_ok-child.ensures.node c.requires.known c.after_declarer-below.ensures.made c.after_declarer-below.ensures.possible in
-    (omega arith, (within, (width, known)))
+    (omega arith, (within, (width, tt)))
 
 pub at_declarer-returns-in_err-found-clause-costs : goal.at_declarer-returns-in_err-found-clause-costs
 at_declarer-returns-in_err-found-clause-costs g t c =
@@ -134,19 +132,9 @@ at_defender-returns-in_err-child-clause-costs g t c =
 pub at_defender-visit-requires : goal.at_defender-visit-requires
 at_defender-visit-requires g t c κs within =
     let less = theirs_fewer c.args.node.now c.args.moves c.cards.invariant.so (taken_first _ _ _ c.in-Some.ensures.value) c.in_ok-child.ensures.node c.width.ensures.a_node in
-    let next = theirs_next c.args.node.now c.args.moves c.cards.invariant.so (taken_first _ _ _ c.in-Some.ensures.value) in
     let live = is_open c.args.node.now c.args.moves c.requires.goes_on in
-    let known = known_theirs c.args.node.now _ c.width.ensures.a_node live next _ c.args.known.now c.after_defender-below.result c.in_ok-child.mask c.requires.theirs c.in_ok-child.ensures.node c.in_ok-child.ensures.mask c.requires.known c.after_defender-below.ensures.made c.after_defender-below.ensures.possible in
+    let known = known_theirs c.args.node.now _ c.width.ensures.a_node live c.requires.theirs _ c.args.known c.in_ok-child.ensures.node c.requires.known in
     (omega arith, (within, (c.new-none.ensures.width ∙ c.width-in-Some.ensures.value, known)))
-
-pub at_defender-after_defender-below-requires-clause-width : goal.at_defender-after_defender-below-requires-clause-width
-at_defender-after_defender-below-requires-clause-width g t c =
-    known_width c.args.node.now c.args.known.now c.requires.known ∙ sym (ap (λ (v : Vector). length v) c.in_ok-child.ensures.mask ∙ length-child_mask c.args.node.now _)
-
-pub at_defender-after_defender-below-requires-clause-some : goal.at_defender-after_defender-below-requires-clause-some
-at_defender-after_defender-below-requires-clause-some g t c =
-    let next = theirs_next c.args.node.now c.args.moves c.cards.invariant.so (taken_first _ _ _ c.in-Some.ensures.value) in
-    subst (λ mask. 1 ≤ ones_of mask) (sym c.in_ok-child.ensures.mask) (some_layout c.args.node.now _ c.width.ensures.a_node (has_card-from_Contains _ _ next))
 
 pub at_defender-returns-in_err-won-clause-costs : goal.at_defender-returns-in_err-won-clause-costs
 at_defender-returns-in_err-won-clause-costs g t c =
@@ -220,6 +208,39 @@ pub at_defender-returns-clause-costs : goal.at_defender-returns-clause-costs
 at_defender-returns-clause-costs g t c =
     let size = size_theirs c.args.node.now c.args.moves c.width.ensures.a_node c.requires.goes_on c.requires.theirs in
     paid_all (EntersEach c.args.self.now.rules g.S.FrontStore.blind) c.args.node.now c.args.moves c.cards.invariant.paid c.args.moves size _ (λ each. c.in_default.ensures.value.0)
+
+-- ---- the layouts that are made
+
+pub in_made-by_cards-requires : goal.in_made-by_cards-requires
+in_made-by_cards-requires g t c κs within =
+    let part = c.in_ok-part.ensures in
+    let same : cards_left c.in_ok-part.part.node.position ≡ cards_left c.args.node.now.position = ap (λ (t : PositionValue). cards_left t) part.position in
+    (omega arith, (within, (part.width, (part.each, (part.goes_on, (part.upper, λ none. absurd (c.requires.limit.1 none)))))))
+
+pub in_made-returns-in_err-part-clause-costs : goal.in_made-returns-in_err-part-clause-costs
+in_made-returns-in_err-part-clause-costs g t c =
+    let some = tree_size-positive c.args.node.now c.args.moves in
+    costs_memory (EntersEach c.args.self.now.rules g.S.FrontStore.blind) (tree_size bridge c.args.node.now c.args.moves) (c.args.self.now.budget.now.left + 1) c.args.self.now.budget.now.left c.from_residual.result c.from_residual.ensures.1 (omega arith) (omega arith)
+
+pub in_made-returns-in_err-found-clause-costs : goal.in_made-returns-in_err-found-clause-costs
+in_made-returns-in_err-found-clause-costs g t c =
+    costs_of_part (EntersEach c.args.self.now.rules g.S.FrontStore.blind) (λ each. c.requires.limit.1 each.0) (tree_size bridge c.in_ok-part.part.node c.args.moves) (tree_size bridge c.args.node.now c.args.moves) c.in_ok-part.ensures.size (c.args.self.now.budget.now.left + 1) c.by_cards.new.self.budget.now.left
+    c.from_residual-in_err-found.result c.in_err-found.field-0.0 c.in_err-found.ensures.costs c.from_residual-in_err-found.ensures.1
+
+pub in_made-fill-requires : goal.in_made-fill-requires
+in_made-fill-requires g t c = c.in_ok-part.ensures.exact c.args.self.now.rules c.in_ok-found.found c.in_ok-found.ensures.answer
+
+pub in_made-returns-in_err-fill-clause-costs : goal.in_made-returns-in_err-fill-clause-costs
+in_made-returns-in_err-fill-clause-costs g t c =
+    let costs = c.in_ok-found.ensures.costs in
+    costs_memory (EntersEach c.args.self.now.rules g.S.FrontStore.blind) (tree_size bridge c.args.node.now c.args.moves) (c.args.self.now.budget.now.left + 1) c.by_cards.new.self.budget.now.left c.from_residual-in_err-fill.result c.from_residual-in_err-fill.ensures.1 costs.never_rises (omega (arith, costs.falls, c.in_ok-part.ensures.size))
+
+pub in_made-returns-clause-answer : goal.in_made-returns-clause-answer
+in_made-returns-clause-answer g t c = c.in_ok-part.ensures.answer c.args.self.now.rules c.in_ok-found.found c.in_ok-fill.field-0 c.in_ok-found.ensures.answer c.in_ok-fill.ensures
+
+pub in_made-returns-clause-costs : goal.in_made-returns-clause-costs
+in_made-returns-clause-costs g t c =
+    costs_by_part (EntersEach c.args.self.now.rules g.S.FrontStore.blind) (λ each. c.requires.limit.1 each.0) (tree_size bridge c.in_ok-part.part.node c.args.moves) (tree_size bridge c.args.node.now c.args.moves) c.in_ok-part.ensures.size (c.args.self.now.budget.now.left + 1) c.by_cards.new.self.budget.now.left c.in_ok-found.found c.in_ok-fill.field-0 c.in_ok-found.ensures.costs
 
 -- ---- a node
 

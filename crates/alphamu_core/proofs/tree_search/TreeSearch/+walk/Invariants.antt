@@ -9,19 +9,22 @@ use Rattle.alphamu_core.proofs.tree_search.TreeSearch.+walk.Given as goal
 
 -- each card is one fewer to play
 abbrev pub decreases-visit : goal.decreases-visit
-decreases-visit g l = 4 * cards_left l.node.position + 3
+decreases-visit g l = 5 * cards_left l.node.position + 4
 
 abbrev pub decreases-open : goal.decreases-open
-decreases-open g l = 4 * cards_left l.node.position + 2
+decreases-open g l = 5 * cards_left l.node.position + 3
+
+abbrev pub decreases-in_made : goal.decreases-in_made
+decreases-in_made g l = 5 * cards_left l.node.now.position + 2
 
 abbrev pub decreases-by_cards : goal.decreases-by_cards
-decreases-by_cards g l = 4 * cards_left l.node.now.position + 1
+decreases-by_cards g l = 5 * cards_left l.node.now.position + 1
 
 abbrev pub decreases-at_declarer : goal.decreases-at_declarer
-decreases-at_declarer g l = 4 * cards_left l.node.now.position
+decreases-at_declarer g l = 5 * cards_left l.node.now.position
 
 abbrev pub decreases-at_defender : goal.decreases-at_defender
-decreases-at_defender g l = 4 * cards_left l.node.now.position
+decreases-at_defender g l = 5 * cards_left l.node.now.position
 
 abbrev pub invariant-at_declarer-cards : goal.invariant-at_declarer-cards
 invariant-at_declarer-cards g l = record {
