@@ -6,8 +6,6 @@
 #[cfg(test)]
 mod endings;
 #[cfg(test)]
-mod logs;
-#[cfg(test)]
 mod made;
 #[cfg(test)]
 mod reading;

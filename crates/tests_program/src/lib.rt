@@ -9,6 +9,8 @@ mod failures;
 #[cfg(test)]
 mod matches;
 #[cfg(test)]
+mod outside;
+#[cfg(test)]
 mod queen;
 #[cfg(test)]
 mod workers;
