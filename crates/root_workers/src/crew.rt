@@ -85,6 +85,8 @@ impl<R, G: Gate, F: Fn(&R, &Round, &G, &mut [RootWorker], &mut Pass) -> Searched
 
 /// What the workers find together: nothing, if there is no work for two. No more workers begin than
 /// there are cards for them.
+///
+/// `threads` says again what the bounds say: a function that is handed over doesn't keep them.
 pub fn searched_in_threads<R: Threads + Sync, G: Gate>(
     rt: &R,
     round: &Round,

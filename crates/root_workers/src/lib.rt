@@ -21,7 +21,7 @@ mod shared_cards;
 mod worker_results;
 mod workers;
 
-pub use crew::{Alone, InThreads, RootCrew, searched_in_threads};
+pub use crew::{Alone, RootCrew};
 pub use question::Question;
 pub use reports::{CardReport, Outcome, Stored};
 pub use root::{
