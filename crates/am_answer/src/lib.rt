@@ -9,8 +9,6 @@ mod root;
 mod status;
 
 pub use inputs::{GameFiles, Inputs};
-pub use refusals::{
-    board_status, layout_status, log_status, make_status, report_status, root_status, syntax_status,
-};
+pub use refusals::root_status;
 pub use root::Root;
 pub use status::{FileWord, PbnKind, Place, Status};

@@ -1,4 +1,4 @@
-//! The status of each fault that a reader, a search or a maker of layouts answers.
+//! What `?` makes of each fault that a reader, a search or a maker of layouts answers: its status.
 ghost use Rattle.std.specs.Prelude.{◌≡◌};
 ghost use Rattle.am_answer.specs.Refusals.{syntax_status, board_status, layout_status, root_status};
 ghost use Rattle.am_answer.specs.Refusals.{report_status, make_status, log_status};
@@ -13,32 +13,38 @@ use pbn_deal::BoardRefusal;
 use pbn_text::TextFault;
 
 /// The status of a text that gives no games.
-pub fn syntax_status(fault: TextFault) -> Status
-    ensures { result ≡ syntax_status fault }
-{
-    match fault {
-        TextFault::Syntax { line, kind } => Status::BadPbn(line, PbnKind::Syntax(kind)),
-        TextFault::Memory => Status::Memory,
+impl From<TextFault> for Status {
+    ghost from_gives = { λ fault status. status ≡ syntax_status fault };
+
+    fn from(fault: TextFault) -> Self {
+        match fault {
+            TextFault::Syntax { line, kind } => Status::BadPbn(line, PbnKind::Syntax(kind)),
+            TextFault::Memory => Status::Memory,
+        }
     }
 }
 
 /// The status of a game that is no board.
-pub fn board_status(refusal: BoardRefusal) -> Status
-    ensures { result ≡ board_status refusal }
-{
-    match refusal {
-        BoardRefusal::Fault { line, kind } => Status::BadPbn(line, PbnKind::Board(kind)),
-        BoardRefusal::Memory => Status::Memory,
+impl From<BoardRefusal> for Status {
+    ghost from_gives = { λ refusal status. status ≡ board_status refusal };
+
+    fn from(refusal: BoardRefusal) -> Self {
+        match refusal {
+            BoardRefusal::Fault { line, kind } => Status::BadPbn(line, PbnKind::Board(kind)),
+            BoardRefusal::Memory => Status::Memory,
+        }
     }
 }
 
 /// The status of a layout file that isn't taken.
-pub fn layout_status(fault: LayoutFault) -> Status
-    ensures { result ≡ layout_status fault }
-{
-    match fault {
-        LayoutFault::Memory => Status::Memory,
-        other => Status::BadLayouts(other),
+impl From<LayoutFault> for Status {
+    ghost from_gives = { λ fault status. status ≡ layout_status fault };
+
+    fn from(fault: LayoutFault) -> Self {
+        match fault {
+            LayoutFault::Memory => Status::Memory,
+            other => Status::BadLayouts(other),
+        }
     }
 }
 
@@ -52,32 +58,46 @@ pub fn root_status(fault: RootFault) -> Status
     }
 }
 
+impl From<RootFault> for Status {
+    ghost from_gives = { λ fault status. status ≡ root_status fault };
+
+    fn from(fault: RootFault) -> Self {
+        root_status(fault)
+    }
+}
+
 /// The status of a report that isn't read.
-pub fn report_status(fault: ReportFault) -> Status
-    ensures { result ≡ report_status fault }
-{
-    match fault {
-        ReportFault::Fault { line, kind } => Status::BadReport(line, kind),
-        ReportFault::Memory => Status::Memory,
+impl From<ReportFault> for Status {
+    ghost from_gives = { λ fault status. status ≡ report_status fault };
+
+    fn from(fault: ReportFault) -> Self {
+        match fault {
+            ReportFault::Fault { line, kind } => Status::BadReport(line, kind),
+            ReportFault::Memory => Status::Memory,
+        }
     }
 }
 
 /// The status of a log that isn't read.
-pub fn log_status(fault: LogFault) -> Status
-    ensures { result ≡ log_status fault }
-{
-    match fault {
-        LogFault::Line(line) => Status::BadLog(line),
-        LogFault::Memory => Status::Memory,
+impl From<LogFault> for Status {
+    ghost from_gives = { λ fault status. status ≡ log_status fault };
+
+    fn from(fault: LogFault) -> Self {
+        match fault {
+            LogFault::Line(line) => Status::BadLog(line),
+            LogFault::Memory => Status::Memory,
+        }
     }
 }
 
 /// The status of a board whose layouts aren't listed.
-pub fn make_status(fault: MakeFault) -> Status
-    ensures { result ≡ make_status fault }
-{
-    match fault {
-        MakeFault::Memory => Status::Memory,
-        other => Status::BadMake(other),
+impl From<MakeFault> for Status {
+    ghost from_gives = { λ fault status. status ≡ make_status fault };
+
+    fn from(fault: MakeFault) -> Self {
+        match fault {
+            MakeFault::Memory => Status::Memory,
+            other => Status::BadMake(other),
+        }
     }
 }

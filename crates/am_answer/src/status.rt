@@ -69,7 +69,7 @@ pub enum Status {
     Spent(Card),
     /// Writing the output failed.
     Unwritten,
-    /// Memory was refused.
+    /// An allocation failed.
     Memory,
     /// The file has more bytes than its limit: 1,048,576, and 16,777,216 for a report or a
     /// log.
