@@ -1,5 +1,6 @@
 -- A report whose vectors are written with their plans.
-use Rattle.std.proofs.Common.{◌≡◌, ◌∙◌, ◌+◌, ◌<◌, ◌++◌, ℕ, List, [], ◌∷◌, length, take, get_or, refl, sym, ap, ap₂, append_assoc}
+use Rattle.std.proofs.Common.{◌≡◌, ◌∙◌, ◌+◌, ◌<◌, ◌++◌, ℕ, Result, Ok, Err, List, [], ◌∷◌, length, take, get_or, refl, sym, ap, ap₂, append_assoc}
+use Rattle.std.specs.Prelude.{IfOk}
 use Rattle.std.specs.List.{flat_map}
 use Rattle.std.proofs.lemmas.Grind.{flat_map-append}
 use Rattle.std.proofs.lemmas.List.{append-nil, length-map}
@@ -87,3 +88,8 @@ report-of opened root same w moves start lines end text is started written ended
     report-is root moves w text is
     (whole ∙ ap₂ (λ (front back : List ℕ). front ++ back) (ap₂ (λ (front back : List ℕ). front ++ back) started written)
     (ended ∙ ap (λ (r : Root). solve_end r.kept.weights w.card w.weight) same))
+
+-- what holds whatever is found
+pub ok_whatever : {A E P : Type 0} (result : Result A E) → P → IfOk result (λ _. P)
+ok_whatever (Ok a) holds = holds
+ok_whatever (Err e) holds = tt

@@ -1,9 +1,9 @@
 //! Vectors of a front with their plans.
-ghost use Rattle.std.specs.Prelude.{◌≡◌, ◌≤◌, ℕ, true, All, IfOk, IsErrOf};
+ghost use Rattle.std.specs.Prelude.{◌≡◌, ◌≤◌, true, All, IfOk};
 ghost use Rattle.trick_rules.specs.Nodes.{most_moves};
 ghost use Rattle.strategy_tree.specs.Bridge.{bridge};
 ghost use Rattle.plan_finder.specs.Targets.{IsOfFront};
-ghost use Rattle.strategy_tree.specs.RootTrees.{IsSpentAt};
+ghost use Rattle.root_workers.specs.Questions.{NamesSpent};
 ghost use Rattle.root_workers.specs.Rounds.{HasSeenMore};
 ghost use Rattle.shared_table.specs.Passes.{IsPassOf};
 ghost use Rattle.root_answers.specs.Planned.{ArePlanned};
@@ -15,7 +15,6 @@ use front_table::{FrontStore, NoStore};
 use plan_finder::plan_for;
 use root_workers::Question;
 use shared_table::{Pass, SharedStore};
-use wide_store::WideStore;
 use win_vectors::WinVector;
 
 // Each vector with the plan for it, in order. What the plans have in common is found once, if the
@@ -32,8 +31,7 @@ fn planned<S: FrontStore>(
         vectors.now }
     ensures planned { IfOk result (λ entries. ArePlanned question.now.node.now question.now.moves
         vectors.now entries.items) }
-    ensures spent { (card : ℕ) → IsErrOf result (RootFault.Spent card) → IsSpentAt
-        question.now.node.now question.now.moves question.now.options.now.nodes card }
+    ensures spent { NamesSpent question.now result }
     ensures grown { S.grown store.old store.new }
 {
     let mut solver = Solver::new(question.alloc);
@@ -58,8 +56,7 @@ fn planned<S: FrontStore>(
 }
 
 /// Each of these vectors of the node's front with the plan that is chosen for it, in order. The plans
-/// are found over the table, if the options say so, by a pass that ends with them, together with the
-/// fronts that are too wide for a table.
+/// are found over the table, if the options say so, by a pass that ends with them.
 ///
 /// `Spent` names a root card whose tree has more nodes than a search may enter.
 pub fn planned_over(
@@ -75,14 +72,13 @@ pub fn planned_over(
         vectors.now }
     ensures planned { IfOk result (λ entries. ArePlanned question.now.node.now question.now.moves
         vectors.now entries.items) }
-    ensures spent { (card : ℕ) → IsErrOf result (RootFault.Spent card) → IsSpentAt
-        question.now.node.now question.now.moves question.now.options.now.nodes card }
+    ensures spent { NamesSpent question.now result }
     ensures pass { IsPassOf question.now.table.now pass.new }
     ensures grown { HasSeenMore pass.old pass.new }
 {
     if question.options.table {
         let mut own = question.table.split(pass);
-        let mut store = WideStore::new(question.alloc, SharedStore::new(question.table, &mut own));
+        let mut store = SharedStore::new(question.table, &mut own);
         planned(&mut store, question, vectors)
     } else {
         planned(&mut NoStore, question, vectors)

@@ -14,4 +14,4 @@ pub use entries::planned_over;
 pub use order::reported;
 pub use report::report_text;
 pub use table::{options_of, table_of};
-pub use written::{WrittenAnswer, written_root};
+pub use written::{WrittenAnswer, written_root, written_root_with};

@@ -1,11 +1,13 @@
 //! The answer at a root, with its vectors and their plans as lines of a report.
 ghost use Rattle.std.specs.Prelude.{◌≡◌, ◌≤◌, [], ℕ, true, false, length, All, IfOk, IsErrOf};
 ghost use Rattle.trick_rules.specs.Nodes.{most_moves};
+ghost use Rattle.strategy_games.specs.Choosing.{IsBestWeight, IsNamedByWeight};
 ghost use Rattle.strategy_tree.specs.Bridge.{bridge};
+ghost use Rattle.front_table.specs.Proven.{IsFrontAt};
 ghost use Rattle.plan_finder.specs.Targets.{IsOfFront};
 ghost use Rattle.strategy_tree.specs.RootTrees.{IsSpentAt, IsFirstSpentAt, AllFit};
 ghost use Rattle.root_workers.specs.Plain.{IsPlain, HasWorkers};
-ghost use Rattle.root_workers.specs.Questions.{IsQuestion};
+ghost use Rattle.root_workers.specs.Questions.{IsQuestion, NamesSpent, NamesFirstSpent, FitsIfPlain};
 ghost use Rattle.root_workers.specs.Rounds.{HasSeenMore};
 ghost use Rattle.shared_table.specs.Passes.{IsPassOf};
 ghost use Rattle.root_answers.specs.EntryTexts.{AreEntriesWritten};
@@ -20,12 +22,11 @@ use card_sets::Card;
 use dd_solver::Solver;
 use front_table::{FrontStore, NoStore};
 use plan_finder::PlanWriter;
-use root_workers::{Options, Question, root_front};
+use root_workers::{Options, Question, RootCrew, RootFront, root_front, root_front_with};
 use shared_table::{Pass, SharedStore, SharedTable};
 use std::alloc::Global;
 use std::thread::Threads;
 use trick_rules::Node;
-use wide_store::WideStore;
 use win_vectors::{Weights, WinVector};
 
 /// The answer at a root: the lines of the front's vectors and their plans, as a report lists them,
@@ -50,8 +51,7 @@ fn written<S: FrontStore>(
         vectors.now }
     ensures lines { IfOk result (λ lines. AreEntriesWritten question.now.node.now
         question.now.weights.now question.now.moves vectors.now [] lines) }
-    ensures spent { (card : ℕ) → IsErrOf result (RootFault.Spent card) → IsSpentAt
-        question.now.node.now question.now.moves question.now.options.now.nodes card }
+    ensures spent { NamesSpent question.now result }
 {
     let mut solver = Solver::new(question.alloc);
     let mut out = PlanWriter::new(question.alloc);
@@ -73,8 +73,7 @@ fn written<S: FrontStore>(
 }
 
 // The lines of these vectors of the node's front with their plans. The plans are found over the
-// table, if the options say so, by a pass that ends with them, together with the fronts that are too
-// wide for a table.
+// table, if the options say so, by a pass that ends with them.
 fn written_over(
     question: &Question,
     pass: &mut Pass,
@@ -86,18 +85,52 @@ fn written_over(
         vectors.now }
     ensures lines { IfOk result (λ lines. AreEntriesWritten question.now.node.now
         question.now.weights.now question.now.moves vectors.now [] lines) }
-    ensures spent { (card : ℕ) → IsErrOf result (RootFault.Spent card) → IsSpentAt
-        question.now.node.now question.now.moves question.now.options.now.nodes card }
+    ensures spent { NamesSpent question.now result }
     ensures pass { IsPassOf question.now.table.now pass.new }
     ensures grown { HasSeenMore pass.old pass.new }
 {
     if question.options.table {
         let mut own = question.table.split(pass);
-        let mut store = WideStore::new(question.alloc, SharedStore::new(question.table, &mut own));
+        let mut store = SharedStore::new(question.table, &mut own);
         written(&mut store, question, vectors)
     } else {
         written(&mut NoStore, question, vectors)
     }
+}
+
+// The answer of a root, by what was found at it. Only a plan may be spent.
+fn written_by(
+    question: &Question,
+    pass: &mut Pass,
+    found: &RootFront,
+) -> Result<WrittenAnswer, RootFault>
+    requires question { IsQuestion question.now }
+    requires pass { IsPassOf question.now.table.now pass.old }
+    requires front { IsFrontAt question.now.node.now question.now.moves found.now.front }
+    requires card { IsNamedByWeight bridge question.now.weights.now question.now.node.now
+        question.now.moves found.now.card }
+    requires weight { IsBestWeight bridge question.now.weights.now question.now.node.now
+        question.now.moves found.now.weight }
+    ensures written { IfOk result (IsWrittenAnswer question.now.node.now
+        question.now.weights.now question.now.moves) }
+    ensures spent { NamesSpent question.now result }
+    ensures pass { IsPassOf question.now.table.now pass.new }
+    ensures grown { HasSeenMore pass.old pass.new }
+{
+    let vectors = reported(
+        question.alloc,
+        question.node,
+        question.moves,
+        question.weights,
+        &found.front,
+    )?;
+    let lines = written_over(question, pass, &vectors)?;
+    Ok(WrittenAnswer {
+        lines,
+        vectors: vectors.len(),
+        card: found.card,
+        weight: found.weight,
+    })
 }
 
 /// The answer of a node at which declarer's side is to play, with 1 to 26 moves: the lines of the
@@ -139,8 +172,6 @@ pub fn written_root<R: Threads + Sync, G: Gate>(
     ensures pass { IsPassOf table.now pass.new }
     ensures grown { HasSeenMore pass.old pass.new }
 {
-    let found = root_front(rt, alloc, node, moves, weights, options, table, pass, gate)?;
-    let vectors = reported(alloc, node, moves, weights, &found.front)?;
     let question = Question {
         alloc,
         node,
@@ -149,11 +180,29 @@ pub fn written_root<R: Threads + Sync, G: Gate>(
         options,
         table,
     };
-    let lines = written_over(&question, pass, &vectors)?;
-    Ok(WrittenAnswer {
-        lines,
-        vectors: vectors.len(),
-        card: found.card,
-        weight: found.weight,
-    })
+    let found = root_front(rt, alloc, node, moves, weights, options, table, pass, gate)?;
+    written_by(&question, pass, &found)
+}
+
+/// What `written_root` gives, with a crew that searches root cards beforehand.
+pub fn written_root_with<C: RootCrew<G>, G: Gate>(
+    crew: &C,
+    question: &Question,
+    pass: &mut Pass,
+    gate: &G,
+) -> Result<WrittenAnswer, RootFault>
+    requires ready { C.ready crew.now }
+    requires question { IsQuestion question.now }
+    requires workers { HasWorkers question.now.options.now }
+    requires pass { IsPassOf question.now.table.now pass.old }
+    ensures written { IfOk result (IsWrittenAnswer question.now.node.now
+        question.now.weights.now question.now.moves) }
+    ensures fits { FitsIfPlain question.now result }
+    ensures spent { NamesSpent question.now result }
+    ensures first_spent { NamesFirstSpent question.now result }
+    ensures pass { IsPassOf question.now.table.now pass.new }
+    ensures grown { HasSeenMore pass.old pass.new }
+{
+    let found = root_front_with(crew, question, pass, gate)?;
+    written_by(question, pass, &found)
 }
