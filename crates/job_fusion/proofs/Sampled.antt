@@ -15,8 +15,8 @@ sampled_wide root weighed =
     (λ k d inside. weighed ∙ sym (made_wide root (slice_index_or _ k d)))
 
 -- of a root as it is opened
-pub table_wide : (opened root : Root) (table : List CardVector) → opened ≡ root → table ≡ card_vectors opened.kept.node → length root.kept.weights ≡ length root.kept.node.lefts
+pub table_wide : (opened root : Root) (table : List CardVector) → opened ≡ root → table ≡ card_vectors root.kept.node → length root.kept.weights ≡ length root.kept.node.lefts
     → All (λ (e : CardVector). length opened.kept.weights ≡ length e.vector) table
 table_wide opened root table same is weighed =
-    subst (λ (entries : List CardVector). All (λ (e : CardVector). length opened.kept.weights ≡ length e.vector) entries) (sym is)
-    (sampled_wide opened (subst (λ (r : Root). length r.kept.weights ≡ length r.kept.node.lefts) (sym same) weighed))
+    subst (λ (r : Root). All (λ (e : CardVector). length r.kept.weights ≡ length e.vector) table) (sym same)
+    (subst (λ (entries : List CardVector). All (λ (e : CardVector). length root.kept.weights ≡ length e.vector) entries) (sym is) (sampled_wide root weighed))

@@ -5,4 +5,4 @@
 
 mod sample;
 
-pub use sample::sample_text;
+pub use sample::{sample_text, sample_text_alone};
