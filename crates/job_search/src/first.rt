@@ -12,7 +12,7 @@ ghost use Rattle.am_answer.specs.Matches.{IsFirstStrategy};
 ghost use Rattle.am_answer.specs.Stages.{IsTaskRefusal};
 
 use alphamu_core::RootFault;
-use am_answer::{Root, Status, root_status};
+use am_answer::{Root, Status};
 use am_outside::Gate;
 use am_report::Entry;
 use job_words::Search;
@@ -74,12 +74,9 @@ pub fn first_strategy<R: Threads + Sync, G: Gate>(
     let weights = &root.kept.weights;
     let options = options_of(search);
     let (table, mut pass) = table_of(alloc, search)?;
-    let found = match root_front(
+    let found = root_front(
         rt, alloc, node, moves, weights, &options, &table, &mut pass, gate,
-    ) {
-        Ok(found) => found,
-        Err(fault) => return Err(root_status(fault)),
-    };
+    )?;
     let question = Question {
         alloc,
         node,
@@ -88,8 +85,5 @@ pub fn first_strategy<R: Threads + Sync, G: Gate>(
         options: &options,
         table: &table,
     };
-    match first_entry(&question, &mut pass, &found.front) {
-        Ok(entry) => Ok(entry),
-        Err(fault) => Err(root_status(fault)),
-    }
+    Ok(first_entry(&question, &mut pass, &found.front)?)
 }

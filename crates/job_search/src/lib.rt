@@ -10,7 +10,7 @@ mod first;
 mod made;
 mod report;
 
-pub use card::name_card;
+pub use card::{name_card, name_card_with};
 pub use first::first_strategy;
 pub use made::{Made, summarize};
-pub use report::solve;
+pub use report::{solve, solve_with};

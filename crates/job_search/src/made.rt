@@ -7,7 +7,7 @@ ghost use Rattle.am_answer.specs.Reports.{made_moves};
 ghost use Rattle.am_answer.specs.Stages.{IsTaskRefusal, IsTextFor};
 
 use crate::counted::counted_front;
-use am_answer::{Root, Status, root_status};
+use am_answer::{Root, Status};
 use am_outside::Gate;
 use am_report::{MadeSummary, made_text};
 use byte_text::Text;
@@ -57,17 +57,13 @@ pub fn summarize<R: Threads + Sync, G: Gate>(
         options: &options,
         table: &table,
     };
-    match counted_front(rt, &question, &mut pass, gate) {
-        Ok(found) => {
-            let summary = MadeSummary {
-                number: job.number,
-                layouts: width,
-                front: found.front.len() as u64,
-                best: found.count,
-                card: found.card,
-            };
-            Ok(made_text(alloc, &summary)?)
-        }
-        Err(fault) => Err(root_status(fault)),
-    }
+    let found = counted_front(rt, &question, &mut pass, gate)?;
+    let summary = MadeSummary {
+        number: job.number,
+        layouts: width,
+        front: found.front.len() as u64,
+        best: found.count,
+        card: found.card,
+    };
+    Ok(made_text(alloc, &summary)?)
 }

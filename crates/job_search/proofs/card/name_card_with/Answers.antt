@@ -1,22 +1,20 @@
-use Rattle.std.proofs.Common.{Err, ap, ◌∙◌}
+use Rattle.std.proofs.Common.{Err, ap}
 use Rattle.am_answer.specs.Tasks.{Card}
 use Rattle.job_search.proofs.Answered.{card-text}
-use Rattle.job_search.proofs.Spent.{workers_as, spent_task, spent_by, spent_as, first_as, fits_as}
-use Rattle.job_search.proofs.card.name_card.Goals as goal
+use Rattle.job_search.proofs.Spent.{workers_as, refused_first, fits_as}
+use Rattle.job_search.proofs.card.name_card_with.Goals as goal
 
-pub root_card-requires-clause-workers : goal.root_card-requires-clause-workers
-root_card-requires-clause-workers g c = λ κs outlives. workers_as c.options_of-options.result c.args.search.now c.options_of-options.ensures c.requires.limits
+pub root_card_with-requires-clause-workers : goal.root_card_with-requires-clause-workers
+root_card_with-requires-clause-workers g c = λ κs outlives. workers_as c.options_of-options.result c.args.search.now c.options_of-options.ensures c.requires.limits
 
-pub returns-in-Ok-clause-text : goal.returns-in-Ok-clause-text
-returns-in-Ok-clause-text g c =
-    let found = c.in-Ok.found in
-    card-text _ c.args.root.now c.args.moves c.args.search.now found.card found.weight c.in_ok-card_text-in-Ok.field-0 c.root.view_is (fits_as _ c.args.root.now c.root.view_is c.options_of-options.result c.args.search.now c.options_of-options.ensures c.args.moves c.in-Ok.ensures.fits) c.in-Ok.ensures.card c.in-Ok.ensures.weight
-    c.in_ok-card_text-in-Ok.ensures
+pub returns-in_err-found-clause-refused : goal.returns-in_err-found-clause-refused
+returns-in_err-found-clause-refused g c =
+    refused_first _ c.args.root.now c.root.view_is c.options_of-options.result c.args.search.now c.options_of-options.ensures c.args.moves (Card c.args.root.now c.args.moves c.args.search.now)
+    c.from_residual-in_err-found.result c.in_err-found.field-0.0 (λ card is. is) c.from_residual-in_err-found.ensures.1
+    (λ card is. c.in_err-found.ensures.spent card (ap Err is)) (λ card is plain. c.in_err-found.ensures.first_spent plain card (ap Err is))
 
-pub returns-clause-refused : goal.returns-clause-refused
-returns-clause-refused g c =
-    rw (c.root_status.ensures)
-    (spent_task (Card c.args.root.now c.args.moves c.args.search.now) c.in-Err.fault
-    (λ card is. spent_by c.args.root.now.kept.node c.args.moves c.args.search.now card
-    (spent_as _ c.args.root.now c.root.view_is c.options_of-options.result c.args.search.now c.options_of-options.ensures c.args.moves card (c.root_card.ensures.spent card (c.in-Err.is ∙ ap Err is)))
-    (first_as _ c.args.root.now c.root.view_is c.options_of-options.result c.args.search.now c.options_of-options.ensures c.args.moves card (λ plain. c.root_card.ensures.first_spent plain card (c.in-Err.is ∙ ap Err is)))))
+pub returns-clause-text : goal.returns-clause-text
+returns-clause-text g c =
+    let found = c.in_ok-found.found in
+    card-text _ c.args.root.now c.args.moves c.args.search.now found.card found.weight c.in_ok-card_text.field-0 c.root.view_is (fits_as _ c.args.root.now c.root.view_is c.options_of-options.result c.args.search.now c.options_of-options.ensures c.args.moves c.in_ok-found.ensures.fits) c.in_ok-found.ensures.card c.in_ok-found.ensures.weight
+    c.in_ok-card_text.ensures

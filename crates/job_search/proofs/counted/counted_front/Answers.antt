@@ -4,7 +4,7 @@ use Rattle.strategy_games.specs.Choosing.{IsBestCount, IsBestWeight, IsNamedByWe
 use Rattle.strategy_tree.specs.Bridge.{bridge}
 use Rattle.alphamu_core.specs.declared.answers.RootFault.TheVariants.{Spent}
 use Rattle.job_search.proofs.Counts.{count_is, count_small, card_is}
-use Rattle.job_search.proofs.Spent.{passed_on}
+use Rattle.am_answer.proofs.Passed.{passed_on}
 use Rattle.job_search.proofs.counted.counted_front.Goals as goal
 
 pub root_front-requires-clause-weights : goal.root_front-requires-clause-weights

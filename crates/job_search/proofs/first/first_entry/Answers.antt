@@ -5,7 +5,7 @@ use Rattle.win_vectors.specs.Fronts.{Vector}
 use Rattle.plan_finder.specs.Targets.{IsOfFront}
 use Rattle.root_answers.proofs.ReportedFronts.{reported_filled, targets}
 use Rattle.job_search.proofs.Firsts.{first_one, one_planned}
-use Rattle.job_search.proofs.Spent.{passed_on}
+use Rattle.am_answer.proofs.Passed.{passed_on}
 use Rattle.job_search.proofs.first.first_entry.Goals as goal
 
 pub slice_bounds-planned_over-end : goal.slice_bounds-planned_over-end
