@@ -1,0 +1,39 @@
+-- Phrases and branches, one after another.
+use Rattle.std.proofs.Common.{◌≡◌, ◌∙◌, ◌<◌, ◌+◌, ◌++◌, Bool, false, cond, ℕ, suc, List, [], ◌∷◌, drop, length, get_or, refl, sym, ap, ap₂, append_assoc, arith}
+use Rattle.std.proofs.Math.Seq.{drop-cons}
+use Rattle.card_sets.specs.declared.seat.Compass.{Compass}
+use Rattle.trick_rules.specs.Nodes.{NodeValue}
+use Rattle.told_plans.specs.Told.{ToldHear}
+use Rattle.told_plans.specs.declared.told.Branch.{Branch}
+use Rattle.told_plans.specs.ToldMeaning.{branches_of}
+use Rattle.told_words.specs.declared.phrases.Turn.{Turn}
+use Rattle.told_words.specs.declared.words.Line.{Line}
+use Rattle.told_words.specs.Turns.{played_so}
+use Rattle.told_words.specs.Phrases.{next_phrase, has_begun, phrases}
+use Rattle.told_words.specs.Words.{is_one, one_text, line_end, further_in, branch_lines, steps_text}
+
+-- one turn more
+pub turn_more : (declarer : Compass) (cards : List ℕ) (places : List NodeValue) (begun begun_now : Bool) (turns : List Turn) (i : ℕ) (turn : Turn) (out now whole own : List ℕ)
+    → i < length turns → turn ≡ get_or turns i turn → own ≡ played_so turn.seat turn.manner cards places → now ≡ out ++ next_phrase declarer turn own begun → begun_now ≡ has_begun own begun
+    → out ++ phrases declarer cards places begun (drop i turns) ≡ whole → now ++ phrases declarer cards places begun_now (drop (i + 1) turns) ≡ whole
+turn_more declarer cards places begun begun_now turns i turn out now whole own low is is_own written begins so_far =
+    let rest = drop (i + 1) turns in
+    let next : drop i turns ≡ turn ∷ rest = drop-cons turns i turn low ∙ ap (λ x. x ∷ drop (suc i) turns) (sym is) ∙ ap (λ j. turn ∷ drop j turns) one_more in
+    ap₂ (λ (text : List ℕ) (b : Bool). text ++ phrases declarer cards places b rest) written begins
+    ∙ append_assoc out (next_phrase declarer turn own begun) (phrases declarer cards places (has_begun own begun) rest)
+    ∙ ap (λ o. out ++ (next_phrase declarer turn o begun ++ phrases declarer cards places (has_begun o begun) rest)) is_own
+    ∙ ap (λ ts. out ++ phrases declarer cards places begun ts) (sym next)
+    ∙ so_far
+  where
+    one_more : suc i ≡ i + 1
+    one_more = omega arith
+
+-- several branches, or none
+not_one : (bs : List Branch) → (length bs ≡ 1 → ⊥) → is_one (branches_of bs) ≡ false
+not_one [] other = refl
+not_one (b ∷ []) other = absurd (other refl)
+not_one (b ∷ d ∷ bs) other = refl
+
+pub several_lines : (bs : List Branch) (line : Line) (places : List NodeValue) → (length bs ≡ 1 → ⊥) → steps_text (ToldHear (branches_of bs)) line places ≡ line_end line ++ branch_lines (branches_of bs) (further_in line) places
+several_lines bs line places other =
+    ap (λ (b : Bool). cond b (one_text (branches_of bs) line places) (line_end line ++ branch_lines (branches_of bs) (further_in line) places)) (not_one bs other)

@@ -1,0 +1,26 @@
+use Rattle.std.proofs.Common.{◌≡◌, ◌≤◌, ◌++◌, ◌+◌, ◌*◌, drop}
+use Rattle.told_plans.specs.ToldMeaning.{told_of, branches_of}
+use Rattle.told_words.specs.Words.{branch_lines}
+use Rattle.told_words.proofs.Sizes.{size, sizes}
+use Rattle.told_words.proofs.words.+steps.Given as goal
+
+abbrev pub decreases-push_steps : goal.decreases-push_steps
+decreases-push_steps l = 4 * size (told_of l.told.now)
+
+abbrev pub decreases-push_move : goal.decreases-push_move
+decreases-push_move l = 4 * size (told_of l.told.now) + 2
+
+abbrev pub decreases-push_next : goal.decreases-push_next
+decreases-push_next l = 4 * size (told_of l.told.now) + 1
+
+abbrev pub decreases-push_hear : goal.decreases-push_hear
+decreases-push_hear l = 4 * sizes (branches_of l.branches.now) + 3
+
+abbrev pub decreases-push_branches : goal.decreases-push_branches
+decreases-push_branches l = 4 * sizes (branches_of l.branches.now) + 2
+
+abbrev pub invariant-push_branches-loop-branch : goal.invariant-push_branches-loop-branch
+invariant-push_branches-loop-branch l = record {
+  so_far : l.out ++ branch_lines (branches_of (drop l.branch-index l.branches)) l.line l.places ≡ l.initial.out ++ branch_lines (branches_of l.branches) l.line l.places;
+  fewer : sizes (branches_of (drop l.branch-index l.branches)) ≤ sizes (branches_of l.branches);
+}
