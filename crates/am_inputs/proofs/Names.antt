@@ -1,5 +1,5 @@
 -- The names that the words give files, and the counts of faults at them.
-use Rattle.std.proofs.Common.{◌≡◌, ◌≤◌, ℕ, Bool, true, false, List, [], ◌∷◌, length, Option, Some, None, Result, Ok, Err, IsErrAnd, IsErrOf, inl, inr, refl, sym, subst, ◌∙◌, arith}
+use Rattle.std.proofs.Common.{◌≡◌, ◌≤◌, ℕ, Bool, true, false, List, [], ◌∷◌, length, Option, Some, None, Result, Ok, Err, inl, inr, refl, sym, subst, arith}
 use Rattle.std.specs.Prelude.{IsSomeAnd, IsOkAnd, IfSome, nat_le, if◌then◌else◌}
 use Rattle.std.proofs.lemmas.Bool.Decides.{nat_tests}
 use Rattle.am_outside.specs.Faults.{Rose}
@@ -26,11 +26,6 @@ neither_named Fusion = (refl, refl)
 neither_named (Check report) = (refl, refl)
 neither_named (Prove moves nodes) = (refl, refl)
 neither_named (Audit report log) = (refl, refl)
-
--- the error that `?` passes on
-pub passed_on : {T E : Type 0} (result : Result T E) (fault named : E) → IsErrAnd result (λ e. e ≡ fault) → IsErrOf result named → fault ≡ named
-passed_on (Ok x) fault named is e = absurd is
-passed_on (Err e) fault named is same = sym is ∙ (let inner : e ≡ named = cc in inner)
 
 -- a count that rose since later rose since earlier
 pub rose_since : (before between now : ℕ) → before ≤ between → Rose between now → Rose before now

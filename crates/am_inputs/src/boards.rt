@@ -10,7 +10,7 @@ ghost use Rattle.am_answer.specs.Stages.{IsFileRefusal, IsOfFiles, IsReadRefusal
 
 use crate::inputs::read_file;
 use crate::root::root_on;
-use am_answer::{FileWord, GameFiles, PbnKind, Root, Status, board_status, syntax_status};
+use am_answer::{FileWord, GameFiles, PbnKind, Root, Status};
 use am_outside::Shelf;
 use byte_text::Text;
 use pbn_deal::read_board;
@@ -31,10 +31,7 @@ fn read_games(alloc: Global, deal: &Text) -> Result<Vec<Game>, Status>
     ensures not_read { IfErr result (IsReadRefusal (games_of deal.now)) }
     ensures only { IfErr result IsOfFiles }
 {
-    let games = match games(alloc, deal.bytes()) {
-        Ok(games) => games,
-        Err(fault) => return Err(syntax_status(fault)),
-    };
+    let games = games(alloc, deal.bytes())?;
     let count = games.len();
     if count == 0 {
         Err(Status::BadPbn(1, PbnKind::NoGame))
@@ -123,10 +120,8 @@ fn read_game(alloc: Global, game: &Game, layouts: &Text) -> Result<Root, Status>
     ensures is_root { IfOk result IsRoot }
     ensures refused { IfErr result (IsFileRefusal (game_root game.now layouts.now)) }
 {
-    match read_board(alloc, game) {
-        Ok(board) => root_on(alloc, board, layouts),
-        Err(refusal) => Err(board_status(refusal)),
-    }
+    let board = read_board(alloc, game)?;
+    root_on(alloc, board, layouts)
 }
 
 // The same, with a refusal for a failed allocation set apart.

@@ -3,7 +3,7 @@ ghost use Rattle.std.specs.Prelude.{◌≡◌, ◌<◌, ◌-◌, ◌^◌, Ok, tr
 ghost use Rattle.am_answer.specs.Answers.{board_in, kept_in, has_choice, root_in, root_on, IsRoot};
 ghost use Rattle.am_answer.specs.Stages.{IsFileRefusal};
 
-use am_answer::{PbnKind, Root, Status, board_status, layout_status, syntax_status};
+use am_answer::{PbnKind, Root, Status};
 use byte_text::Text;
 use layout_list::{Kept, layouts};
 use pbn_deal::{Board, read_board};
@@ -18,17 +18,11 @@ pub fn read_deal(alloc: Global, deal: &Text) -> Result<Board, Status>
     ensures board { IfOk result (λ board. board_in deal.now ≡ Ok board) }
     ensures refused { IfErr result (IsFileRefusal (board_in deal.now)) }
 {
-    let games = match games(alloc, deal.bytes()) {
-        Ok(games) => games,
-        Err(fault) => return Err(syntax_status(fault)),
-    };
+    let games = games(alloc, deal.bytes())?;
     let Some(game) = games.first() else {
         return Err(Status::BadPbn(1, PbnKind::NoGame));
     };
-    match read_board(alloc, game) {
-        Ok(board) => Ok(board),
-        Err(refusal) => Err(board_status(refusal)),
-    }
+    Ok(read_board(alloc, game)?)
 }
 
 // The layouts of a file that the play of a board allows.
@@ -40,10 +34,7 @@ fn read_layouts(alloc: Global, file: &Text, board: &Board) -> Result<Kept, Statu
     ensures weighed { IfOk result (λ kept. length kept.weights ≡ length kept.node.lefts) }
     ensures refused { IfErr result (IsFileRefusal (kept_in file.now board.now)) }
 {
-    match layouts(alloc, file.bytes(), board) {
-        Ok(kept) => Ok(kept),
-        Err(fault) => Err(layout_status(fault)),
-    }
+    Ok(layouts(alloc, file.bytes(), board)?)
 }
 
 // Whether the play goes on and declarer's side is to play.

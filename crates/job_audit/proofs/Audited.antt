@@ -1,5 +1,5 @@
 -- What a report and a log lead to, from their texts on.
-use Rattle.std.proofs.Common.{◌≡◌, ◌∙◌, ℕ, Bool, true, false, List, Option, Some, None, Result, Ok, Err, IfErr, IsErrAnd, length, refl, sym, ap, subst}
+use Rattle.std.proofs.Common.{◌≡◌, ◌∙◌, ℕ, Bool, true, false, List, Option, Some, None, Result, Ok, Err, length, refl, sym, ap, subst}
 use Rattle.std.specs.Prelude.{bytes_eq}
 use Rattle.win_vectors.specs.Fronts.{Vector}
 use Rattle.log_check.specs.declared.lines.LogLine.{LogLine}
@@ -23,11 +23,6 @@ use Rattle.am_answer.specs.Auditing.{AuditValue, vectors_of, first_other_width, 
 use Rattle.am_answer.specs.Refusals.{report_status, log_status}
 use Rattle.am_answer.specs.Stages.{IsFileRefusal, IsTaskRefusal, IsTextFor}
 use Rattle.byte_text.specs.Steps.{◌>>=◌}
-
--- the error that `?` passes on
-pub passed_on : {T : Type 0} (P : Status → Type 0) (result : Result T Status) (status : Status) → IsErrAnd result (λ e. e ≡ status) → P status → IfErr result P
-passed_on P (Ok x) status is holds = tt
-passed_on P (Err e) status is holds = subst P (sym is) holds
 
 -- a verdict at a root as it is opened is one at the root as it is
 pub verdict_as : (opened root : Root) → opened ≡ root → (moves : ℕ) (slice vectors : List Vector) → slice ≡ vectors → (lines : List LogLine) (found named : LogVerdict) → found ≡ named

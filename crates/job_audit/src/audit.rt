@@ -7,7 +7,7 @@ ghost use Rattle.am_answer.specs.Tasks.{Audit};
 ghost use Rattle.am_answer.specs.Auditing.{first_other_width, audit_of, audit_in};
 ghost use Rattle.am_answer.specs.Stages.{IsFileRefusal, IsTaskRefusal, IsTextFor};
 
-use am_answer::{Place, Root, Status, log_status, report_status};
+use am_answer::{Place, Root, Status};
 use am_report::{ReadEntry, ReadReport, audit_text, read_report};
 use byte_text::Text;
 use job_check::has_head;
@@ -79,14 +79,8 @@ pub fn audit_report(alloc: Global, root: &Root, report: &Text, log: &Text) -> Re
     ensures refused { IfErr result
         (IsTaskRefusal (task_at root.now (jobs.Audit report.now log.now))) }
 {
-    let report = match read_report(alloc, report.bytes()) {
-        Ok(report) => report,
-        Err(fault) => return Err(report_status(fault)),
-    };
-    let log = match read_log(alloc, log.bytes()) {
-        Ok(log) => log,
-        Err(fault) => return Err(log_status(fault)),
-    };
+    let report = read_report(alloc, report.bytes())?;
+    let log = read_log(alloc, log.bytes())?;
     let vectors = audited_vectors(alloc, root, &report, &log)?;
     match check_log(alloc, &log, &root.kept.node, report.moves, &vectors)? {
         LogVerdict::Yes => Ok(audit_text(alloc, log.len())?),

@@ -1,5 +1,5 @@
 -- The place of a verdict, where a plan is at fault.
-use Rattle.std.proofs.Common.{◌≡◌, ◌<◌, ◌≤◌, drop, slice_index_or, ◌+◌, ◌-◌, ◌==◌, ℕ, zero, suc, Bool, true, false, not, Option, None, Some, List, [], ◌∷◌, length, take, refl, sym, ap, ◌∙◌, arith}
+use Rattle.std.proofs.Common.{◌≡◌, ◌<◌, ◌≤◌, subst, drop, slice_index_or, ◌+◌, ◌-◌, ◌==◌, ℕ, zero, suc, Bool, true, false, not, Option, None, Some, List, [], ◌∷◌, length, take, refl, sym, ap, ◌∙◌, arith}
 use Rattle.std.specs.List.{slice_get}
 use Rattle.std.proofs.lemmas.Bool.{false≢true}
 use Rattle.std.proofs.lemmas.List.{drop_more}
@@ -17,7 +17,7 @@ use Rattle.strategy_check.specs.declared.verdict.Verdict.TheVariants.{Good, NotA
 use Rattle.strategy_check.specs.Verdicts.{IsVerdict}
 use Rattle.am_answer.specs.declared.status.Place.{Place}
 use Rattle.am_answer.specs.declared.status.Place.TheVariants.{Node, Layout}
-use Rattle.am_report.specs.Answers.{ReadEntryValue}
+use Rattle.am_report.specs.Answers.{EntryValue, ReadEntryValue}
 use Rattle.am_answer.specs.Judging.{first_difference, plan_fault, entry_fault, or_later_plan, first_plan_fault}
 
 -- the same vector differs nowhere
@@ -105,3 +105,11 @@ module _ (node : NodeValue) (weights : List ℕ) (moves : ℕ) (entries : List R
   -- past the last plan
   pub first_plan_fault-end : (index : ℕ) → length entries ≤ index → first_plan_fault node weights moves (1 + index) (drop index entries) ≡ None
   first_plan_fault-end index past = ap (first_plan_fault node weights moves (1 + index)) (drop_of_length-le entries past)
+
+-- the fault of an entry as it is opened is that of the entry as it was read
+pub fault_as : (n : NodeValue) (ws : List ℕ) (moves weight : ℕ) (place : Option Place) (opened entry : EntryValue) → opened ≡ entry
+    → (read : ReadEntryValue) → record { entry = entry; weight = weight } ≡ read
+    → place ≡ entry_fault n ws moves (record { entry = opened; weight = weight }) → place ≡ entry_fault n ws moves read
+fault_as n ws moves weight place opened entry is read is_read fault =
+    subst (λ (r : ReadEntryValue). place ≡ entry_fault n ws moves r) is_read
+    (subst (λ (e : EntryValue). place ≡ entry_fault n ws moves (record { entry = e; weight = weight })) is fault)

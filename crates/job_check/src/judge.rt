@@ -8,7 +8,7 @@ ghost use Rattle.am_answer.specs.Answers.{task_at};
 ghost use Rattle.am_answer.specs.Judging.{entry_fault, first_plan_fault, judged, plans_in};
 ghost use Rattle.am_answer.specs.Stages.{IsFileRefusal, IsTextFor};
 
-use am_answer::{Place, Root, Status, report_status};
+use am_answer::{Place, Root, Status};
 use am_report::{ReadEntry, ReadReport, check_text, head_text, read_report};
 use byte_text::Text;
 use std::alloc::{AllocError, Global};
@@ -94,10 +94,8 @@ fn count_good_plans(alloc: Global, root: &Root, bytes: &[u8]) -> Result<u32, Sta
     ensures plans { IfOk result (λ plans. plans_in root.now bytes.now ≡ Ok plans) }
     ensures refused { IfErr result (IsFileRefusal (plans_in root.now bytes.now)) }
 {
-    match read_report(alloc, bytes) {
-        Ok(report) => judged(alloc, root, &report),
-        Err(fault) => Err(report_status(fault)),
-    }
+    let report = read_report(alloc, bytes)?;
+    judged(alloc, root, &report)
 }
 
 /// What `check` says of a report at a root: that each of its plans is good. It searches nothing.

@@ -4,7 +4,7 @@ ghost use Rattle.layout_maker.specs.Divisions.{layouts_made};
 ghost use Rattle.am_answer.specs.Answers.{listed_or};
 ghost use Rattle.am_answer.specs.Stages.{IsFileRefusal, IsTextFor};
 
-use am_answer::{Status, make_status};
+use am_answer::Status;
 use am_report::list_text;
 use byte_text::Text;
 use layout_maker::all_layouts;
@@ -16,8 +16,6 @@ pub fn list_layouts(alloc: Global, board: &Board) -> Result<Text, Status>
     ensures text { IfOk result (IsTextFor (listed_or board.now (layouts_made board.now))) }
     ensures refused { IfErr result (IsFileRefusal (listed_or board.now (layouts_made board.now))) }
 {
-    match all_layouts(alloc, board) {
-        Ok(layouts) => Ok(list_text(alloc, board, &layouts)?),
-        Err(fault) => Err(make_status(fault)),
-    }
+    let layouts = all_layouts(alloc, board)?;
+    Ok(list_text(alloc, board, &layouts)?)
 }

@@ -20,7 +20,7 @@ module _ (opened root : Root) (same : opened ≡ root) (moves nodes : ℕ) where
     fits = fits;
   })
 
-  -- it is too large, or memory is refused
+  -- the tree is too large, or memory ran out
   pub prove_refused : (fault : RootFault) → ((card : ℕ) → fault ≡ Spent card → IsSpentOn (Prove opened moves nodes) card) → IsTaskRefusal (Ok (Prove root moves nodes)) (root_status fault)
   prove_refused (Spent card) spent = subst (λ (r : Root). IsTaskRefusal (Ok (Prove r moves nodes)) (root_status (Spent card))) same (Prove opened moves nodes, refl, spent card refl)
   prove_refused Memory spent = tt

@@ -5,7 +5,7 @@ ghost use Rattle.am_answer.specs.Answers.{has_choice};
 ghost use Rattle.am_answer.specs.Tasks.{Prove};
 ghost use Rattle.am_answer.specs.Stages.{IsTaskRefusal, IsTextFor};
 
-use am_answer::{Root, Status, root_status};
+use am_answer::{Root, Status};
 use byte_text::Text;
 use dd_solver::Solver;
 use log_maker::log_of;
@@ -22,8 +22,5 @@ pub fn prove_front(alloc: Global, root: &Root, moves: u8, nodes: u64) -> Result<
     ensures refused { IfErr result (IsTaskRefusal (Ok (Prove root.now moves nodes))) }
 {
     let mut solver = Solver::new(alloc);
-    match log_of(alloc, &mut solver, &root.kept.node, moves, nodes) {
-        Ok(text) => Ok(text),
-        Err(fault) => Err(root_status(fault)),
-    }
+    Ok(log_of(alloc, &mut solver, &root.kept.node, moves, nodes)?)
 }

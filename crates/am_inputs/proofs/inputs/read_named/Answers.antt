@@ -1,7 +1,8 @@
 use Rattle.std.proofs.Common.{Err, ap, arith}
 use Rattle.job_words.specs.Asks.{job_of}
 use Rattle.am_answer.specs.declared.status.Status.TheVariants.{Unread}
-use Rattle.am_inputs.proofs.Names.{game_named, job_names, passed_on}
+use Rattle.am_answer.proofs.Passed.{passed_on}
+use Rattle.am_inputs.proofs.Names.{game_named, job_names}
 use Rattle.am_inputs.proofs.inputs.read_named.Goals as goal
 
 pub returns-in_err-job-in-OnLayouts-clause-unread : goal.returns-in_err-job-in-OnLayouts-clause-unread
