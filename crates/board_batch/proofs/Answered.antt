@@ -1,5 +1,5 @@
 -- Answers of problems, one by one.
-use Rattle.std.proofs.Common.{◌≡◌, ◌∙◌, ◌+◌, ◌<◌, ◌++◌, ℕ, List, [], ◌∷◌, Some, All, length, take, slice_get, get_or, inl, inr, refl, sym, ap, subst, arith, length-append}
+use Rattle.std.proofs.Common.{◌≡◌, ◌∙◌, ◌+◌, ◌<◌, ◌++◌, ℕ, List, [], ◌∷◌, Some, Result, All, length, take, slice_get, get_or, inl, inr, refl, sym, ap, subst, arith, length-append}
 use Rattle.std.proofs.lemmas.Option.{slice_get_within, slice_get_read, get_or_from_slice_get}
 use Rattle.std.proofs.lemmas.List.{take_more, length-take-le}
 use Rattle.std.proofs.lemmas.List.Elements.{All-nil, All-push, All-get_or}
@@ -7,12 +7,29 @@ use Rattle.root_answers.specs.declared.written.WrittenAnswer.{WrittenAnswer}
 use Rattle.root_answers.specs.Written.{IsWrittenAnswer}
 use Rattle.strategy_tree.specs.RootTrees.{IsFirstSpentAt, AllFit}
 use Rattle.root_workers.proofs.Founds.{get_push}
+use Rattle.std.specs.Borrow.{Bor, MutBor}
+use Rattle.alphamu_core.specs.declared.answers.RootFault.{RootFault}
+use Rattle.root_workers.specs.Rounds.{HasSeenMore}
+use Rattle.shared_table.specs.declared.Pass.{Pass}
+use Rattle.shared_table.specs.Passes.{IsPassOf}
+use Rattle.board_batch.specs.declared.batch.Batch.{Batch}
 use Rattle.board_batch.specs.declared.batch.Problem.{Problem}
-use Rattle.board_batch.specs.Problems.{AreAnswers, AllProblemsFit, IsFirstSpentIn}
+use Rattle.board_batch.specs.Batches.{IsBatch, IsOutcomeAt, Solves}
+use Rattle.board_batch.specs.Problems.{IsProblem, AreAnswers, AllProblemsFit, IsFirstSpentIn}
 
 -- the element at a place is one of which all is said
 pub all_here : {X : Type 0} (P : X → Type 0) (xs : List X) (place : ℕ) (x : X) → All P xs → slice_get xs place ≡ Some x → P x
 all_here P xs place x all here = subst P (get_or_from_slice_get xs place x x here) (All-get_or P xs place x (slice_get_within xs place x here) all)
+
+-- what a worker gives that solves the problem at a place
+pub solved_at : {can : ℕ → Bor Problem → MutBor Pass → Type 0} {gives : ℕ → Bor Problem → MutBor Pass → Result WrittenAnswer RootFault → MutBor Pass → Type 0}
+    (b : Batch) (worker place : ℕ) (problem : Bor Problem) (pass late : MutBor Pass) (outcome : Result WrittenAnswer RootFault)
+    → IsBatch b × Solves b can gives → IsPassOf b.table.now pass.now → place < length b.problems.now → problem.now ≡ get_or b.problems.now place problem.now
+    → gives worker problem pass outcome late → IsOutcomeAt b place outcome × IsPassOf b.table.now late.now × HasSeenMore pass.now late.now
+solved_at b worker place problem pass late outcome sound of within is given =
+    let here = slice_get_read b.problems.now (length b.problems.now) place problem.now refl within is in
+    let solved = (sound.1 worker problem pass (all_here IsProblem b.problems.now place problem.now sound.0.problems here) of).1 outcome late given in
+    (record { problem = problem.now; here = here; outcome_is = solved.0 }, solved.1)
 
 -- an element more
 next_taken : {X : Type 0} (xs : List X) (i : ℕ) (x : X) → i < length xs → x ≡ get_or xs i x → take (i + 1) xs ≡ take i xs ++ x ∷ []

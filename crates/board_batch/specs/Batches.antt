@@ -1,4 +1,4 @@
--- What a batch asks, and what a worker may know of a problem.
+-- What a batch asks, and what a worker may find of a problem.
 use Rattle.std.specs.Prelude.{◌≡◌, ◌≤◌, ⊤, ℕ, Some, Result, Ok, Err, All, slice_get}
 use Rattle.std.specs.Borrow.{Bor, MutBor}
 use Rattle.trick_rules.specs.Nodes.{most_moves}
@@ -33,19 +33,19 @@ IsSpentOf b p card = IsSpentAt p.node.now b.moves b.options.nodes card
     × (IsPlain b.options → IsFirstSpentAt p.node.now b.moves b.options.nodes card)
 
 -- what the search of a problem may end with, whoever makes it
-abbrev pub IsKnown : Batch → Problem → Result WrittenAnswer RootFault → Type 0
-IsKnown b p (Ok answer) = IsSolved b p answer
-IsKnown b p (Err (Spent card)) = IsSpentOf b p card
-IsKnown b p (Err Memory) = ⊤
+abbrev pub IsOutcome : Batch → Problem → Result WrittenAnswer RootFault → Type 0
+IsOutcome b p (Ok answer) = IsSolved b p answer
+IsOutcome b p (Err (Spent card)) = IsSpentOf b p card
+IsOutcome b p (Err Memory) = ⊤
 
--- what is known of the problem at a place, counted from 0
-pub record IsKnownAt (b : Batch) (place : ℕ) (known : Result WrittenAnswer RootFault) : Type 0 where
+-- the same of the problem at a place, counted from 0
+pub record IsOutcomeAt (b : Batch) (place : ℕ) (outcome : Result WrittenAnswer RootFault) : Type 0 where
   pub problem : Problem
   pub here : slice_get b.problems.now place ≡ Some problem
-  pub known_is : IsKnown b problem known
+  pub outcome_is : IsOutcome b problem outcome
 
 -- whichever worker solves a problem over a pass of the table, it ends with what it may end with
 abbrev pub Solves : Batch → (ℕ → Bor Problem → MutBor Pass → Type 0) → (ℕ → Bor Problem → MutBor Pass → Result WrittenAnswer RootFault → MutBor Pass → Type 0) → Type 0
 Solves b can gives = (worker : ℕ) (problem : Bor Problem) (pass : MutBor Pass) → IsProblem problem.now → IsPassOf b.table.now pass.now
-    → can worker problem pass × ((known : Result WrittenAnswer RootFault) (late : MutBor Pass) → gives worker problem pass known late
-    → IsKnown b problem.now known × IsPassOf b.table.now late.now × HasSeenMore pass.now late.now)
+    → can worker problem pass × ((outcome : Result WrittenAnswer RootFault) (late : MutBor Pass) → gives worker problem pass outcome late
+    → IsOutcome b problem.now outcome × IsPassOf b.table.now late.now × HasSeenMore pass.now late.now)

@@ -3,7 +3,7 @@ ghost use Rattle.std.specs.Prelude.{◌≡◌, Some, slice_get};
 ghost use Rattle.shared_table.specs.Passes.{IsPassOf};
 ghost use Rattle.root_workers.specs.Rounds.{HasSeenMore};
 ghost use Rattle.worker_pool.specs.Findings.{AreRight};
-ghost use Rattle.board_batch.specs.Batches.{IsBatch, Solves, IsKnown, IsKnownAt};
+ghost use Rattle.board_batch.specs.Batches.{IsBatch, Solves, IsOutcome, IsOutcomeAt};
 
 use crate::batch::{Batch, Problem};
 use alphamu_core::RootFault;
@@ -13,7 +13,7 @@ use std::alloc::AllocError;
 use worker_pool::{Finding, Work, take_finding};
 
 /// What the search of a problem ends with.
-pub type Known = Result<WrittenAnswer, RootFault>;
+pub type Outcome = Result<WrittenAnswer, RootFault>;
 
 /// The problems of a batch as jobs, as many as there are places, and how the worker of a number
 /// solves one of them over its pass.
@@ -27,14 +27,14 @@ pub struct BatchWork<'a, F> {
     pub solve: F,
 }
 
-impl<F: Fn(u32, &Problem, &mut Pass) -> Known + Sync + Drop> Work for BatchWork<'_, F> {
+impl<F: Fn(u32, &Problem, &mut Pass) -> Outcome + Sync + Drop> Work for BatchWork<'_, F> {
     ghost use Rattle.std.specs.Prelude.{⊤};
 
     type Worker = u32;
 
     type Notes = ();
 
-    type Found = Known;
+    type Found = Outcome;
 
     ghost shared = { λ it. it.batch.now.table.now };
 
@@ -43,7 +43,7 @@ impl<F: Fn(u32, &Problem, &mut Pass) -> Known + Sync + Drop> Work for BatchWork<
 
     ghost noted = { λ _ _. ⊤ };
 
-    ghost right = { λ it place known. IsKnownAt it.batch.now place known };
+    ghost right = { λ it place outcome. IsOutcomeAt it.batch.now place outcome };
 
     fn table(&self) -> &SharedTable {
         self.batch.table
@@ -61,39 +61,39 @@ impl<F: Fn(u32, &Problem, &mut Pass) -> Known + Sync + Drop> Work for BatchWork<
         _notes: &mut (),
         pass: &mut Pass,
         place: u32,
-    ) -> Result<Option<Known>, AllocError> {
+    ) -> Result<Option<Outcome>, AllocError> {
         let Some(problem) = self.batch.problems.get(place as usize) else {
             return Ok(None);
         };
-        let known = (self.solve)(*worker, problem, pass);
-        if matches!(&known, Err(RootFault::Memory)) {
+        let outcome = (self.solve)(*worker, problem, pass);
+        if matches!(&outcome, Err(RootFault::Memory)) {
             return Err(AllocError);
         }
-        Ok(Some(known))
+        Ok(Some(outcome))
     }
 }
 
-impl<F: Fn(u32, &Problem, &mut Pass) -> Known + Sync + Drop> BatchWork<'_, F> {
-    /// What is known of the problem at a place by a worker, or else by solving it now, as worker 0.
-    pub fn known_at(
+impl<F: Fn(u32, &Problem, &mut Pass) -> Outcome + Sync + Drop> BatchWork<'_, F> {
+    /// What a worker found of the problem at a place, or else what solving it now gives, as worker 0.
+    pub fn outcome_at(
         &self,
         pass: &mut Pass,
-        findings: &mut Vec<Finding<Known>>,
+        findings: &mut Vec<Finding<Outcome>>,
         place: u32,
         problem: &Problem,
-    ) -> Known
+    ) -> Outcome
         requires batch { IsBatch self.now.batch.now }
         requires solves { Solves self.now.batch.now (F.pre self.now.solve) (F.post self.now.solve) }
         requires pass { IsPassOf self.now.batch.now.table.now pass.old }
-        requires right { AreRight (IsKnownAt self.now.batch.now) findings.old.items }
+        requires right { AreRight (IsOutcomeAt self.now.batch.now) findings.old.items }
         requires problem { slice_get self.now.batch.now.problems.now place ≡ Some problem.now }
-        ensures known { IsKnown self.now.batch.now problem.now result }
-        ensures right { AreRight (IsKnownAt self.now.batch.now) findings.new.items }
+        ensures outcome { IsOutcome self.now.batch.now problem.now result }
+        ensures right { AreRight (IsOutcomeAt self.now.batch.now) findings.new.items }
         ensures pass { IsPassOf self.now.batch.now.table.now pass.new }
         ensures grown { HasSeenMore pass.old pass.new }
     {
         match take_finding(self, findings, place) {
-            Some(known) => known,
+            Some(outcome) => outcome,
             None => (self.solve)(0, problem, pass),
         }
     }

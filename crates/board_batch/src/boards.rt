@@ -8,11 +8,11 @@ ghost use Rattle.root_workers.specs.Rounds.{HasSeenMore};
 ghost use Rattle.board_batch.specs.Problems.{IsProblem, AreAnswers, AllProblemsFit};
 ghost use Rattle.board_batch.specs.Problems.{IsSpentIn, IsFirstSpentIn};
 ghost use Rattle.board_batch.specs.Batches.{IsBatch, IsSolved, IsSpentOf, Solves};
-ghost use Rattle.board_batch.specs.Batches.{IsKnown, IsKnownAt};
+ghost use Rattle.board_batch.specs.Batches.{IsOutcome, IsOutcomeAt};
 ghost use Rattle.worker_pool.specs.Findings.{AreRight};
 
 use crate::batch::{Batch, Problem};
-use crate::batch_work::{BatchWork, Known};
+use crate::batch_work::{BatchWork, Outcome};
 use crate::fault::BatchFault;
 use crate::solving::solved;
 use alphamu_core::RootFault;
@@ -46,28 +46,28 @@ fn fault_of(number: u16, fault: RootFault) -> BatchFault
     }
 }
 
-impl<F: Fn(u32, &Problem, &mut Pass) -> Known + Sync + Drop> BatchWork<'_, F> {
+impl<F: Fn(u32, &Problem, &mut Pass) -> Outcome + Sync + Drop> BatchWork<'_, F> {
     // The answer of the problem at a place.
     fn answer_at(
         &self,
         pass: &mut Pass,
-        findings: &mut Vec<Finding<Known>>,
+        findings: &mut Vec<Finding<Outcome>>,
         place: u32,
         problem: &Problem,
     ) -> Result<WrittenAnswer, BatchFault>
         requires batch { IsBatch self.now.batch.now }
         requires solves { Solves self.now.batch.now (F.pre self.now.solve) (F.post self.now.solve) }
         requires pass { IsPassOf self.now.batch.now.table.now pass.old }
-        requires right { AreRight (IsKnownAt self.now.batch.now) findings.old.items }
+        requires right { AreRight (IsOutcomeAt self.now.batch.now) findings.old.items }
         requires problem { slice_get self.now.batch.now.problems.now place ≡ Some problem.now }
         ensures answer { IfOk result (IsSolved self.now.batch.now problem.now) }
         ensures spent { (number card : ℕ) → IsErrOf result (BatchFault.Spent number card)
             → (number ≡ problem.now.number) × IsSpentOf self.now.batch.now problem.now card }
-        ensures right { AreRight (IsKnownAt self.now.batch.now) findings.new.items }
+        ensures right { AreRight (IsOutcomeAt self.now.batch.now) findings.new.items }
         ensures pass { IsPassOf self.now.batch.now.table.now pass.new }
         ensures grown { HasSeenMore pass.old pass.new }
     {
-        match self.known_at(pass, findings, place, problem) {
+        match self.outcome_at(pass, findings, place, problem) {
             Ok(answer) => Ok(answer),
             Err(fault) => Err(fault_of(problem.number, fault)),
         }
@@ -77,13 +77,13 @@ impl<F: Fn(u32, &Problem, &mut Pass) -> Known + Sync + Drop> BatchWork<'_, F> {
     fn in_order(
         &self,
         pass: &mut Pass,
-        mut findings: Vec<Finding<Known>>,
+        mut findings: Vec<Finding<Outcome>>,
     ) -> Result<Vec<WrittenAnswer>, BatchFault>
         requires batch { IsBatch self.now.batch.now }
         requires solves { Solves self.now.batch.now (F.pre self.now.solve) (F.post self.now.solve) }
         requires few { length self.now.batch.now.problems.now ≤ 64 }
         requires pass { IsPassOf self.now.batch.now.table.now pass.old }
-        requires right { AreRight (IsKnownAt self.now.batch.now) findings.items }
+        requires right { AreRight (IsOutcomeAt self.now.batch.now) findings.items }
         ensures answers { IfOk result (λ answers. AreAnswers self.now.batch.now.problems.now
             self.now.batch.now.moves answers.items) }
         ensures fits { IsPlain self.now.batch.now.options → IfOk result (λ _.
@@ -158,10 +158,10 @@ pub fn run_boards<R: Threads + Sync, G: Gate>(
         table,
     };
     let batch = &batch;
-    let solve = |worker: u32, problem: &Problem, pass: &mut Pass| -> Known
+    let solve = |worker: u32, problem: &Problem, pass: &mut Pass| -> Outcome
         requires { IsProblem problem.now × IsPassOf batch.now.table.now pass.old
             × IsBatch batch.now }
-        ensures { IsKnown batch.entry.now problem.now result
+        ensures { IsOutcome batch.entry.now problem.now result
             × IsPassOf batch.entry.now.table.now pass.new × HasSeenMore pass.old pass.new }
     { solved(rt, batch, gate, worker, pass, problem) };
     let work = BatchWork {

@@ -1,4 +1,5 @@
 //! Why a batch ends with no answer.
+use am_answer::Status;
 use card_sets::Card;
 use std::alloc::{AllocError, AllocFailed};
 use thiserror::Error;
@@ -33,5 +34,20 @@ impl<T: Drop> From<AllocFailed<T>> for BatchFault {
 
     fn from(_: AllocFailed<T>) -> Self {
         BatchFault::Memory
+    }
+}
+
+/// The status of a batch that ends with no answer: the number of a problem is that of its game.
+impl From<BatchFault> for Status {
+    ghost use Rattle.std.specs.Prelude.{◌≡◌};
+    ghost use Rattle.board_batch.specs.Refusals.{batch_status};
+
+    ghost from_gives = { λ fault status. status ≡ batch_status fault };
+
+    fn from(fault: BatchFault) -> Self {
+        match fault {
+            BatchFault::Spent(game, card) => Status::GameSpent(game, card),
+            BatchFault::Memory => Status::Memory,
+        }
     }
 }

@@ -2,10 +2,10 @@
 ghost use Rattle.shared_table.specs.Passes.{IsPassOf};
 ghost use Rattle.root_workers.specs.Rounds.{HasSeenMore};
 ghost use Rattle.board_batch.specs.Problems.{IsProblem};
-ghost use Rattle.board_batch.specs.Batches.{IsBatch, IsKnown};
+ghost use Rattle.board_batch.specs.Batches.{IsBatch, IsOutcome};
 
 use crate::batch::{Batch, Problem};
-use crate::batch_work::Known;
+use crate::batch_work::Outcome;
 use am_outside::Gate;
 use card_sets::Card;
 use root_answers::written_root;
@@ -37,11 +37,11 @@ pub fn solved<R: Threads + Sync, G: Gate>(
     worker: u32,
     pass: &mut Pass,
     problem: &Problem,
-) -> Known
+) -> Outcome
     requires batch { IsBatch batch.now }
     requires pass { IsPassOf batch.now.table.now pass.old }
     requires problem { IsProblem problem.now }
-    ensures known { IsKnown batch.now problem.now result }
+    ensures outcome { IsOutcome batch.now problem.now result }
     ensures pass { IsPassOf batch.now.table.now pass.new }
     ensures grown { HasSeenMore pass.old pass.new }
 {

@@ -14,10 +14,11 @@ use Rattle.am_answer.specs.declared.status.Status.{Status}
 use Rattle.root_answers.specs.Written.{IsWrittenAnswer}
 use Rattle.am_answer.specs.Endings.{AllGamesFit, IsGameSpentBy, IsPlain}
 use Rattle.board_batch.specs.declared.fault.BatchFault as faults
+use Rattle.board_batch.specs.Refusals.{batch_status}
 use Rattle.root_workers.specs.Plain as options
 use Rattle.am_answer.specs.Tasks.{Boards}
 use Rattle.am_answer.specs.Stages.{IsTaskRefusal}
-use Rattle.job_boards.specs.Accepted.{accepted, numbered_from, AreProblems, IsProblemOf, batch_status}
+use Rattle.job_boards.specs.Accepted.{accepted, numbered_from, AreProblems, IsProblemOf}
 use Rattle.job_boards.specs.Outcomes.{AreAnswersOf, IsAnswerAt}
 use Rattle.job_boards.proofs.Roots.{game-of}
 

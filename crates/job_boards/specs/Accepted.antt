@@ -5,8 +5,6 @@ use Rattle.std.specs.List.{AllZip}
 use Rattle.board_batch.specs.declared.batch.Problem.{Problem}
 use Rattle.am_answer.specs.declared.root.Root.{Root}
 use Rattle.am_answer.specs.declared.status.Status.{Status}
-use Rattle.am_answer.specs.declared.status.Status.TheVariants as ends
-use Rattle.board_batch.specs.declared.fault.BatchFault as faults
 
 -- the roots of the games that have one, in order
 abbrev pub accepted : List (Result Root Status) → List Root
@@ -27,8 +25,3 @@ pub record IsProblemOf (game : ℕ × Root) (p : Problem) : Type 0 where
 -- a problem for each game that has a root, in order; games are numbered from 1
 abbrev pub AreProblems : List (Result Root Status) → List Problem → Type 0
 AreProblems games problems = AllZip IsProblemOf (numbered_from 1 games) problems
-
--- the status of a batch that ends with no answers: the number of a problem is that of its game
-abbrev pub batch_status : faults.BatchFault → Status
-batch_status (faults.TheVariants.Spent game card) = ends.GameSpent game card
-batch_status faults.TheVariants.Memory = ends.Memory

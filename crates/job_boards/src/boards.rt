@@ -10,7 +10,7 @@ ghost use Rattle.am_answer.specs.Stages.{IsTaskRefusal, IsTextFor};
 ghost use Rattle.job_boards.specs.Outcomes.{AreAnswersOf};
 
 use crate::outcomes::outcomes;
-use crate::problems::{batch_status, problems_of};
+use crate::problems::problems_of;
 use am_answer::{GameFiles, Root, Status};
 use am_inputs::read_roots;
 use am_outside::Gate;
@@ -43,12 +43,9 @@ fn answers_of<R: Threads + Sync, G: Gate>(
     let problems = problems_of(alloc, games)?;
     let options = options_of(search);
     let (table, mut pass) = table_of(alloc, search)?;
-    match run_boards(
+    Ok(run_boards(
         rt, alloc, &problems, moves, &options, &table, &mut pass, gate,
-    ) {
-        Ok(answers) => Ok(answers),
-        Err(fault) => Err(batch_status(fault)),
-    }
+    )?)
 }
 
 /// The reports of all games of a deal file, in order, each on its own layout file, for `moves`

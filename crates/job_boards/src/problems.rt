@@ -1,10 +1,10 @@
 //! The games that have a root, as problems of one batch.
-ghost use Rattle.std.specs.Prelude.{◌≡◌, ◌≤◌, IfOk, length};
+ghost use Rattle.std.specs.Prelude.{◌≤◌, IfOk, length};
 ghost use Rattle.am_answer.specs.Games.{most_games};
-ghost use Rattle.job_boards.specs.Accepted.{AreProblems, batch_status};
+ghost use Rattle.job_boards.specs.Accepted.{AreProblems};
 
 use am_answer::{Root, Status};
-use board_batch::{BatchFault, Problem};
+use board_batch::Problem;
 use std::alloc::{AllocError, Global};
 
 /// A problem for each game that has a root, in order, under the number of its game.
@@ -29,14 +29,4 @@ pub(crate) fn problems_of<'a>(
         }
     }
     Ok(problems)
-}
-
-/// The status of a batch that ends with no answers.
-pub(crate) fn batch_status(fault: BatchFault) -> Status
-    ensures { result ≡ batch_status fault }
-{
-    match fault {
-        BatchFault::Spent(game, card) => Status::GameSpent(game, card),
-        BatchFault::Memory => Status::Memory,
-    }
 }
