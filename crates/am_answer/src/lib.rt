@@ -9,6 +9,5 @@ mod root;
 mod status;
 
 pub use inputs::{GameFiles, Inputs};
-pub use refusals::root_status;
 pub use root::Root;
 pub use status::{FileWord, PbnKind, Place, Status};

@@ -49,23 +49,16 @@ impl From<LayoutFault> for Status {
 }
 
 /// The status of a loop over root cards that ends with no answer.
-pub fn root_status(fault: RootFault) -> Status
-    ensures { result ≡ root_status fault }
-{
-    match fault {
-        RootFault::Spent(card) => Status::Spent(card),
-        RootFault::Memory => Status::Memory,
-    }
-}
-
 impl From<RootFault> for Status {
     ghost from_gives = { λ fault status. status ≡ root_status fault };
 
     fn from(fault: RootFault) -> Self {
-        root_status(fault)
+        match fault {
+            RootFault::Spent(card) => Status::Spent(card),
+            RootFault::Memory => Status::Memory,
+        }
     }
 }
-
 /// The status of a report that isn't read.
 impl From<ReportFault> for Status {
     ghost from_gives = { λ fault status. status ≡ report_status fault };
