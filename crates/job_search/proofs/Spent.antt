@@ -7,7 +7,7 @@ use Rattle.job_words.specs.Asks.{IsSearchWithinLimits}
 use Rattle.strategy_tree.specs.RootTrees.{IsSpentAt, IsFirstSpentAt, AllFit}
 use Rattle.root_workers.specs.declared.root.Options.{Options}
 use Rattle.root_workers.specs.Plain as options
-use Rattle.alphamu_core.specs.declared.answers.RootFault as root
+use Rattle.alphamu_core.specs.declared.answers.RootFault as faults
 use Rattle.am_answer.specs.declared.root.Root.{Root}
 use Rattle.am_answer.specs.declared.status.Status.{Status}
 use Rattle.am_answer.specs.Tasks.{TaskValue}
@@ -17,9 +17,9 @@ use Rattle.am_answer.specs.Stages.{IsTaskRefusal}
 use Rattle.am_answer.proofs.Passed.{refused_by}
 
 -- the tree is too large, or memory ran out
-pub spent_task : (task : TaskValue) (fault : root.RootFault) → ((card : ℕ) → fault ≡ root.TheVariants.Spent card → IsSpentOn task card) → IsTaskRefusal (Ok task) (root_status fault)
-spent_task task (root.TheVariants.Spent card) spent = (task, refl, spent card refl)
-spent_task task root.TheVariants.Memory spent = tt
+pub spent_task : (task : TaskValue) (fault : faults.RootFault) → ((card : ℕ) → fault ≡ faults.TheVariants.Spent card → IsSpentOn task card) → IsTaskRefusal (Ok task) (root_status fault)
+spent_task task (faults.TheVariants.Spent card) spent = (task, refl, spent card refl)
+spent_task task faults.TheVariants.Memory spent = tt
 
 -- at a card that the loop over root cards names
 pub spent_by : (n : NodeValue) (moves : ℕ) (search' : Search) (card : ℕ) → IsSpentAt n moves search'.nodes card → (IsPlain search' → IsFirstSpentAt n moves search'.nodes card) → IsSpentBy n moves search' card
@@ -55,22 +55,22 @@ workers_as o s same within = subst (λ (p : Options). options.HasWorkers p) (sym
 -- ---- how a job is refused, if the search of the root as it is opened ends with a fault
 
 module _ {T : Type 0} (opened root : Root) (is : opened ≡ root) (o : Options) (s : Search) (same : o ≡ asked s) (moves : ℕ) (task : TaskValue) where
-  refused_at : (result : Result T Status) (fault : root.RootFault) → ((card : ℕ) → IsSpentBy root.kept.node moves s card → IsSpentOn task card)
-      → IsErrAnd result (λ e. e ≡ root_status fault) → ((card : ℕ) → fault ≡ root.TheVariants.Spent card → IsSpentBy root.kept.node moves s card) → IfErr result (IsTaskRefusal (Ok task))
+  refused_at : (result : Result T Status) (fault : faults.RootFault) → ((card : ℕ) → IsSpentBy root.kept.node moves s card → IsSpentOn task card)
+      → IsErrAnd result (λ e. e ≡ root_status fault) → ((card : ℕ) → fault ≡ faults.TheVariants.Spent card → IsSpentBy root.kept.node moves s card) → IfErr result (IsTaskRefusal (Ok task))
   refused_at result fault on_task passed spent = refused_by (IsTaskRefusal (Ok task)) result (root_status fault) passed (spent_task task fault (λ card e. on_task card (spent card e)))
 
   -- by the loop over root cards
-  pub refused_first : (result : Result T Status) (fault : root.RootFault) → ((card : ℕ) → IsSpentBy root.kept.node moves s card → IsSpentOn task card)
+  pub refused_first : (result : Result T Status) (fault : faults.RootFault) → ((card : ℕ) → IsSpentBy root.kept.node moves s card → IsSpentOn task card)
       → IsErrAnd result (λ e. e ≡ root_status fault)
-      → ((card : ℕ) → fault ≡ root.TheVariants.Spent card → IsSpentAt opened.kept.node moves o.nodes card)
-      → ((card : ℕ) → fault ≡ root.TheVariants.Spent card → options.IsPlain o → IsFirstSpentAt opened.kept.node moves o.nodes card) → IfErr result (IsTaskRefusal (Ok task))
+      → ((card : ℕ) → fault ≡ faults.TheVariants.Spent card → IsSpentAt opened.kept.node moves o.nodes card)
+      → ((card : ℕ) → fault ≡ faults.TheVariants.Spent card → options.IsPlain o → IsFirstSpentAt opened.kept.node moves o.nodes card) → IfErr result (IsTaskRefusal (Ok task))
   refused_first result fault on_task passed spent first = refused_at result fault on_task passed
       (λ card e. spent_by root.kept.node moves s card (spent_as opened root is o s same moves card (spent card e)) (first_as opened root is o s same moves card (first card e)))
 
   -- by the finder of a plan, after the loop
-  pub refused_later : (result : Result T Status) (fault : root.RootFault) → ((card : ℕ) → IsSpentBy root.kept.node moves s card → IsSpentOn task card)
+  pub refused_later : (result : Result T Status) (fault : faults.RootFault) → ((card : ℕ) → IsSpentBy root.kept.node moves s card → IsSpentOn task card)
       → IsErrAnd result (λ e. e ≡ root_status fault)
-      → ((card : ℕ) → fault ≡ root.TheVariants.Spent card → IsSpentAt opened.kept.node moves o.nodes card)
+      → ((card : ℕ) → fault ≡ faults.TheVariants.Spent card → IsSpentAt opened.kept.node moves o.nodes card)
       → (options.IsPlain o → AllFit opened.kept.node moves o.nodes) → IfErr result (IsTaskRefusal (Ok task))
   refused_later result fault on_task passed spent fits = refused_at result fault on_task passed
       (λ card e. spent_later root.kept.node moves s card (spent_as opened root is o s same moves card (spent card e)) (fits_as opened root is o s same moves fits))
