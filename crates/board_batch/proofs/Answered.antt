@@ -29,7 +29,7 @@ pub solved_at : {can : ℕ → Bor Problem → MutBor Pass → Type 0} {gives : 
 solved_at b worker place problem pass late outcome sound of within is given =
     let here = slice_get_read b.problems.now (length b.problems.now) place problem.now refl within is in
     let solved = (sound.1 worker problem pass (all_here IsProblem b.problems.now place problem.now sound.0.problems here) of).1 outcome late given in
-    (record { problem = problem.now; here = here; outcome_is = solved.0 }, solved.1)
+    (record { problem = problem.now; here = here; outcome_is = solved.0 }, solved.1, solved.2)
 
 -- an element more
 next_taken : {X : Type 0} (xs : List X) (i : ℕ) (x : X) → i < length xs → x ≡ get_or xs i x → take (i + 1) xs ≡ take i xs ++ x ∷ []
