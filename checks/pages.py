@@ -2,13 +2,13 @@
 """Runs every command that the pages for users show, and compares what it prints with what the page shows.
 
 A command is a line of README.md, docs/USING.md, docs/PROGRAMS.md or a lesson under examples/ that begins with four blanks and
-`./alphamu`, `examples/`, `grep`, `awk`, `timeout`, `cat` or `/usr/games/dealer`. The shell runs it at the top of the repository.
+`./alphamu`, `./study`, `examples/`, `grep`, `awk`, `timeout`, `cat` or `/usr/games/dealer`. The shell runs it at the top of the repository.
 If its program isn't installed, it is counted as left out. If a block in fences follows, before the next command and before the
 next heading, the command must print the lines of the block, standard output and then standard error; a last line `..` means any
 further lines. If no block follows, the command must end with status 0. The commands of one page run in order, since some write
 files in /tmp for later ones.
 
-There must be a current proved program, which ./build makes."""
+There must be current proved programs, which ./build and ./build study make."""
 import pathlib
 import re
 import shutil
@@ -17,7 +17,7 @@ import sys
 
 TOP = pathlib.Path(__file__).resolve().parent.parent
 PAGES = [*(TOP / it for it in ("README.md", "docs/USING.md", "docs/REFUSALS.md", "docs/PROGRAMS.md")), *sorted(TOP.glob("examples/**/README.md"))]
-COMMAND = re.compile(r"^    ((?:\./alphamu|examples/|(?:grep|awk|timeout|cat|/usr/games/dealer) )\S*.*)$")
+COMMAND = re.compile(r"^    ((?:\./alphamu|\./study|examples/|(?:grep|awk|timeout|cat|/usr/games/dealer) )\S*.*)$")
 
 
 def commands(text):
