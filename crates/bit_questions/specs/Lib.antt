@@ -1,0 +1,4 @@
+pub mod Numbers
+pub mod Causes
+pub mod Tables
+pub mod Asked
