@@ -1,0 +1,4 @@
+pub mod Faults
+pub mod Ready
+pub mod Answers
+pub mod Delivery
