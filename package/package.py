@@ -1,10 +1,11 @@
 #!/usr/bin/env python3
-"""package.py install --prefix DIR | package [--out DIR]
+"""package.py library [--prefix DIR] | install --prefix DIR | package [--out DIR]
 
-Puts what people use under a prefix, or into a .tar.gz and a Debian package: the proved program with its launcher, the man page,
-the pages for users, the examples, and BUILD with the version, the kit that proved it, and a checksum of each other file. It
-builds nothing: ./build calls it once the proved program is there. If something fails, a line on standard error says what, the
-status is 70, and what has been written so far stays, except that no package is left incomplete.
+`library` makes libalphamu.a and libalphamu.so next to the proved static library, or puts them under a prefix with header, pkg-config file
+and bindings. `install` puts what people use under a prefix, and `package` into a .tar.gz and a Debian package: the proved program with
+its launcher, the man page, the library, the pages for users, the examples, and BUILD with the version, the kit that proved it, and a
+checksum of each other file. It proves nothing: ./build calls it once the proved program and library are there. If something fails, a
+line on standard error says what, the status is 70, and what has been written so far stays, except that no package is left incomplete.
 """
 import argparse
 import gzip
@@ -23,13 +24,14 @@ sys.dont_write_bytecode = True
 TOP = pathlib.Path(__file__).resolve().parent.parent
 sys.path[:0] = [str(TOP / "package"), str(TOP / "checks")]
 import jobs
+import libraries
 import man
 
 PROGRAM = TOP / "crates" / "alphamu" / "out" / "alphamu"
 DOCS = "share/doc/alphamu"
 # What people read, with the folders that come whole.
 PAGES = ("README.md", "CHANGELOG.md", "docs/USING.md", "docs/REFUSALS.md", "docs/PROGRAMS.md", "docs/SCALING.md", "docs/PROVED.md",
-         "docs/TESTED.md", "docs/SPEED.md", "docs/definitions", "examples")
+         "docs/TESTED.md", "docs/SPEED.md", "docs/definitions", "bindings/README.md", "bindings/c/README.md", "examples")
 LINK = re.compile(r"(?<!!)\[([^]]*)\]\(([^)#\s]*)(#[^)\s]*)?\)")
 COMMAND = re.compile(r"^(    (?:timeout \d+ )?)\./alphamu ", re.M)
 SUMMARY = "which card should declarer play, with a proof behind its answers"
@@ -73,6 +75,7 @@ def contents():
         "bin/alphamu": ((TOP / "package" / "alphamu").read_bytes(), 0o755),
         "lib/alphamu/alphamu": (PROGRAM.read_bytes(), 0o755),
         "share/man/man1/alphamu.1.gz": (gzip.compress(man_page().encode(), mtime=0), 0o644),
+        **libraries.contents(SUMMARY, version()),
     }
     for name in sorted(names):
         path = TOP / name
@@ -90,8 +93,13 @@ def man_page():
 
 def record_of(found):
     """The version, the kit, and the checksum of each file, as `sha256sum --check` reads it."""
-    sums = [f"{hashlib.sha256(data).hexdigest()}  {name}\n" for name, (data, _) in sorted(found.items())]
+    sums = [f"{hashlib.sha256(data).hexdigest()}  {name}\n" for name, data in files_of(found)]
     return f"# alphamu {version()}\n# proved with {kit()}\n" + "".join(sums)
+
+
+def files_of(found):
+    """The files with their bytes, without the links."""
+    return [(name, data) for name, (data, mode) in sorted(found.items()) if mode is not libraries.LINK]
 
 
 def put(found, prefix):
@@ -100,8 +108,12 @@ def put(found, prefix):
         path = prefix / name
         path.parent.mkdir(parents=True, exist_ok=True)
         part = path.with_name(path.name + ".part")
-        part.write_bytes(data)
-        part.chmod(mode)
+        part.unlink(missing_ok=True)
+        if mode is libraries.LINK:
+            part.symlink_to(data.decode())
+        else:
+            part.write_bytes(data)
+            part.chmod(mode)
         part.replace(path)
 
 
@@ -117,8 +129,12 @@ def write_tar(found, path):
     with open(path, "wb") as file, gzip.GzipFile("", "wb", fileobj=file, mtime=date()) as packed, tarfile.open(fileobj=packed, mode="w") as tar:
         for name, (data, mode) in sorted(found.items()):
             it = tarfile.TarInfo(f"alphamu-{version()}/{name}")
-            it.size, it.mode, it.mtime, it.uname, it.gname = len(data), mode, date(), "root", "root"
-            tar.addfile(it, io.BytesIO(data))
+            it.mtime, it.uname, it.gname = date(), "root", "root"
+            if mode is libraries.LINK:
+                it.type, it.mode, it.linkname = tarfile.SYMTYPE, 0o777, data.decode()
+            else:
+                it.size, it.mode = len(data), mode
+            tar.addfile(it, io.BytesIO(data) if it.size else None)
 
 
 def control(found):
@@ -139,7 +155,7 @@ def write_deb(found, path):
         root = pathlib.Path(folder) / "root"
         root.mkdir(mode=0o755)
         put(found, root / "usr")
-        sums = "".join(f"{hashlib.md5(data).hexdigest()}  usr/{name}\n" for name, (data, _) in sorted(found.items()))
+        sums = "".join(f"{hashlib.md5(data).hexdigest()}  usr/{name}\n" for name, data in files_of(found))
         (root / "DEBIAN").mkdir(mode=0o755)
         (root / "DEBIAN" / "control").write_text(control(found))
         (root / "DEBIAN" / "md5sums").write_text(sums)
@@ -164,20 +180,30 @@ def write_packages(folder):
     return made
 
 
+def done(words):
+    """Does what the words say, and gives what was written."""
+    if words.command == "package":
+        return write_packages(words.out)
+    if words.prefix is None:
+        libraries.look_for_proved()
+        libraries.make(libraries.OUT)
+        return [libraries.OUT / it for it in ("libalphamu.a", "libalphamu.so")]
+    is_whole = words.command == "install"
+    put(contents() if is_whole else libraries.contents(SUMMARY, version()), words.prefix)
+    return [f"installed {'alphamu' if is_whole else 'the library of alphamu'} {version()} under {words.prefix}"]
+
+
 def main():
     parser = argparse.ArgumentParser(description=__doc__, formatter_class=argparse.RawDescriptionHelpFormatter)
     commands = parser.add_subparsers(dest="command", required=True)
+    commands.add_parser("library").add_argument("--prefix", type=pathlib.Path)
     commands.add_parser("install").add_argument("--prefix", required=True, type=pathlib.Path)
     commands.add_parser("package").add_argument("--out", default=TOP / "out", type=pathlib.Path)
     words = parser.parse_args()
     try:
-        if words.command == "install":
-            put(contents(), words.prefix)
-            print(f"build: installed alphamu {version()} under {words.prefix}", file=sys.stderr)
-        else:
-            for path in write_packages(words.out):
-                print(f"build: {path}", file=sys.stderr)
-    except (OSError, subprocess.CalledProcessError) as fault:
+        for line in done(words):
+            print(f"build: {line}", file=sys.stderr)
+    except (OSError, subprocess.CalledProcessError, libraries.Lacking) as fault:
         print(f"build: {fault}", file=sys.stderr)
         sys.exit(70)
 
