@@ -1,0 +1,79 @@
+/* The front page's suit combination: K 10 2 in dummy opposite A Q 9 4 3, with an entry to each hand.
+ *
+ *     cc ending.c $(pkg-config --cflags --libs alphamu) -o ending
+ *     ./ending                  by bits: what each card is worth, and the card to play
+ *     ./ending DEAL LAYOUTS     by text: the card to play, from two files
+ */
+#include <alphamu.h>
+#include <stdio.h>
+#include <stdlib.h>
+
+enum { SPADES, HEARTS = 13, DIAMONDS = 26, ROOM = 1 << 20 };
+
+/* Cards of a suit by their ranks, as "KT2". */
+static uint64_t ranks(const char *letters, int suit) {
+    uint64_t cards = 0;
+    for (; *letters; letters++)
+        for (int rank = 0; rank < 13; rank++)
+            if ("23456789TJQKA"[rank] == *letters) cards |= (uint64_t)1 << (suit + rank);
+    return cards;
+}
+
+/* What West has in a layout: spades of the missing J 8 7 6 5, and of the other suits enough to fill up seven cards. */
+static uint64_t west(int layout, int *spades) {
+    uint64_t hand = 0;
+    *spades = 0;
+    for (int i = 0; i < 5; i++)
+        if (layout >> i & 1) hand |= ranks((const char *[]){"5", "6", "7", "8", "J"}[i], SPADES), ++*spades;
+    for (int i = 0; i < 7 - *spades; i++)
+        hand |= (uint64_t)1 << ((i % 2 ? DIAMONDS : HEARTS) + 11 - i / 2);
+    return hand;
+}
+
+static int by_bits(void) {
+    /* In how many ways the other 21 cards of the defenders fill up West's hand, by the number of his spades. */
+    static const uint32_t ways[] = {45, 65, 78, 78, 65, 45};
+    alphamu_question question = {
+        .declarer = ranks("AQ943", SPADES) | ranks("2", HEARTS) | ranks("A", DIAMONDS),
+        .dummy = ranks("KT2", SPADES) | ranks("A", HEARTS) | ranks("432", DIAMONDS),
+        .unseen = ranks("J8765", SPADES) | ranks("KQJT9", HEARTS) | ranks("KQJT", DIAMONDS),
+        .nodes = 10000000, .leader = 0, .trump = 4, .need = 7, .moves = 26,
+    };
+    uint64_t lefts[32];
+    uint32_t weights[32], total = 0;
+    for (int i = 0; i < 32; i++) {
+        int spades;
+        lefts[i] = west(i, &spades);
+        total += weights[i] = ways[spades];
+    }
+    alphamu_worth worths[13];
+    alphamu_choice choice;
+    size_t written;
+    uint32_t status = alphamu_bits_cards(&question, lefts, 32, weights, 32, worths, 13, &written);
+    if (!status) status = alphamu_bits_card(&question, lefts, 32, weights, 32, &choice);
+    if (status) return fprintf(stderr, "refused: %u\n", status), (int)status;
+    for (size_t i = 0; i < written; i++)
+        printf("%c%c wins %u of %u; a simulation believes in %u\n", "SHDC"[worths[i].card / 13],
+            "23456789TJQKA"[worths[i].card % 13], worths[i].weight, total, worths[i].double_dummy);
+    printf("play %c%c\n", "SHDC"[choice.card / 13], "23456789TJQKA"[choice.card % 13]);
+    return 0;
+}
+
+/* The bytes of a file, with room for one more than the library takes. */
+static size_t read_all(const char *name, uint8_t *bytes) {
+    FILE *file = fopen(name, "rb");
+    if (!file) perror(name), exit(70);
+    size_t length = fread(bytes, 1, ROOM + 1, file);
+    fclose(file);
+    return length;
+}
+
+static int by_text(char **names) {
+    static uint8_t deal[ROOM + 1], layouts[ROOM + 1], out[256];
+    size_t deal_length = read_all(names[0], deal), layouts_length = read_all(names[1], layouts), written;
+    uint32_t status = alphamu_card(deal, deal_length, layouts, layouts_length, 26, 10000000, out, sizeof out, &written);
+    fwrite(out, 1, written, status ? stderr : stdout);
+    return (int)status;
+}
+
+int main(int argc, char **argv) { return argc == 3 ? by_text(argv + 1) : by_bits(); }
