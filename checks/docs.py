@@ -3,8 +3,8 @@
 
 Compares the pages below TOP with what is there. TOP is this repository if you name none. It needs no toolchain.
 
-Pages are README.md, CHANGELOG.md and CONTRIBUTING.md, all of docs/, and the README.md of each example, of each crate and
-of cases/. The check fails in these cases:
+Pages are README.md, CHANGELOG.md and CONTRIBUTING.md, all of docs/, and the README.md of each example, of each crate, of
+cases/ and of bindings/. The check fails in these cases:
 
 - A page names in backticks a file that isn't there, or a name such as `root_front` or `CardLine` that no source has.
   Names in docs/definitions/ are left to definitions.py, and CHANGELOG may have names that are gone.
@@ -27,9 +27,10 @@ from collections import Counter
 
 TOP = pathlib.Path(__file__).resolve().parent.parent
 PAGES = ("README.md", "CHANGELOG.md", "CONTRIBUTING.md", "docs/**/*.md", "examples/**/README.md", "crates/*/README.md",
-         "cases/README.md")
+         "cases/README.md", "bindings/**/README.md")
 FOR_USERS = ("docs/USING.md", "docs/REFUSALS.md")
-SCRIPTS = ("alphamu", "build", "package/*", ".ci/run", "bench/*.py", "checks/*", "examples/**/*.py", "examples/**/*.sbatch")
+SCRIPTS = ("alphamu", "build", "package/*", ".ci/run", "bench/*.py", "checks/*", "checks/library/*", "bindings/**/*.h", "bindings/**/*.py",
+           "bindings/**/*.rs", "examples/library/*.c", "examples/library/*.rs", "examples/**/*.py", "examples/**/*.sbatch")
 SOURCES = ("crates/*/src/**/*.rt", "crates/*/specs/**/*.antt", "crates/*/proofs/**/*.antt")
 # Options of other programs that the pages name: of rt, GNU parallel, Slurm, git and valgrind.
 OTHER_OPTIONS = frozenset("""--help --version --only --test --jobs --start --allow-holes --fail-alloc --anew --resume
@@ -41,7 +42,8 @@ OTHER_STATUSES = frozenset((64, 70, 124, 129, 130, 131, 137, 143, 255))
 OTHER_NAMES = frozenset("JobID ExitCode ServerAliveInterval ServerAliveCountMax start_lib".split())
 # A file that FIRST-CHANGE has its reader write and remove again; the packages, and what lies in them.
 OTHER_FILES = frozenset("""crates/card_letters/must-fail/jack_read_as_ten.edit out/alphamu-VERSION-linux-x86_64.tar.gz
-    out/alphamu_VERSION_amd64.deb lib/alphamu/alphamu share/doc/alphamu share/doc/alphamu/BUILD""".split())
+    out/alphamu_VERSION_amd64.deb lib/alphamu/alphamu share/doc/alphamu share/doc/alphamu/BUILD share/alphamu/python
+    share/alphamu/rust""".split())
 ENDINGS = (".md", ".py", ".rt", ".antt", ".cpp", ".edit", ".sbatch")
 NAME = re.compile(r"(?:[A-Za-z]\w*::)*[A-Za-z]\w*")
 

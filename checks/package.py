@@ -1,11 +1,11 @@
 #!/usr/bin/env python3
 """Makes the packages by ./build package and tries them: in a folder into which the .tar.gz is unpacked, and in an empty root into
 which dpkg installs the Debian package. In both the front page's first question is answered without the toolchain on the path, the
-checksums of BUILD agree, and the man page is well formed and has each job, option and status. A closed pipe is a failed write.
-After dpkg has removed the package nothing is left. What needs a command that isn't there, or the right to install, is left out,
-with a line.
+library's example is linked as pkg-config says and gives the same in C and Python, the checksums of BUILD agree, and the man page is
+well formed and has each job, option and status. A closed pipe is a failed write. After dpkg has removed the package nothing is left.
+What needs a command that isn't there, or the right to install, is left out, with a line.
 
-There must be a current proved program, which ./build makes."""
+There must be a current proved program and library, which ./build and ./build library make."""
 import gzip
 import os
 import pathlib
@@ -55,11 +55,27 @@ def try_answer(prefix):
     expect(f"{prefix}: a closed pipe: {found}", (found.returncode, found.stderr) == (8, b"alphamu: cannot write\n"))
 
 
+def try_library(prefix):
+    """The example of the library in C, linked against what is installed, and in Python: both print the same."""
+    example, env = prefix / DOCS / "examples/library/ending", {"PATH": "/usr/bin:/bin", "PYTHONDONTWRITEBYTECODE": "1"}
+    if shutil.which("cc") is None or shutil.which("pkg-config") is None:
+        left_out.append("the library isn't linked: that takes cc and pkg-config")
+        return
+    env |= {"PKG_CONFIG_PATH": str(prefix / "lib/pkgconfig"), "LD_LIBRARY_PATH": str(prefix / "lib"),
+            "PYTHONPATH": str(prefix / "share/alphamu/python")}
+    with tempfile.TemporaryDirectory() as room:
+        found = run(["sh", "-c", 'cc "$0.c" $(pkg-config --cflags --libs alphamu) -o "$1"', example, f"{room}/ending"], env=env)
+        expect(f"{prefix}: linking: {found.stdout}", (found.returncode, found.stdout) == (0, ""))
+        in_c, in_python = (run([it], env=env) for it in (f"{room}/ending", f"{example}.py"))
+    is_right = in_c.returncode == 0 and in_c.stdout == in_python.stdout and in_c.stdout.endswith("\nplay S3\n")
+    expect(f"{prefix}: the library: {in_c.stdout!r} {in_python.stdout!r}", is_right)
+
+
 def try_sums(prefix):
     found = run(["sha256sum", "--check", "--quiet", "--strict", f"{DOCS}/BUILD"], cwd=prefix)
     expect(f"{prefix}: checksums: {found.stdout}", found.returncode == 0)
     listed = re.findall(r"^[0-9a-f]{64}  (.*)$", (prefix / DOCS / "BUILD").read_text(), re.M)
-    there = {str(it.relative_to(prefix)) for it in prefix.rglob("*") if it.is_file()}
+    there = {str(it.relative_to(prefix)) for it in prefix.rglob("*") if it.is_file() and not it.is_symlink()}
     expect(f"{prefix}: BUILD lists other files than there are", set(listed) | {f"{DOCS}/BUILD"} == there)
 
 
@@ -89,7 +105,7 @@ def try_tar(folder, made):
     with tarfile.open(made) as tar:
         tar.extractall(folder, filter="data")
     prefix = next(folder.iterdir())
-    for it in (try_answer, try_sums, try_links, try_man_page):
+    for it in (try_answer, try_library, try_sums, try_links, try_man_page):
         it(prefix)
 
 
@@ -101,8 +117,8 @@ def try_deb(root, made):
     (root / "var/lib/dpkg/status").touch()
     found = run(["dpkg", f"--root={root}", "--force-depends", "--install", made])
     expect(f"dpkg --install: {found.stdout}", found.returncode == 0)
-    try_answer(root / "usr")
-    try_sums(root / "usr")
+    for it in (try_answer, try_library, try_sums):
+        it(root / "usr")
     found = run(["dpkg", f"--root={root}", "--verify", "alphamu"])
     expect(f"dpkg --verify: {found.stdout}", (found.returncode, found.stdout) == (0, ""))
     found = run(["dpkg", f"--root={root}", "--purge", "alphamu"])
