@@ -11,9 +11,11 @@ Makes libalphamu.a and libalphamu.so of what `rt ci` or ./build library proved, 
               it is there
     examples  the programs of examples/library in C, Python and Rust print what the front page shows
     page      the Python of docs/PROGRAMS.md gives what the page says of its ending
-    threads   8 threads with a stack of 256 KiB ask 2,000 questions each, in less than 60 seconds; and one asks deep questions
+    threads   8 threads with a stack of 512 KiB ask 2,000 questions each, in less than 60 seconds of the processor; and one asks deep
+              questions
     memory    each allocation of a call fails in turn: the call runs out of memory or is right, and nothing is lost, also by valgrind
     hostile   a million calls by bits of sound, spoiled and senseless questions (checks/library/hostile.c), in less than 60 seconds
+              of the processor
 
 A language or a tool that isn't there is left out, with a line. The exit status is 0 only if nothing is wrong."""
 import argparse
@@ -22,6 +24,7 @@ import dataclasses
 import os
 import pathlib
 import re
+import resource
 import shutil
 import subprocess
 import sys
@@ -51,8 +54,9 @@ LEAST = 240
 # What the threads and the failing allocations leave out: cases that take long, and more questions than are needed.
 LONGEST, MOST_IN_TURN = 100_000, 24
 THREADS, EACH, SECONDS = 8, 2000, 60
-DEEP = (("discard/deal.pbn", "discard/layouts.lay"), ("squeeze-or-finesse/deal.pbn", "squeeze-or-finesse/layouts.lay"),
-        ("two-way-finesse/deal.pbn", "two-way-finesse/layouts.lay"))
+# Examples that are asked with all moves. The first is asked once more as a whole deal, after the opening lead.
+DEEP = ("discard", "squeeze-or-finesse", "two-way-finesse")
+FIRST_ROW = re.compile(rb"^SJ SA(?s:.*)^\*$", re.M)
 
 
 class Trial:
@@ -100,10 +104,11 @@ class Trial:
         return alphamu
 
     def lasting(self, name, words):
-        """Runs a program that has to be right, and in time."""
-        began = time.monotonic()
+        """Runs a program that has to be right, and in time. The time is the processor's, which other work changes little."""
+        before = resource.getrusage(resource.RUSAGE_CHILDREN)
         found = self.run(words)
-        took = time.monotonic() - began
+        after = resource.getrusage(resource.RUSAGE_CHILDREN)
+        took = after.ru_utime + after.ru_stime - before.ru_utime - before.ru_stime
         self.expect(f"{name}: {found.stdout}", found.returncode == 0)
         self.expect(f"{name}: {took:.0f} seconds", took < SECONDS)
         self.done.append(f"{found.stdout.strip().splitlines()[-1] if found.stdout.strip() else 'no line'}, {took:.1f} s")
@@ -230,13 +235,14 @@ def records(trial, most):
 
 def deep(trial):
     """Questions with all moves planned, which need the most stack, with the answers that they have in a thread with more of it."""
-    for name in DEEP:
-        files = tuple((TOP / "examples" / it).read_bytes() for it in name)
-        asked = library_cases.Asked(str(name), "card", files, 26, library_cases.NODES, 0, b"")
-        found, status = trial.by_text(asked)
-        yield library_bits.record_of(dataclasses.replace(asked, text=found, status=status))
-        # The card alone: with all moves, worths take long.
-        yield next(library_bits.Compared(trial.alphamu, asked, False).records())
+    found = [tuple((TOP / "examples" / folder / it).read_bytes() for it in ("deal.pbn", "layouts.lay")) for folder in DEEP]
+    deal, layouts = found[0]
+    whole = FIRST_ROW.sub(b"SJ - - -\n*", deal), layouts
+    for files in (*found, whole):
+        asked = library_cases.Asked("deep", "card", files, 26, library_cases.NODES, 0, b"")
+        text, status = trial.by_text(asked)
+        yield library_bits.record_of(dataclasses.replace(asked, text=text, status=status))
+        yield from library_bits.Compared(trial.alphamu, asked, False).records()
 
 
 def in_threads(trial):
@@ -246,8 +252,9 @@ def in_threads(trial):
     if program:
         library_bits.write(trial.room / "mixed", records(trial, len(trial.asked)))
         trial.lasting("threads", [program, trial.room / "mixed", str(THREADS), str(EACH)])
-        library_bits.write(trial.room / "deep", list(deep(trial)))
-        trial.lasting("deep questions", [program, trial.room / "deep", "1", "50"])
+        found = list(deep(trial))
+        library_bits.write(trial.room / "deep", found)
+        trial.lasting("deep questions", [program, trial.room / "deep", "1", str(len(found))])
 
 
 def in_little_memory(trial):

@@ -1,5 +1,5 @@
 /* threads FILE THREADS COUNT [KIB]: asks the questions of a file from many threads at once, COUNT in each, and compares the answers.
- * Each thread has the stack that the header asks for, 256 KiB, or one of KIB, and begins at another question. */
+ * Each thread has the stack that the header asks for, 512 KiB, or one of KIB, and begins at another question. */
 #include "questions.h"
 #include <pthread.h>
 #include <stdio.h>
@@ -31,7 +31,7 @@ int main(int argc, char **argv) {
     pthread_t *started = malloc(threads * sizeof *started);
     pthread_attr_t with;
     pthread_attr_init(&with);
-    pthread_attr_setstacksize(&with, (argc > 4 ? strtoul(argv[4], 0, 10) : 256) << 10);
+    pthread_attr_setstacksize(&with, (argc > 4 ? strtoul(argv[4], 0, 10) : 512) << 10);
     for (size_t i = 0; i < threads; i++)
         if (pthread_create(&started[i], &with, work, (void *)i)) return 70;
     for (size_t i = 0; i < threads; i++) {

@@ -15,7 +15,7 @@
 //! # Ok::<(), alphamu::Error>(())
 //! ```
 //!
-//! Nothing is kept between calls, so any number of threads may ask at once. Each needs a stack of 256 KiB.
+//! Nothing is kept between calls, so any number of threads may ask at once. Each needs a stack of 512 KiB.
 #![warn(missing_docs)]
 
 mod bits;
