@@ -1,4 +1,4 @@
-/* Microseconds a question, for bench/library.py: the least and the mean of COUNT times.
+/* Microseconds a question, for bench/library.py: the least and the mean of COUNT times, or of as many as fit into five seconds.
  *
  *     library process COUNT PROGRAM WORD..   a process for each, whose output is read through a pipe
  *     library calls COUNT FILE               a line for each question of the file, by the library's calls
@@ -18,7 +18,7 @@
 #include <dds/dll.h>
 #endif
 
-enum { ROOM = 1 << 23 };
+enum { ROOM = 1 << 23, ENOUGH = 5000000 };
 
 extern char **environ;
 
@@ -36,7 +36,8 @@ typedef struct {
 /* Prints what it takes to ask a question again and again. */
 static int measure(int count, way by, void *what) {
     double least = 1e18, all = 0;
-    for (int i = 0; i < count; i++) {
+    int asked = 0;
+    for (; asked < count && all < ENOUGH; asked++) {
         if (by.prepare && by.prepare(what)) return fprintf(stderr, "a question went wrong\n"), 1;
         double began = now();
         if (by.ask(what)) return fprintf(stderr, "a question went wrong\n"), 1;
@@ -44,7 +45,7 @@ static int measure(int count, way by, void *what) {
         all += took;
         if (took < least) least = took;
     }
-    printf("%.1f %.1f\n", least, all / count);
+    printf("%.1f %.1f\n", least, all / asked);
     return 0;
 }
 

@@ -2,7 +2,7 @@
 """library.py [COUNT]
 
 Times questions to the library beside a process for each question, in one run on one machine, and prints microseconds: the least of COUNT
-times (default 200) and, behind it, the mean. The least is what the work takes; the mean has what else the machine does.
+times (default 200), or of as many as fit into five seconds, and, behind it, the mean. The least is what the work takes; the mean has what else the machine does.
 
     process   the proved program, started by posix_spawn; its output is read through a pipe
     by text   the library's call with the same files, which gives the same bytes
