@@ -34,6 +34,7 @@ use Rattle.bit_letters.proofs.Written.{bits_back}
 use Rattle.am_report.proofs.PlainTexts.{card_text_plain}
 use Rattle.am_report.proofs.Versions.{sum_written, weight_stands, weight_plain}
 use Rattle.am_report.proofs.ReportSteps.{entry_read-plan}
+use Rattle.strategy_tree.proofs.BelowLimit.{is_number, number_is, below_limit}
 
 -- ---- the number of vectors
 
@@ -147,26 +148,6 @@ module _ (weights : List ℕ) (are : ArePrintableWeights weights) where
       ∙ ap (λ text. Ok (printed_entry weights entry ∷ map (printed_entry weights) entries, length text)) (append_assoc before text more)
 
 -- ---- the card to play
-
--- the option has this number
-abbrev is_number : Option ℕ → ℕ → Bool
-is_number None n = false
-is_number (Some m) n = m == n
-
-number_is : (o : Option ℕ) (n : ℕ) → is_number o n ≡ true → o ≡ Some n
-number_is None n h = absurd (false≢true h)
-number_is (Some m) n h = ap (λ x. Some x) ((Decides-eqb m n).0 h)
-
--- a test that each number below a limit passes
-below_limit : (p : ℕ → Bool) (limit n : ℕ) → list_all p (range_with_len 0 limit) ≡ true → n < limit → p n ≡ true
-below_limit p limit n all low = go (p n) refl
-  where
-    go : (b : Bool) → p n ≡ b → b ≡ true
-    go true is = refl
-    go false is =
-        let same : 0 + n ≡ n = omega arith in
-        let at : get_or (range_with_len 0 limit) n 0 ≡ n = get_or-range_with_len 0 limit n 0 low ∙ same in
-        absurd (false≢true (sym (list_all_at p (range_with_len 0 limit) n 0 (omega (arith, length-range_with_len 0 limit)) (rw at is)) ∙ all))
 
 -- the card that two letters at the front name
 abbrev card_ahead : List ℕ → Option ℕ

@@ -12,28 +12,7 @@ use Rattle.trick_rules.specs.Play.{is_declarers, hand_of, legal_in, cards_left}
 use Rattle.trick_rules.specs.Nodes.{NodeValue, IsNode, states, choices}
 use Rattle.trick_rules.proofs.PlayLaws as play
 use Rattle.strategy_games.proofs.Lists.{Contains-here}
-
--- three sets of which no two have a card in common
-three_sets : (xs ys zs : List ℕ) → IsCardSet xs → IsCardSet ys → IsCardSet zs → Apart xs ys → Apart xs zs → Apart ys zs → length xs + length ys + length zs ≤ 52
-three_sets xs ys zs x y z xy xz yz =
-    let both = cards_where (λ c. has_card xs c || has_card ys c) in
-    let all = cards_where (λ c. has_card both c || has_card zs c) in
-    omega (arith, length-either xs ys x y xy, length-either both zs (IsCardSet-cards_where _) z apart, length-le_52 all (IsCardSet-cards_where _))
-  where
-    either : (a b : Bool) → (a || b) ≡ true → (a ≡ true) ⊎ (b ≡ true)
-    either true b h = inl refl
-    either false b h = inr h
-
-    apart : Apart (cards_where (λ c. has_card xs c || has_card ys c)) zs
-    apart card h =
-        let low = has_card-below _ card (IsCardSet-cards_where (λ c. has_card xs c || has_card ys c)) h in
-        elim (either _ _ (sym (has_card-cards_where (λ c. has_card xs c || has_card ys c) card low) ∙ h)) [
-          | inl in_xs ↦ xz card in_xs
-          | inr in_ys ↦ yz card in_ys
-        ]
-
-pub cards_left-le_52 : (t : PositionValue) → IsSound t → cards_left t ≤ 52
-cards_left-le_52 t sound = three_sets t.declarer t.dummy t.unseen sound.declarer_set sound.dummy_set sound.unseen_set sound.declarer_dummy sound.declarer_unseen sound.dummy_unseen
+use Rattle.strategy_tree.proofs.PackSize.{cards_left-le_52}
 
 -- no more than fourteen tricks, which is enough here
 few_tricks : (t : PositionValue) → IsSound t → tricks_left t ≤ 14

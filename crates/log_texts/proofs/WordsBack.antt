@@ -23,6 +23,7 @@ use Rattle.bit_letters.specs.Bits.{bit_letter, is_bit}
 use Rattle.bit_letters.proofs.Written.{bits_back}
 use Rattle.log_texts.proofs.Cut.{is_above, piece_first, piece_last}
 use Rattle.log_texts.proofs.SaidPieces.{within}
+use Rattle.strategy_tree.proofs.BelowLimit.{is_number, number_is, below_limit}
 
 -- ---- high bytes
 
@@ -96,26 +97,6 @@ pub rule_back : (rule : Rule) → IsBack rule_said (rule_word rule) rule
 rule_back Leaf = (refl, refl)
 rule_back Union = (refl, refl)
 rule_back Join = (refl, refl)
-
--- the option has this number
-abbrev is_number : Option ℕ → ℕ → Bool
-is_number None n = false
-is_number (Some m) n = m == n
-
-number_is : (o : Option ℕ) (n : ℕ) → is_number o n ≡ true → o ≡ Some n
-number_is None n h = absurd (false≢true h)
-number_is (Some m) n h = ap (λ x. Some x) ((Decides-eqb m n).0 h)
-
--- a test that each number below a limit passes
-below_limit : (p : ℕ → Bool) (limit n : ℕ) → list_all p (range_with_len 0 limit) ≡ true → n < limit → p n ≡ true
-below_limit p limit n all low = go (p n) refl
-  where
-    go : (b : Bool) → p n ≡ b → b ≡ true
-    go true is = refl
-    go false is =
-        let same : 0 + n ≡ n = omega arith in
-        let at : get_or (range_with_len 0 limit) n 0 ≡ n = get_or-range_with_len 0 limit n 0 low ∙ same in
-        absurd (false≢true (sym (list_all_at p (range_with_len 0 limit) n 0 (omega (arith, length-range_with_len 0 limit)) (rw at is)) ∙ all))
 
 abbrev reads_card : ℕ → Bool
 reads_card card = is_number (card_named (letters_of card)) card && is_above 48 (letters_of card)

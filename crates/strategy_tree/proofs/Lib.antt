@@ -7,3 +7,5 @@ pub mod BridgeLaws
 pub mod BridgeNodes
 pub mod Printing
 pub mod Winning
+pub mod PackSize
+pub mod BelowLimit

@@ -1,12 +1,9 @@
 -- What is written of a plan is read back.
-use Rattle.std.proofs.Common.{◌≡◌, ℕ, suc, ◌+◌, ◌-◌, ◌<◌, ◌≤◌, Bool, true, false, ◌&&◌, ◌==◌, Option, Some, None, Result, Ok, List, ◌++◌, length, get_or, codes, refl, sym, ap, ◌∙◌, arith, append_assoc, append-nil}
+use Rattle.std.proofs.Common.{◌≡◌, ℕ, suc, ◌-◌, ◌<◌, ◌≤◌, Bool, true, ◌&&◌, Option, Some, Result, Ok, List, ◌++◌, length, codes, refl, sym, ap, ◌∙◌, arith, append_assoc, append-nil}
 use Rattle.std.specs.Option.{option_map, option_or}
 use Rattle.std.specs.List.{list_all, range_with_len}
 use Rattle.std.specs.Fmt.{decimal}
-use Rattle.std.proofs.lemmas.Bool.{false≢true, and_parts}
-use Rattle.std.proofs.lemmas.Bool.Decides.{Decides-eqb}
-use Rattle.std.proofs.lemmas.List.Folds.{list_all_at}
-use Rattle.std.proofs.lemmas.List.FromFn.{get_or-range_with_len, length-range_with_len}
+use Rattle.std.proofs.lemmas.Bool.{and_parts}
 use Rattle.card_letters.specs.Letters.{letters_of}
 use Rattle.strategy_games.specs.Plans as games
 use Rattle.strategy_games.specs.Plans.{Plan, Replies, cards_of}
@@ -17,29 +14,10 @@ use Rattle.strategy_tree.specs.PlanText.{stop_line, play_line, hear_line, on_lin
 use Rattle.strategy_tree.specs.PlanRead.{card_named, play_said, hear_said, plan_line, reply_line, replies_read, node_read, plan_read, most_levels}
 use Rattle.byte_text.proofs.ReadNumbers.{number_within-decimal}
 use Rattle.byte_text.proofs.PlainLines.{is_plain, decimal_plain, said_at-here}
+use Rattle.strategy_tree.proofs.BelowLimit.{is_number, number_is, below_limit}
 use Rattle.strategy_tree.proofs.ReadingNodes.{node_read-stop, node_read-play, node_read-hear}
 
 -- ---- what each line says
-
--- the option has this number
-abbrev is_number : Option ℕ → ℕ → Bool
-is_number None n = false
-is_number (Some m) n = m == n
-
-number_is : (o : Option ℕ) (n : ℕ) → is_number o n ≡ true → o ≡ Some n
-number_is None n h = absurd (false≢true h)
-number_is (Some m) n h = ap (λ x. Some x) ((Decides-eqb m n).0 h)
-
--- a test that each number below a limit passes
-below_limit : (p : ℕ → Bool) (limit n : ℕ) → list_all p (range_with_len 0 limit) ≡ true → n < limit → p n ≡ true
-below_limit p limit n all low = go (p n) refl
-  where
-    go : (b : Bool) → p n ≡ b → b ≡ true
-    go true is = refl
-    go false is =
-        let same : 0 + n ≡ n = omega arith in
-        let at : get_or (range_with_len 0 limit) n 0 ≡ n = get_or-range_with_len 0 limit n 0 low ∙ same in
-        absurd (false≢true (sym (list_all_at p (range_with_len 0 limit) n 0 (omega (arith, length-range_with_len 0 limit)) (rw at is)) ∙ all))
 
 -- each card is read from its two letters, which end no line
 abbrev reads_card : ℕ → Bool

@@ -4,7 +4,7 @@ use Rattle.trick_rules.specs.Play.{cards_left}
 use Rattle.trick_rules.specs.Nodes.{NodeValue, choices, child}
 use Rattle.strategy_tree.proofs.BridgeNodes.{cards_left-child}
 use Rattle.strategy_tree.proofs.CardLists.{has_card-from_Contains}
-use Rattle.log_maker.proofs.RootCards.{cards_left-le_52}
+use Rattle.strategy_tree.proofs.PackSize.{cards_left-le_52}
 use Rattle.log_maker.proofs.tree_writer.TreeWriter.write_after.Goals as goal
 
 pub write_node-requires-clause-path : goal.write_node-requires-clause-path
