@@ -42,7 +42,8 @@ fn keep_result(solver: &mut Solver, position: &Position, left: CardSet) -> Card
 
 /// The card of declarer's side by a plan, where play isn't over.
 pub fn card_by_plan(solver: &mut Solver, plan: &Plan, position: &Position, left: CardSet) -> Card
-    requires follow { CanFollow (plan_of plan.now) (record { position = position.now; left = left }) }
+    requires follow { CanFollow (plan_of plan.now)
+        (record { position = position.now; left = left }) }
     requires going_on { is_over position.now ≡ false }
     ensures by_plan { IsByPlan (plan_of plan.now) (record { position = position.now; left = left })
         result }

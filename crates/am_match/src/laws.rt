@@ -1,5 +1,5 @@
-//! What the definitions come to. The function does nothing: its contract is the law, proved from the
-//! definitions alone.
+//! What the definitions come to. The function does nothing: its contract is the law, proved from
+//! the definitions alone.
 ghost use Rattle.std.specs.Prelude.{◌≡◌, ℕ, true, List, Contains};
 ghost use Rattle.trick_rules.specs.Positions.{State};
 ghost use Rattle.trick_rules.specs.Nodes.{NodeValue, IsNode, states};

@@ -55,8 +55,8 @@ pub fn a_bit_of_1_is_made()
 {}
 
 /// A root and a number of moves have one report, one card and one log, a number has one summary of
-/// its problem, and all games of a deal file have one text of their reports: no number of workers, size of the table, rule of cuts or number of nodes changes a
-/// byte.
+/// its problem, and all games of a deal file have one text of their reports: no number of workers,
+/// size of the table, rule of cuts or number of nodes changes a byte.
 pub fn one_text()
     ensures solve { (root : Root) (moves : ℕ) (search other : Search) (text more : List ℕ)
         → IsText (Solve root moves search) text → IsText (Solve root moves other) more

@@ -74,7 +74,8 @@ impl<F: Fn(u32, &Problem, &mut Pass) -> Outcome + Sync + Drop> Work for BatchWor
 }
 
 impl<F: Fn(u32, &Problem, &mut Pass) -> Outcome + Sync + Drop> BatchWork<'_, F> {
-    /// What a worker found of the problem at a place, or else what solving it now gives, as worker 0.
+    /// What a worker found of the problem at a place, or else what solving it now gives, as
+    /// worker 0.
     pub fn outcome_at(
         &self,
         pass: &mut Pass,

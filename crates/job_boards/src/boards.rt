@@ -52,9 +52,9 @@ fn answers_of<R: Threads + Sync, G: Gate>(
 /// moves of declarer's side. A game whose board, layouts or turn are refused has a line that says
 /// so in its place.
 ///
-/// Refused with `GameSpent` at a game's root card whose tree has more nodes than a search may enter,
-/// in a plain search the first such card of the first such game; or with `Memory`. The workers, who
-/// share the games, and the gate change nothing of the text.
+/// Refused with `GameSpent` at a game's root card whose tree has more nodes than a search may
+/// enter, in a plain search the first such card of the first such game; or with `Memory`. The
+/// workers, who share the games, and the gate change nothing of the text.
 pub fn solve_boards<R: Threads + Sync, G: Gate>(
     rt: &R,
     alloc: Global,

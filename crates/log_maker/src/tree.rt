@@ -1,5 +1,5 @@
-//! αμ without cuts, line by line: a union at declarer's nodes and a join at a defender's, each behind
-//! the lines of the node's children.
+//! αμ without cuts, line by line: a union at declarer's nodes and a join at a defender's, each
+//! after the lines of the node's children.
 ghost use Rattle.std.specs.Prelude.{◌≡◌, ◌≤◌, ◌+◌, [], true, false, length, IfOk, IsErrOf};
 ghost use Rattle.trick_rules.specs.Positions.{to_play};
 ghost use Rattle.trick_rules.specs.Play.{is_declarers, cards_left};
