@@ -5,7 +5,7 @@ ghost use Rattle.front_table.specs.Proven.{IsFrontAt};
 
 use crate::endings::ENUMERATED;
 use crate::given::{GUESS, assert_vectors, card, front_of, node_of, number};
-use crate::stores::{AlwaysBusy, Forgetful};
+use crate::stores::Useless;
 use alphamu_core::{Budget, Found, SearchFault, search};
 use cut_rules::{CutRules, Stop};
 use dd_solver::Solver;
@@ -70,8 +70,8 @@ fn assert_ten_nodes<S: FrontStore>(
 #[test]
 fn ten_nodes_over_each_store(rt: HostRuntime) -> Result<(), Fail> {
     assert_ten_nodes(&rt, rt.alloc(), &mut NoStore)?;
-    assert_ten_nodes(&rt, rt.alloc(), &mut Forgetful)?;
-    assert_ten_nodes(&rt, rt.alloc(), &mut AlwaysBusy)
+    assert_ten_nodes(&rt, rt.alloc(), &mut Useless::Forgetful)?;
+    assert_ten_nodes(&rt, rt.alloc(), &mut Useless::AlwaysBusy)
 }
 
 /// What a search with each cut finds, in ample memory and within `nodes` nodes.

@@ -3,35 +3,14 @@ use front_table::{FrontStore, Look, ProvenFront, Put};
 use pareto_fronts::Front;
 use trick_rules::Node;
 
-/// Misses always, and keeps nothing.
+/// A store that never has a front: it keeps nothing, or somebody else is always inside.
 #[derive(Drop)]
-pub struct Forgetful;
-
-impl FrontStore for Forgetful {
-    ghost use Rattle.std.specs.Prelude.{⊤, false};
-
-    ghost blind = { false };
-
-    ghost grown = { λ _ _. ⊤ };
-
-    ghost grown_none = { λ _. tt };
-
-    ghost grown_more = { λ _ _ _ _ _. tt };
-
-    fn look(&mut self, _node: &Node, _moves: u8, _out: &mut Front) -> Look {
-        Look::Miss
-    }
-
-    fn put(&mut self, entry: ProvenFront) -> Put {
-        Put::Full(entry)
-    }
+pub enum Useless {
+    Forgetful,
+    AlwaysBusy,
 }
 
-/// Somebody else is always inside.
-#[derive(Drop)]
-pub struct AlwaysBusy;
-
-impl FrontStore for AlwaysBusy {
+impl FrontStore for Useless {
     ghost use Rattle.std.specs.Prelude.{⊤, false};
 
     ghost blind = { false };
@@ -43,10 +22,16 @@ impl FrontStore for AlwaysBusy {
     ghost grown_more = { λ _ _ _ _ _. tt };
 
     fn look(&mut self, _node: &Node, _moves: u8, _out: &mut Front) -> Look {
-        Look::Busy
+        match self {
+            Useless::Forgetful => Look::Miss,
+            Useless::AlwaysBusy => Look::Busy,
+        }
     }
 
     fn put(&mut self, entry: ProvenFront) -> Put {
-        Put::Busy(entry)
+        match self {
+            Useless::Forgetful => Put::Full(entry),
+            Useless::AlwaysBusy => Put::Busy(entry),
+        }
     }
 }

@@ -5,12 +5,4 @@
 #![tactic(auto)]
 
 #[cfg(test)]
-mod failures;
-#[cfg(test)]
-mod matches;
-#[cfg(test)]
-mod outside;
-#[cfg(test)]
-mod queen;
-#[cfg(test)]
-mod workers;
+mod tests;

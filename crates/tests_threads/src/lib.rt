@@ -5,16 +5,4 @@
 #![tactic(auto)]
 
 #[cfg(test)]
-mod boards;
-#[cfg(test)]
-mod endings;
-#[cfg(test)]
-mod gates;
-#[cfg(test)]
-mod roots;
-#[cfg(test)]
-mod tables;
-#[cfg(test)]
-mod threads;
-#[cfg(test)]
-mod tickets;
+mod tests;

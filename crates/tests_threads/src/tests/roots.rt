@@ -2,8 +2,8 @@
 //! were worked out by hand.
 ghost use Rattle.shared_table.specs.Passes.{IsPassOf};
 
-use crate::endings::{after_seven, guess, spade};
-use crate::gates::{Count, Meeting};
+use super::endings::{after_seven, guess, spade};
+use super::gates::{Count, Meeting};
 use alphamu_core::RootFault;
 use am_outside::{Gate, OpenGate};
 use card_sets::Card;

@@ -1,7 +1,7 @@
 //! Workers side by side, as a gate sees them.
 ghost use Rattle.std.specs.Prelude.{◌≤◌};
 
-use crate::queen::{QUEEN, QUEEN_LAYOUTS, QUEEN_REPORT, ran, ran_at, shelf_of};
+use super::queen::{QUEEN, QUEEN_LAYOUTS, QUEEN_REPORT, ran, ran_at, shelf_of};
 use am_outside::{Gate, MemoryShelf};
 use am_top::Status;
 use card_sets::{Card, Rank, Suit};

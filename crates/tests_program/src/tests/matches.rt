@@ -1,6 +1,6 @@
 //! What the defenders at the table have heard of a match. The cards were worked out by the laws of
 //! bridge, apart from the program.
-use crate::queen::{QUEEN, QUEEN_LAYOUTS, Sinks, ended, shelf_of, words_of};
+use super::queen::{QUEEN, QUEEN_LAYOUTS, Sinks, ended, shelf_of, words_of};
 use am_match::Defender;
 use am_outside::OpenGate;
 use am_top::Status;

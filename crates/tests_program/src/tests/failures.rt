@@ -1,5 +1,5 @@
 //! Reads and writes that fail.
-use crate::queen::{QUEEN, QUEEN_LAYOUTS, QUEEN_REPORT, Sinks, ended, shelf_of, words_of};
+use super::queen::{QUEEN, QUEEN_LAYOUTS, QUEEN_REPORT, Sinks, ended, shelf_of, words_of};
 use am_outside::{MemorySink, OpenGate};
 use am_top::{FileWord, PbnKind, Status};
 use byte_text::Text;

@@ -1,8 +1,8 @@
 //! Two problems in one run. The fronts, the cards and the numbers of nodes were worked out by hand.
 ghost use Rattle.board_batch.specs.Problems.{IsProblem};
 
-use crate::endings::{guess, no_guess, spade};
-use crate::gates::Company;
+use super::endings::{guess, no_guess, spade};
+use super::gates::Company;
 use am_outside::{Gate, OpenGate};
 use board_batch::{BatchFault, Problem, run_boards};
 use root_answers::WrittenAnswer;

@@ -2,7 +2,7 @@
 ghost use Rattle.std.specs.Prelude.{◌≡◌, ◌≤◌, IfOk, length};
 ghost use Rattle.front_table.specs.Entries.{most_entry_vectors};
 
-use crate::endings::{after_two, guess};
+use super::endings::{after_two, guess};
 use alphamu_core::{Budget, Found, search};
 use cut_rules::{CutRules, Stop};
 use dd_solver::Solver;
