@@ -2,6 +2,7 @@
 ghost use Rattle.std.specs.Prelude.{◌≡◌, ◌≢◌, ◌<◌, ◌-◌, ◌^◌, false, length, Ok, IfOk, IfErr, IfSome, IsErrOf, List, ℕ};
 ghost use Rattle.std.specs.Io.KnownBytes.{append_known};
 ghost use Rattle.am_outside.specs.Faults.{Rose};
+ghost use Rattle.am_outside.specs.Sink.{AppendsPart};
 ghost use Rattle.job_words.specs.Asks.{texts_of};
 ghost use Rattle.am_answer.specs.Lines.{status_line};
 ghost use Rattle.am_answer.specs.Refusals.{IsUnread};
@@ -86,6 +87,9 @@ pub fn run_study<S: Shelf, O: Sink, E: Sink>(
     ensures refused { IfSome (S.told shelf.old) (λ files.
         (result ≢ Status.Done) → (result ≢ Status.Unwritten)
         → IsStudyRefusal (as_check false (texts_of words.now)) files result) }
+    ensures part { IfSome (S.told shelf.old) (λ files. result ≡ Status.Unwritten
+        → (text : List ℕ) × IsStudyText (as_check false (texts_of words.now)) files text
+        × AppendsPart (O.told out.old) text (O.told out.new)) }
     ensures untouched { (result ≢ Status.Done) → (result ≢ Status.Unwritten) → out.new ≡ out.old }
     ensures unread { (file : FileWord) → result ≡ Status.Unread file
         → IsUnread (S.told shelf.old) (as_check false (texts_of words.now)) (S.faults shelf.old)
