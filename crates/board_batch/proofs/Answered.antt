@@ -87,6 +87,5 @@ module _ (problems : List Problem) (moves : ℕ) where
       problem = p;
       here = here_next i place p answers so inside here at;
       numbered = numbered;
-      spent = spent;
-      earlier = subst (λ k. AllProblemsFit (take k problems) moves nodes) (sym (counted i place answers so inside at)) fits;
+      spent = (spent, subst (λ k. AllProblemsFit (take k problems) moves nodes) (sym (counted i place answers so inside at)) fits);
     }

@@ -22,19 +22,19 @@ pub record AreAnswers (problems : List Problem) (moves : ℕ) (answers : List Wr
 abbrev pub AllProblemsFit : List Problem → ℕ → ℕ → Type 0
 AllProblemsFit problems moves nodes = All (λ p. AllFit p.node.now moves nodes) problems
 
--- the problem of this number has this root card, and the tree after it is too large
-pub record IsSpentIn (problems : List Problem) (moves nodes number card : ℕ) : Type 0 where
+-- some problem has this number, and it has this at its place
+pub record HasProblem (problems : List Problem) (number : ℕ) (so : ℕ → Problem → Type 0) : Type 0 where
   pub place : ℕ
   pub problem : Problem
   pub here : slice_get problems place ≡ Some problem
   pub numbered : number ≡ problem.number
-  pub spent : IsSpentAt problem.node.now moves nodes card
+  pub spent : so place problem
+
+-- the problem of this number has this root card, and the tree after it is too large
+abbrev pub IsSpentIn : List Problem → ℕ → ℕ → ℕ → ℕ → Type 0
+IsSpentIn problems moves nodes number card = HasProblem problems number (λ place problem. IsSpentAt problem.node.now moves nodes card)
 
 -- the first problem with a tree that is too large, by its number, and the first such root card of it
-pub record IsFirstSpentIn (problems : List Problem) (moves nodes number card : ℕ) : Type 0 where
-  pub place : ℕ
-  pub problem : Problem
-  pub here : slice_get problems place ≡ Some problem
-  pub numbered : number ≡ problem.number
-  pub spent : IsFirstSpentAt problem.node.now moves nodes card
-  pub earlier : AllProblemsFit (take place problems) moves nodes
+abbrev pub IsFirstSpentIn : List Problem → ℕ → ℕ → ℕ → ℕ → Type 0
+IsFirstSpentIn problems moves nodes number card =
+    HasProblem problems number (λ place problem. IsFirstSpentAt problem.node.now moves nodes card × AllProblemsFit (take place problems) moves nodes)

@@ -83,8 +83,8 @@ module _ (games : List (Result Root Status)) (problems : List Problem) (moves : 
       let games-same : its.game ≡ game = omega (arith, its.numbered, is.numbered, counted) in
       let its-there : slice_get games game ≡ Some (Ok its.root) = subst (λ k. slice_get games k ≡ Some (Ok its.root)) games-same its.there in
       let node : is.problem.node.now ≡ root.kept.node = its.node ∙ ap (λ (r : Root). r.kept.node) (root-same its.root root (slice_get games game) its-there there) in
-      let fit : AllGamesFit (take its.game games) moves nodes = all-fit 1 (take its.game games) (take is.place problems) moves nodes its.earlier is.earlier in (
-        subst (λ k. IsFirstSpentAt root.kept.node moves k card) same (subst (λ n. IsFirstSpentAt n moves nodes card) node is.spent),
+      let fit : AllGamesFit (take its.game games) moves nodes = all-fit 1 (take its.game games) (take is.place problems) moves nodes its.earlier is.spent.1 in (
+        subst (λ k. IsFirstSpentAt root.kept.node moves k card) same (subst (λ n. IsFirstSpentAt n moves nodes card) node is.spent.0),
         subst (λ k. AllGamesFit (take game games) moves k) same (subst (λ k. AllGamesFit (take k games) moves nodes) games-same fit),
       )
 
