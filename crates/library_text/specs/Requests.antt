@@ -1,9 +1,10 @@
 -- What is asked of files in memory, and the job that they lead to, as words and files lead the program to it.
-use Rattle.std.specs.Prelude.{◌≡◌, ℕ, not, ◌&&◌, true, nat_lt, List as Listed, Some, Result, Ok, Err, if◌then◌else◌}
+use Rattle.std.specs.Prelude.{◌≡◌, ℕ, not, ◌&&◌, nat_lt, List as Listed, Some, Result, Ok, Err, if◌then◌else◌}
 use Rattle.std.specs.Borrow.{Bor}
 use Rattle.trick_rules.specs.Nodes.{most_moves}
 use Rattle.job_words.specs.declared.asks.Search.{Search}
 use Rattle.job_words.specs.declared.asks.LayoutsJob.TheVariants as jobs
+use Rattle.job_words.specs.Plain.{plain_search}
 use Rattle.am_answer.specs.declared.root.Root.{Root}
 use Rattle.am_answer.specs.declared.status.FileWord.TheVariants as files
 use Rattle.am_answer.specs.declared.status.Status.{Status}
@@ -31,7 +32,7 @@ request_of (Check deal layouts report) = Check deal.now layouts.now report.now
 
 -- the caller alone searches, with the table and the cuts that the program takes by itself
 abbrev pub alone : ℕ → Search
-alone nodes = record { nodes = nodes; workers = 1; shards = 16; room = 16384; table = true; cuts = true }
+alone nodes = record plain_search { nodes = nodes }
 
 -- the search of 1 to 26 moves and 1 node or more
 abbrev pub search_by : ℕ → ℕ → Result Search Status
