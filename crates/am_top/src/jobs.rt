@@ -18,9 +18,10 @@ use job_fusion::sample_text;
 use job_list::list_layouts;
 use job_match::{Match, play_match};
 use job_prove::prove_front;
-use job_search::{Made, name_card, solve, summarize};
+use job_search::{Made, RootJob, name_card, solve, summarize};
 use job_words::{Ask, LayoutsJob, Search};
 use layout_maker::made_problem;
+use root_workers::{InThreads, searched_in_threads};
 use std::alloc::Global;
 use std::thread::Threads;
 
@@ -47,9 +48,22 @@ fn text_at<R: Threads + Sync, G: Gate>(
     ensures untouched { IfErr result (λ status.
         status ≢ Status.Memory → table.new ≡ table.old) }
 {
+    let crew = InThreads {
+        rt,
+        gate,
+        search: searched_in_threads,
+    };
     match job {
-        LayoutsJob::Solve { moves, search } => solve(rt, alloc, root, *moves, search, gate),
-        LayoutsJob::Card { moves, search } => name_card(rt, alloc, root, *moves, search, gate),
+        LayoutsJob::Solve { moves, search } => {
+            let moves = *moves;
+            let asked = RootJob { root, moves, search };
+            solve(&crew, alloc, &asked)
+        }
+        LayoutsJob::Card { moves, search } => {
+            let moves = *moves;
+            let asked = RootJob { root, moves, search };
+            name_card(&crew, alloc, &asked)
+        }
         LayoutsJob::Match {
             moves,
             search,
@@ -63,7 +77,7 @@ fn text_at<R: Threads + Sync, G: Gate>(
                 layout: *layout,
                 switch: *switch,
             };
-            play_match(rt, alloc, &played, gate, table)
+            play_match(&crew, alloc, &played, table)
         }
         LayoutsJob::Fusion => Ok(sample_text(rt, alloc, root)?),
         LayoutsJob::Check { report } => check_report(alloc, root, report),
@@ -103,7 +117,12 @@ fn solve_made<R: Threads + Sync, G: Gate>(
         root: &root,
         moves: made.moves,
     };
-    summarize(rt, alloc, &job, search, gate)
+    let crew = InThreads {
+        rt,
+        gate,
+        search: searched_in_threads,
+    };
+    summarize(&crew, alloc, &job, search)
 }
 
 /// The text of the job that the files lead to, or why there is none. A match is played at the

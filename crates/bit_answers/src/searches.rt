@@ -15,7 +15,7 @@ use card_sets::Card;
 use cut_rules::{CutRules, Stop};
 use dd_solver::Solver;
 use pareto_fronts::Front;
-use root_workers::{Alone, Options, Question, RootCard, root_card_with, root_front_with};
+use root_workers::{Alone, Options, Question, RootCard};
 use shared_table::{Pass, SharedStore, SharedTable};
 use std::alloc::{AllocError, Global};
 
@@ -50,7 +50,7 @@ pub fn root_card(alloc: Global, asked: &Asked) -> Result<RootCard, RootFault>
         options: &options,
         table: &table,
     };
-    root_card_with(&Alone, &question, &mut pass, &OpenGate)
+    question.card(&Alone { gate: &OpenGate }, &mut pass)
 }
 
 /// The front.
@@ -74,10 +74,8 @@ pub fn root_front(alloc: Global, asked: &Asked) -> Result<Front, RootFault>
         options: &options,
         table: &table,
     };
-    match root_front_with(&Alone, &question, &mut pass, &OpenGate) {
-        Ok(found) => Ok(found.front),
-        Err(fault) => Err(fault),
-    }
+    let found = question.front(&Alone { gate: &OpenGate }, &mut pass)?;
+    Ok(found.front)
 }
 
 /// The front after a root card, whole, whatever the other cards win.

@@ -163,7 +163,7 @@ pub fn run_boards<R: Threads + Sync, G: Gate>(
             × IsBatch batch.now }
         ensures { IsOutcome batch.entry.now problem.now result
             × IsPassOf batch.entry.now.table.now pass.new × HasSeenMore pass.old pass.new }
-    { solved(rt, batch, gate, worker, pass, problem) };
+    { solved(batch, gate, worker, pass, problem) };
     let work = BatchWork {
         batch,
         places: problems.len() as u32,

@@ -9,8 +9,8 @@ use crate::batch_work::Outcome;
 use am_outside::Gate;
 use card_sets::Card;
 use root_answers::written_root;
+use root_workers::{Alone, Question};
 use shared_table::Pass;
-use std::thread::Threads;
 
 // A gate that hears the number of the batch's worker.
 #[derive(Drop)]
@@ -29,9 +29,8 @@ impl<G: Gate> Gate for At<'_, G> {
     }
 }
 
-/// What the search of a problem ends with.
-pub fn solved<R: Threads + Sync, G: Gate>(
-    rt: &R,
+/// What the search of a problem ends with, by the caller alone.
+pub fn solved<G: Gate>(
     batch: &Batch,
     gate: &G,
     worker: u32,
@@ -46,22 +45,13 @@ pub fn solved<R: Threads + Sync, G: Gate>(
     ensures grown { HasSeenMore pass.old pass.new }
 {
     let at = At { gate, worker };
-    let Batch {
-        alloc,
-        moves,
-        options,
-        table,
-        ..
-    } = batch;
-    written_root(
-        rt,
-        *alloc,
-        problem.node,
-        *moves,
-        problem.weights,
-        options,
-        table,
-        pass,
-        &at,
-    )
+    let question = Question {
+        alloc: batch.alloc,
+        node: problem.node,
+        moves: batch.moves,
+        weights: problem.weights,
+        options: &batch.options,
+        table: batch.table,
+    };
+    written_root(&Alone { gate: &at }, &question, pass)
 }

@@ -8,15 +8,14 @@ ghost use Rattle.am_answer.specs.Stages.{IsTaskRefusal, IsTextForAt};
 
 use am_answer::{Root, Status};
 use am_match::{Defender, Swap, play_out};
-use am_outside::Gate;
 use am_report::{Entry, match_text};
 use byte_text::Text;
 use card_sets::Seat;
 use dd_solver::Solver;
-use job_search::first_strategy;
+use job_search::{RootJob, first_strategy};
 use job_words::Search;
+use root_workers::RootCrew;
 use std::alloc::{AllocError, Global};
-use std::thread::Threads;
 
 // The place of a layout among the kept ones, counted from 0.
 fn place_of(layout: u16, root: &Root) -> Option<usize>
@@ -106,13 +105,13 @@ fn played_text(
 ///
 /// Errors: `NoLayout` if the layout of the number isn't kept, and otherwise those of `solve`. The
 /// table is left as it was, unless an allocation fails.
-pub fn play_match<R: Threads + Sync, G: Gate>(
-    rt: &R,
+pub fn play_match<C: RootCrew>(
+    crew: &C,
     alloc: Global,
     job: &Match<'_>,
-    gate: &G,
     table: &mut Vec<Box<dyn Defender>>,
 ) -> Result<Text, Status>
+    requires ready { C.ready crew.now }
     requires turn { has_choice job.now.root.now.kept.node ≡ true }
     requires as_many { length job.now.root.now.kept.numbers
         ≡ length job.now.root.now.kept.node.lefts }
@@ -135,7 +134,12 @@ pub fn play_match<R: Threads + Sync, G: Gate>(
     let Some(place) = place_of(job.layout, root) else {
         return Err(Status::NoLayout(job.layout));
     };
-    let first = first_strategy(rt, alloc, root, job.moves, job.search, gate)?;
+    let asked = RootJob {
+        root,
+        moves: job.moves,
+        search: job.search,
+    };
+    let first = first_strategy(crew, alloc, &asked)?;
     prove!(root.kept.node.width() > 0);
     let text = played_text(alloc, job, &first, place as u16, table)?;
     Ok(text)

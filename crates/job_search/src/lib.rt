@@ -4,13 +4,9 @@
 //! card with too large a tree.
 #![tactic(auto)]
 
-mod card;
 mod counted;
-mod first;
 mod made;
-mod report;
+mod root_job;
 
-pub use card::{name_card, name_card_with};
-pub use first::first_strategy;
 pub use made::{Made, summarize};
-pub use report::{solve, solve_with};
+pub use root_job::{RootJob, first_strategy, name_card, solve};

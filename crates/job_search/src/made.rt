@@ -8,14 +8,12 @@ ghost use Rattle.am_answer.specs.Stages.{IsTaskRefusal, IsTextFor};
 
 use crate::counted::counted_front;
 use am_answer::{Root, Status};
-use am_outside::Gate;
 use am_report::{MadeSummary, made_text};
 use byte_text::Text;
 use job_words::Search;
 use root_answers::{options_of, table_of};
-use root_workers::Question;
+use root_workers::{Question, RootCrew};
 use std::alloc::Global;
-use std::thread::Threads;
 use win_vectors::Weights;
 
 /// The root of the problem that was made from a number, for `moves` moves of declarer's side.
@@ -28,13 +26,13 @@ pub struct Made<'a> {
 
 /// The summary of a problem at its root, under its number: how many layouts, how long the front,
 /// the best count and the card to play. Refused as `solve` is.
-pub fn summarize<R: Threads + Sync, G: Gate>(
-    rt: &R,
+pub fn summarize<C: RootCrew>(
+    crew: &C,
     alloc: Global,
     job: &Made<'_>,
     search: &Search,
-    gate: &G,
 ) -> Result<Text, Status>
+    requires ready { C.ready crew.now }
     requires turn { has_choice job.now.root.now.kept.node ≡ true }
     requires moves { job.now.moves ≡ made_moves }
     requires limits { IsSearchWithinLimits search.now }
@@ -57,7 +55,7 @@ pub fn summarize<R: Threads + Sync, G: Gate>(
         options: &options,
         table: &table,
     };
-    let found = counted_front(rt, &question, &mut pass, gate)?;
+    let found = counted_front(crew, &question, &mut pass)?;
     let summary = MadeSummary {
         number: job.number,
         layouts: width,

@@ -13,7 +13,7 @@ use byte_text::Text;
 use job_check::check_report;
 use job_fusion::sample_text_alone;
 use job_list::list_layouts;
-use job_search::{name_card_with, solve_with};
+use job_search::{RootJob, name_card, solve};
 use root_workers::Alone;
 use std::alloc::Global;
 
@@ -33,7 +33,12 @@ fn report(
 {
     let (moves, search) = search_by(moves, nodes)?;
     let root = root_of(alloc, deal, layouts)?;
-    solve_with(&Alone, alloc, &root, moves, &search, &OpenGate)
+    let job = RootJob {
+        root: &root,
+        moves,
+        search: &search,
+    };
+    solve(&Alone { gate: &OpenGate }, alloc, &job)
 }
 
 // The card to play at a root.
@@ -46,7 +51,12 @@ fn card(alloc: Global, deal: &[u8], layouts: &[u8], moves: u32, nodes: u64) -> R
 {
     let (moves, search) = search_by(moves, nodes)?;
     let root = root_of(alloc, deal, layouts)?;
-    name_card_with(&Alone, alloc, &root, moves, &search, &OpenGate)
+    let job = RootJob {
+        root: &root,
+        moves,
+        search: &search,
+    };
+    name_card(&Alone { gate: &OpenGate }, alloc, &job)
 }
 
 // What plain sampling believes at a root.

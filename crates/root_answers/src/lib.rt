@@ -4,14 +4,14 @@
 //! report, whatever the workers, the table and the gate do, or a root card with too large a tree.
 #![tactic(auto)]
 
-mod entries;
+mod chosen;
 mod order;
 mod report;
 mod table;
 mod written;
 
-pub use entries::planned_over;
+pub use chosen::chosen_plan;
 pub use order::reported;
 pub use report::report_text;
 pub use table::{options_of, table_of};
-pub use written::{WrittenAnswer, written_root, written_root_with};
+pub use written::{WrittenAnswer, written_root};

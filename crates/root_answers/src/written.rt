@@ -1,12 +1,10 @@
 //! The answer at a root, with its vectors and their plans as lines of a report.
-ghost use Rattle.std.specs.Prelude.{◌≡◌, ◌≤◌, [], ℕ, true, false, length, All, IfOk, IsErrOf};
-ghost use Rattle.trick_rules.specs.Nodes.{most_moves};
+ghost use Rattle.std.specs.Prelude.{[], All, IfOk};
 ghost use Rattle.strategy_games.specs.Choosing.{IsBestWeight, IsNamedByWeight};
 ghost use Rattle.strategy_tree.specs.Bridge.{bridge};
 ghost use Rattle.front_table.specs.Proven.{IsFrontAt};
 ghost use Rattle.plan_finder.specs.Targets.{IsOfFront};
-ghost use Rattle.strategy_tree.specs.RootTrees.{IsSpentAt, IsFirstSpentAt, AllFit};
-ghost use Rattle.root_workers.specs.Plain.{IsPlain, HasWorkers};
+ghost use Rattle.root_workers.specs.Plain.{HasWorkers};
 ghost use Rattle.root_workers.specs.Questions.{IsQuestion, NamesSpent, NamesFirstSpent, FitsIfPlain};
 ghost use Rattle.root_workers.specs.Rounds.{HasSeenMore};
 ghost use Rattle.shared_table.specs.Passes.{IsPassOf};
@@ -15,19 +13,15 @@ ghost use Rattle.root_answers.specs.Written.{IsWrittenAnswer};
 
 use crate::order::reported;
 use alphamu_core::RootFault;
-use am_outside::Gate;
 use am_report::vector_text;
 use byte_text::Text;
 use card_sets::Card;
 use dd_solver::Solver;
 use front_table::{FrontStore, NoStore};
 use plan_finder::PlanWriter;
-use root_workers::{Options, Question, RootCrew, RootFront, root_front, root_front_with};
-use shared_table::{Pass, SharedStore, SharedTable};
-use std::alloc::Global;
-use std::thread::Threads;
-use trick_rules::Node;
-use win_vectors::{Weights, WinVector};
+use root_workers::{Question, RootCrew, RootFront};
+use shared_table::{Pass, SharedStore};
+use win_vectors::WinVector;
 
 /// The answer at a root: the lines of the front's vectors and their plans, as a report lists them,
 /// how many vectors there are, the named card and the best weight.
@@ -135,61 +129,18 @@ fn written_by(
 
 /// The answer of a node at which declarer's side is to play, with 1 to 26 moves: the lines of the
 /// vectors of its front and of the plan for each, in report order; the first card after which the
-/// best weight is kept; and that weight, by a weight for each of the node's layouts. The workers,
-/// the gate, the table and the cuts change none of them.
+/// best weight is kept; and that weight, by a weight for each of the node's layouts. The crew, the
+/// gate, the table and the cuts change none of them.
 ///
 /// The front is found as `root_front` finds it, and the plans after it, over the same table; their
-/// lines are written as they are found. The workers are joined, so it may wait.
+/// lines are written as they are found. A crew in threads joins them, so it may wait.
 ///
 /// `Spent` names a root card whose tree has more nodes than a search may enter; with neither table
 /// nor cuts the first such card. If there is one, no answer comes then.
-pub fn written_root<R: Threads + Sync, G: Gate>(
-    rt: &R,
-    alloc: Global,
-    node: &Node,
-    moves: u8,
-    weights: &Weights,
-    options: &Options,
-    table: &SharedTable,
-    pass: &mut Pass,
-    gate: &G,
-) -> Result<WrittenAnswer, RootFault>
-    requires ours { bridge.is_ours node.now ≡ true }
-    requires goes_on { bridge.is_over node.now ≡ false }
-    requires some_moves { 1 ≤ moves }
-    requires few_moves { moves ≤ most_moves }
-    requires weights { length weights.now ≡ length node.now.lefts }
-    requires workers { HasWorkers options.now }
-    requires pass { IsPassOf table.now pass.old }
-    ensures written { IfOk result (IsWrittenAnswer node.now weights.now moves) }
-    ensures fits { IsPlain options.now
-        → IfOk result (λ _. AllFit node.now moves options.now.nodes) }
-    ensures spent { (card : ℕ) → IsErrOf result (RootFault.Spent card)
-        → IsSpentAt node.now moves options.now.nodes card }
-    ensures first_spent { IsPlain options.now → (card : ℕ)
-        → IsErrOf result (RootFault.Spent card)
-        → IsFirstSpentAt node.now moves options.now.nodes card }
-    ensures pass { IsPassOf table.now pass.new }
-    ensures grown { HasSeenMore pass.old pass.new }
-{
-    let question = Question {
-        alloc,
-        node,
-        moves,
-        weights,
-        options,
-        table,
-    };
-    let found = root_front(rt, alloc, node, moves, weights, options, table, pass, gate)?;
-    written_by(&question, pass, &found)
-}
-
-/// What `written_root` gives, with a crew that searches root cards beforehand.
-pub fn written_root_with<C: RootCrew<G>, G: Gate>(
+pub fn written_root<C: RootCrew>(
     crew: &C,
     question: &Question,
     pass: &mut Pass,
-    gate: &G,
 ) -> Result<WrittenAnswer, RootFault>
     requires ready { C.ready crew.now }
     requires question { IsQuestion question.now }
@@ -203,6 +154,6 @@ pub fn written_root_with<C: RootCrew<G>, G: Gate>(
     ensures pass { IsPassOf question.now.table.now pass.new }
     ensures grown { HasSeenMore pass.old pass.new }
 {
-    let found = root_front_with(crew, question, pass, gate)?;
+    let found = question.front(crew, pass)?;
     written_by(question, pass, &found)
 }

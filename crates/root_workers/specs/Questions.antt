@@ -1,6 +1,6 @@
 -- What a root is asked, and how its search may end.
-use Rattle.std.specs.Prelude.{◌≡◌, ◌≢◌, ◌≤◌, ⊤, ℕ, true, false, List, Result, Ok, Err, IfOk, IsErrOf, length}
-use Rattle.trick_rules.specs.Nodes.{NodeValue, most_moves}
+use Rattle.std.specs.Prelude.{◌≡◌, ◌≢◌, ⊤, ℕ, true, List, Result, Ok, Err, IfOk, IsErrOf}
+use Rattle.trick_rules.specs.Nodes.{NodeValue}
 use Rattle.strategy_games.specs.Choosing.{IsBestWeight, IsNamedByWeight}
 use Rattle.strategy_tree.specs.Bridge.{bridge}
 use Rattle.cut_rules.specs.declared.Stop.TheVariants.{SameWeight}
@@ -12,18 +12,15 @@ use Rattle.alphamu_core.specs.declared.answers.RootFault.TheVariants.{Spent, Mem
 use Rattle.strategy_tree.specs.RootTrees.{IsSpentAt, IsFirstSpentAt, AllFit}
 use Rattle.root_workers.specs.Founds.{AreFound}
 use Rattle.root_workers.specs.Plain.{IsPlain}
+use Rattle.root_workers.specs.Roots.{MayBeAsked}
 use Rattle.root_workers.specs.Rounds.{IsPlainRound}
 use Rattle.root_workers.specs.declared.question.Question.{Question}
 use Rattle.root_workers.specs.declared.rounds.Round.{Round}
 use Rattle.root_workers.specs.declared.rounds.RoundFront.{RoundFront}
 
--- declarer's side is to play, the play isn't over, and each layout has a weight
-pub record IsQuestion (q : Question) : Type 0 where
-  pub ours : bridge.is_ours q.node.now ≡ true
-  pub goes_on : bridge.is_over q.node.now ≡ false
-  pub some_moves : 1 ≤ q.moves
-  pub few_moves : q.moves ≤ most_moves
-  pub weights : length q.weights.now ≡ length q.node.now.lefts
+-- the question may be asked
+abbrev pub IsQuestion : Question → Type 0
+IsQuestion q = MayBeAsked q.node.now q.moves q.weights.now
 
 -- what is found at a root within so many nodes: the card and the best weight, and the front if it is to be whole
 pub record IsFoundRoot (n : NodeValue) (moves nodes : ℕ) (weights : List ℕ) (whole cuts plain : Type 0) (root : RoundFront) : Type 0 where

@@ -1,7 +1,7 @@
 -- What a round asks, and what a worker may know of a root card.
-use Rattle.std.specs.Prelude.{◌≡◌, ◌≢◌, ◌<◌, ◌≤◌, ◌-◌, ℕ, true, false, List, Some, take, slice_get, length, Contains}
+use Rattle.std.specs.Prelude.{◌≡◌, ◌≢◌, ◌<◌, ◌≤◌, ◌-◌, ℕ, false, List, Some, take, slice_get, length, Contains}
 use Rattle.win_vectors.specs.Fronts.{Vector}
-use Rattle.trick_rules.specs.Nodes.{choices, child, most_moves}
+use Rattle.trick_rules.specs.Nodes.{choices, child}
 use Rattle.strategy_games.specs.Plans.{IsFront, tree_size}
 use Rattle.strategy_games.specs.Joins.{WinsByCard}
 use Rattle.strategy_tree.specs.Bridge.{bridge}
@@ -9,25 +9,23 @@ use Rattle.cut_rules.specs.declared.Stop.TheVariants.{Never}
 use Rattle.cut_rules.specs.Rules.{no_cuts}
 use Rattle.front_table.specs.Proven.{IsFrontAt}
 use Rattle.alphamu_core.specs.Costs.{IsWithin}
+use Rattle.alphamu_core.specs.Findings.{IsFound, IsExact}
 use Rattle.alphamu_core.specs.declared.answers.Found.{Found}
 use Rattle.alphamu_core.specs.declared.answers.Found.TheVariants as found
 use Rattle.alphamu_core.specs.declared.budget.Entered.{Entered}
 use Rattle.shared_table.specs.declared.Pass.{Pass}
 use Rattle.shared_table.specs.Passes.{view_of}
 use Rattle.shared_table.specs.Stores.{HasGrownAt}
-use Rattle.root_workers.specs.Roots.{IsCoveredBefore}
+use Rattle.root_workers.specs.Roots.{MayBeAsked, IsCoveredBefore}
 use Rattle.root_workers.specs.declared.rounds.Round.{Round}
+use Rattle.root_workers.specs.declared.searches.SearchResult.{SearchResult}
 use Rattle.root_workers.specs.declared.worker_results.Known.{Known}
 use Rattle.root_workers.specs.declared.worker_results.Known.TheVariants.{Exact, Below, Spent}
 use Rattle.root_workers.specs.declared.alpha.WonSoFar.{WonSoFar}
 
--- a round at a node where declarer's side is to play, with the front with a move less where it may stop by that
+-- the round may be asked, and it has the front with a move less if it may stop by that
 pub record IsRound (r : Round) : Type 0 where
-  pub ours : bridge.is_ours r.node.now ≡ true
-  pub goes_on : bridge.is_over r.node.now ≡ false
-  pub some_moves : 1 ≤ r.moves
-  pub few_moves : r.moves ≤ most_moves
-  pub weights : length r.weights.now ≡ length r.node.now.lefts
+  pub asked : MayBeAsked r.node.now r.moves r.weights.now
   pub width : r.previous.now.width ≡ length r.node.now.lefts
   pub previous : r.rules.stop ≢ Never → IsFront bridge r.node.now (r.moves - 1) r.previous.now.vectors
 
@@ -39,6 +37,12 @@ pub record IsPlainRound (r : Round) : Type 0 where
 -- how many nodes the tree after a root card has
 abbrev pub size_after : Round → ℕ → ℕ
 size_after r card = tree_size bridge (child r.node.now card) (r.moves - 1)
+
+-- what a search says after a root card is so, by what is won already; without cuts it is a front
+pub record IsSearchedAfter (r : Round) (card : ℕ) (alpha : List Vector) (s : SearchResult) : Type 0 where
+  pub found : IsFound (child r.node.now card) (r.moves - 1) alpha s.found
+  pub exact : r.rules ≡ no_cuts → IsExact s.found
+  pub within : IsWithin r.nodes s.entered
 
 -- each of the vectors is won after one of the cards
 abbrev pub AreWonAfter : Round → List ℕ → List Vector → Type 0

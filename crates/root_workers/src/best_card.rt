@@ -2,20 +2,19 @@
 ghost use Rattle.std.specs.Prelude.{◌≡◌, ◌≢◌, ◌<◌, ◌≤◌, ◌-◌, ℕ};
 ghost use Rattle.std.specs.Prelude.{length, take, slice_get, Some, IfOk, IsErrOf};
 ghost use Rattle.win_vectors.specs.Fronts.{IsFrontOf};
-ghost use Rattle.trick_rules.specs.Nodes.{choices, child};
+ghost use Rattle.trick_rules.specs.Nodes.{choices};
 ghost use Rattle.strategy_games.specs.Joins.{WinsByCard};
 ghost use Rattle.strategy_games.specs.Choosing.{IsBestWeight, IsNamedByWeight};
 ghost use Rattle.strategy_tree.specs.Bridge.{bridge};
 ghost use Rattle.cut_rules.specs.Rules.{no_cuts};
 ghost use Rattle.front_table.specs.Proven.{IsFrontAt};
-ghost use Rattle.alphamu_core.specs.Findings.{IsFound, IsExact};
 ghost use Rattle.alphamu_core.specs.Costs.{IsWithin};
 ghost use Rattle.shared_table.specs.Passes.{IsPassOf};
 ghost use Rattle.strategy_tree.specs.RootTrees.{IsSpentAt, IsFirstSpentAt, AllFit};
 ghost use Rattle.root_workers.specs.Founds.{AreFound};
 ghost use Rattle.root_workers.specs.Questions.{IsRoundEnd};
 ghost use Rattle.root_workers.specs.Rounds.{IsRound, IsPlainRound, IsKnownAt};
-ghost use Rattle.root_workers.specs.Rounds.{HasSeenMore, size_after};
+ghost use Rattle.root_workers.specs.Rounds.{HasSeenMore, IsSearchedAfter, size_after};
 ghost use Rattle.worker_pool.specs.Findings.{AreRight};
 
 use crate::card_search::search_card;
@@ -52,11 +51,8 @@ fn after_place<G: Gate>(
         (work.now.round.now.moves - 1) (take place (choices work.now.round.now.node.now)))
         alpha.now.vectors }
     requires width { alpha.now.width ≡ length work.now.round.now.node.now.lefts }
-    ensures found { IfOk result (λ searched. IsFound (child work.now.round.now.node.now card)
-        (work.now.round.now.moves - 1) alpha.now.vectors searched.found) }
-    ensures exact { work.now.round.now.rules ≡ no_cuts
-        → IfOk result (λ searched. IsExact searched.found) }
-    ensures within { IfOk result (λ searched. IsWithin work.now.round.now.nodes searched.entered) }
+    ensures searched { IfOk result
+        (IsSearchedAfter work.now.round.now card alpha.now.vectors) }
     ensures fits { IsPlainRound work.now.round.now
         → IfOk result (λ _. size_after work.now.round.now card ≤ work.now.round.now.nodes) }
     ensures spent { (other : ℕ) → IsErrOf result (RootFault.Spent other)
@@ -77,7 +73,7 @@ fn after_place<G: Gate>(
         Some(Known::Spent) => Err(RootFault::Spent(card)),
         None => {
             work.gate.enter(worker.number, card);
-            let found = search_card(work.round, &mut worker.solver, pass, card, alpha);
+            let found = search_card(work.round, &mut worker.solver, card, alpha, pass);
             work.gate.leave(worker.number, card);
             found
         }
@@ -157,10 +153,9 @@ pub fn best_over<G: Gate>(
 }
 
 /// A round: the workers search the root cards side by side, and what they know is put together.
-pub fn run_round<C: RootCrew<G>, G: Gate>(
+pub fn run_round<C: RootCrew>(
     crew: &C,
     round: &Round,
-    gate: &G,
     workers: &mut [RootWorker],
     pass: &mut Pass,
 ) -> Result<RoundFront, RootFault>
@@ -172,6 +167,6 @@ pub fn run_round<C: RootCrew<G>, G: Gate>(
     ensures pass { IsPassOf round.now.table.now pass.new }
     ensures grown { HasSeenMore pass.old pass.new }
 {
-    let findings = crew.searched(round, gate, workers, pass)?;
-    best_over(round, gate, &mut workers[0], pass, findings)
+    let findings = crew.searched(round, workers, pass)?;
+    best_over(round, crew.gate(), &mut workers[0], pass, findings)
 }

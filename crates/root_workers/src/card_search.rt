@@ -1,12 +1,10 @@
 //! A search after a root card, over the table if the round uses it.
-ghost use Rattle.std.specs.Prelude.{◌≡◌, ◌<◌, ◌≤◌, ◌-◌, ℕ, length, Contains};
+ghost use Rattle.std.specs.Prelude.{◌≡◌, ◌<◌, ◌≤◌, ℕ, length, Contains};
 ghost use Rattle.std.specs.Prelude.{IfOk, IsErrOf};
-ghost use Rattle.trick_rules.specs.Nodes.{choices, child};
-ghost use Rattle.cut_rules.specs.Rules.{no_cuts};
-ghost use Rattle.alphamu_core.specs.Findings.{IsFound, IsExact};
-ghost use Rattle.alphamu_core.specs.Costs.{IsWithin};
+ghost use Rattle.trick_rules.specs.Nodes.{choices};
 ghost use Rattle.shared_table.specs.Passes.{IsPassOf};
-ghost use Rattle.root_workers.specs.Rounds.{IsRound, IsPlainRound, HasSeenMore, size_after};
+ghost use Rattle.root_workers.specs.Rounds.{IsRound, IsPlainRound};
+ghost use Rattle.root_workers.specs.Rounds.{IsSearchedAfter, HasSeenMore, size_after};
 
 use crate::rounds::Round;
 use crate::searches::{SearchResult, after_card};
@@ -21,18 +19,15 @@ use shared_table::{Pass, SharedStore};
 pub fn search_card(
     round: &Round,
     solver: &mut Solver,
-    pass: &mut Pass,
     card: Card,
     alpha: &Front,
+    pass: &mut Pass,
 ) -> Result<SearchResult, RootFault>
     requires round { IsRound round.now }
     requires pass { IsPassOf round.now.table.now pass.old }
     requires card { Contains (choices round.now.node.now) card }
     requires width { alpha.now.width ≡ length round.now.node.now.lefts }
-    ensures found { IfOk result (λ searched. IsFound (child round.now.node.now card)
-        (round.now.moves - 1) alpha.now.vectors searched.found) }
-    ensures exact { round.now.rules ≡ no_cuts → IfOk result (λ searched. IsExact searched.found) }
-    ensures within { IfOk result (λ searched. IsWithin round.now.nodes searched.entered) }
+    ensures searched { IfOk result (IsSearchedAfter round.now card alpha.now.vectors) }
     ensures fits { IsPlainRound round.now
         → IfOk result (λ _. size_after round.now card ≤ round.now.nodes) }
     ensures spent { (other : ℕ) → IsErrOf result (RootFault.Spent other)

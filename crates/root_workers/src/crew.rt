@@ -19,20 +19,19 @@ use worker_pool::{Finding, work_side_by_side};
 /// What workers know of root cards, or that there was no memory for it.
 pub type Searched = Result<Vec<Finding<Known>>, AllocError>;
 
-/// Searches root cards of a round before the caller goes through all of them. No answer depends on
-/// which cards those are.
-pub trait RootCrew<G: Gate> {
+/// Searches root cards of a round before the caller goes through all of them, and has the gate that
+/// all of them pass. No answer depends on which cards those are, or on the gate.
+pub trait RootCrew {
+    type Gate: Gate;
+
     /// It can search.
     ghost ready: { Self → Type 0 };
 
+    /// The gate that hears as the search of a root card begins and ends.
+    fn gate(&self) -> &Self::Gate;
+
     /// What is known of root cards once the workers have searched.
-    fn searched(
-        &self,
-        round: &Round,
-        gate: &G,
-        workers: &mut [RootWorker],
-        pass: &mut Pass,
-    ) -> Searched
+    fn searched(&self, round: &Round, workers: &mut [RootWorker], pass: &mut Pass) -> Searched
         requires ready { ready self.now }
         requires round { IsRound round.now }
         requires some { 1 ≤ length workers.old }
@@ -43,19 +42,21 @@ pub trait RootCrew<G: Gate> {
 }
 
 /// Nobody but the caller, who searches every root card, in card order.
-#[derive(Clone, Copy, Debug)]
-pub struct Alone;
+#[derive(Drop)]
+pub struct Alone<'a, G> {
+    pub gate: &'a G,
+}
 
-impl<G: Gate> RootCrew<G> for Alone {
+impl<G: Gate> RootCrew for Alone<'_, G> {
+    type Gate = G;
+
     ghost ready = { λ _. ⊤ };
 
-    fn searched(
-        &self,
-        round: &Round,
-        _gate: &G,
-        _workers: &mut [RootWorker],
-        _pass: &mut Pass,
-    ) -> Searched {
+    fn gate(&self) -> &G {
+        self.gate
+    }
+
+    fn searched(&self, round: &Round, _workers: &mut [RootWorker], _pass: &mut Pass) -> Searched {
         Ok(Vec::new(round.alloc))
     }
 }
@@ -63,23 +64,24 @@ impl<G: Gate> RootCrew<G> for Alone {
 /// Workers in threads: `search` is `searched_in_threads`, and `rt` starts them. A method of a trait
 /// may start no thread for a gate that it knows by a bound alone, so it is handed the function.
 #[derive(Drop)]
-pub struct InThreads<'a, R, F> {
+pub struct InThreads<'a, R, G, F> {
     pub rt: &'a R,
+    pub gate: &'a G,
     pub search: F,
 }
 
-impl<R, G: Gate, F: Fn(&R, &Round, &G, &mut [RootWorker], &mut Pass) -> Searched + Drop> RootCrew<G>
-    for InThreads<'_, R, F> {
+impl<R, G: Gate, F: Fn(&R, &Round, &G, &mut [RootWorker], &mut Pass) -> Searched + Drop> RootCrew
+    for InThreads<'_, R, G, F> {
+    type Gate = G;
+
     ghost ready = { λ it. Searches (F.pre it.search it.rt) (F.post it.search it.rt) };
 
-    fn searched(
-        &self,
-        round: &Round,
-        gate: &G,
-        workers: &mut [RootWorker],
-        pass: &mut Pass,
-    ) -> Searched {
-        (self.search)(self.rt, round, gate, workers, pass)
+    fn gate(&self) -> &G {
+        self.gate
+    }
+
+    fn searched(&self, round: &Round, workers: &mut [RootWorker], pass: &mut Pass) -> Searched {
+        (self.search)(self.rt, round, self.gate, workers, pass)
     }
 }
 

@@ -14,7 +14,6 @@ use crate::searches::double_dummy;
 use crate::shared_cards::next_shared_cards;
 use crate::workers::{RootWorker, workers_for};
 use alphamu_core::{Entered, RootFault};
-use am_outside::Gate;
 use card_sets::CardSet;
 use cut_rules::{CutRules, Stop};
 use front_table::NoStore;
@@ -32,11 +31,10 @@ struct Before {
 
 // The rounds before the last one: with no moves it is double dummy, and each round has a move more.
 // With the front they leave the cards for the workers of a round that stops as said.
-fn deepened<C: RootCrew<G>, G: Gate>(
+fn deepened<C: RootCrew>(
     crew: &C,
     question: &Question,
     pass: &mut Pass,
-    gate: &G,
     workers: &mut [RootWorker],
     stop: Stop,
 ) -> Result<Before, RootFault>
@@ -70,7 +68,7 @@ fn deepened<C: RootCrew<G>, G: Gate>(
             uses_table: question.options.table,
             shared_cards,
         };
-        let next = run_round(crew, &round, gate, workers, pass)?;
+        let next = run_round(crew, &round, workers, pass)?;
         let next_stop = if fewer + 1 < moves {
             Stop::SameFront
         } else {
@@ -88,11 +86,10 @@ fn deepened<C: RootCrew<G>, G: Gate>(
 }
 
 // The last round with cuts, after those with fewer moves.
-fn cut_rounds<C: RootCrew<G>, G: Gate>(
+fn cut_rounds<C: RootCrew>(
     crew: &C,
     question: &Question,
     pass: &mut Pass,
-    gate: &G,
     workers: &mut [RootWorker],
     stop: Stop,
 ) -> Result<RoundFront, RootFault>
@@ -106,7 +103,7 @@ fn cut_rounds<C: RootCrew<G>, G: Gate>(
     ensures pass { IsPassOf question.now.table.now pass.new }
     ensures grown { HasSeenMore pass.old pass.new }
 {
-    let before = deepened(crew, question, pass, gate, workers, stop)?;
+    let before = deepened(crew, question, pass, workers, stop)?;
     let round = Round {
         alloc: question.alloc,
         node: question.node,
@@ -119,17 +116,16 @@ fn cut_rounds<C: RootCrew<G>, G: Gate>(
         uses_table: question.options.table,
         shared_cards: before.shared_cards,
     };
-    let mut last = run_round(crew, &round, gate, workers, pass)?;
+    let mut last = run_round(crew, &round, workers, pass)?;
     last.most = last.most.larger(before.most);
     Ok(last)
 }
 
 // The only round without cuts.
-fn whole_round<C: RootCrew<G>, G: Gate>(
+fn whole_round<C: RootCrew>(
     crew: &C,
     question: &Question,
     pass: &mut Pass,
-    gate: &G,
     workers: &mut [RootWorker],
 ) -> Result<RoundFront, RootFault>
     requires ready { C.ready crew.now }
@@ -153,15 +149,14 @@ fn whole_round<C: RootCrew<G>, G: Gate>(
         uses_table: question.options.table,
         shared_cards: question.node.choices(),
     };
-    run_round(crew, &round, gate, workers, pass)
+    run_round(crew, &round, workers, pass)
 }
 
 /// All rounds, with cuts or the only one without, by as many workers as the options ask for.
-pub fn rounds<C: RootCrew<G>, G: Gate>(
+pub fn rounds<C: RootCrew>(
     crew: &C,
     question: &Question,
     pass: &mut Pass,
-    gate: &G,
     stop: Stop,
 ) -> Result<RoundFront, RootFault>
     requires ready { C.ready crew.now }
@@ -175,8 +170,8 @@ pub fn rounds<C: RootCrew<G>, G: Gate>(
     let mut workers = workers_for(question.alloc, question.options, question.node)?;
     let workers = workers.as_mut_slice();
     if question.options.cuts {
-        cut_rounds(crew, question, pass, gate, workers, stop)
+        cut_rounds(crew, question, pass, workers, stop)
     } else {
-        whole_round(crew, question, pass, gate, workers)
+        whole_round(crew, question, pass, workers)
     }
 }

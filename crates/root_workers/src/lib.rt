@@ -21,9 +21,7 @@ mod shared_cards;
 mod worker_results;
 mod workers;
 
-pub use crew::{Alone, RootCrew};
+pub use crew::{Alone, InThreads, RootCrew, searched_in_threads};
 pub use question::Question;
 pub use reports::{CardReport, Outcome, Stored};
-pub use root::{
-    Options, RootCard, RootFront, root_card, root_card_with, root_front, root_front_with,
-};
+pub use root::{Options, RootCard, RootFront, root_card, root_front};

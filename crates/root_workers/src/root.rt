@@ -111,6 +111,7 @@ pub fn root_front<R: Threads + Sync, G: Gate>(
 {
     let crew = InThreads {
         rt,
+        gate,
         search: searched_in_threads,
     };
     let question = Question {
@@ -121,46 +122,7 @@ pub fn root_front<R: Threads + Sync, G: Gate>(
         options,
         table,
     };
-    root_front_with(&crew, &question, pass, gate)
-}
-
-/// What `root_front` finds, with a crew that searches root cards beforehand.
-pub fn root_front_with<C: RootCrew<G>, G: Gate>(
-    crew: &C,
-    question: &Question,
-    pass: &mut Pass,
-    gate: &G,
-) -> Result<RootFront, RootFault>
-    requires ready { C.ready crew.now }
-    requires question { IsQuestion question.now }
-    requires workers { HasWorkers question.now.options.now }
-    requires pass { IsPassOf question.now.table.now pass.old }
-    ensures front { IfOk result (λ root. IsFrontAt question.now.node.now question.now.moves
-        root.front) }
-    ensures card { IfOk result (λ root. IsNamedByWeight bridge question.now.weights.now
-        question.now.node.now question.now.moves root.card) }
-    ensures weight { IfOk result (λ root. IsBestWeight bridge question.now.weights.now
-        question.now.node.now question.now.moves root.weight) }
-    ensures cards { IfOk result (λ root. AreReports (course_of question.now.node.now
-        question.now.moves question.now.options.now question.now.table.now pass.old pass.new)
-        root.cards.items) }
-    ensures within { IfOk result (λ root. IsWithin question.now.options.now.nodes root.most) }
-    ensures fits { FitsIfPlain question.now result }
-    ensures spent { NamesSpent question.now result }
-    ensures first_spent { NamesFirstSpent question.now result }
-    ensures pass { IsPassOf question.now.table.now pass.new }
-    ensures grown { HasSeenMore pass.old pass.new }
-{
-    let stop = Stop::SameFront;
-    let found = rounds(crew, question, pass, gate, stop)?;
-    let cards = reports(question, pass, &found.founds)?;
-    Ok(RootFront {
-        front: found.front,
-        card: found.card,
-        weight: found.weight,
-        cards,
-        most: found.most,
-    })
+    question.front(&crew, pass)
 }
 
 /// The card to play at a root, and its weight, as `root_front` names them. It may end earlier,
@@ -200,6 +162,7 @@ pub fn root_card<R: Threads + Sync, G: Gate>(
 {
     let crew = InThreads {
         rt,
+        gate,
         search: searched_in_threads,
     };
     let question = Question {
@@ -210,36 +173,65 @@ pub fn root_card<R: Threads + Sync, G: Gate>(
         options,
         table,
     };
-    root_card_with(&crew, &question, pass, gate)
+    question.card(&crew, pass)
 }
 
-/// What `root_card` finds, with a crew that searches root cards beforehand.
-pub fn root_card_with<C: RootCrew<G>, G: Gate>(
-    crew: &C,
-    question: &Question,
-    pass: &mut Pass,
-    gate: &G,
-) -> Result<RootCard, RootFault>
-    requires ready { C.ready crew.now }
-    requires question { IsQuestion question.now }
-    requires workers { HasWorkers question.now.options.now }
-    requires pass { IsPassOf question.now.table.now pass.old }
-    ensures card { IfOk result (λ root. IsNamedByWeight bridge question.now.weights.now
-        question.now.node.now question.now.moves root.card) }
-    ensures weight { IfOk result (λ root. IsBestWeight bridge question.now.weights.now
-        question.now.node.now question.now.moves root.weight) }
-    ensures within { IfOk result (λ root. IsWithin question.now.options.now.nodes root.most) }
-    ensures fits { FitsIfPlain question.now result }
-    ensures spent { NamesSpent question.now result }
-    ensures first_spent { NamesFirstSpent question.now result }
-    ensures pass { IsPassOf question.now.table.now pass.new }
-    ensures grown { HasSeenMore pass.old pass.new }
-{
-    let stop = Stop::SameWeight;
-    let found = rounds(crew, question, pass, gate, stop)?;
-    Ok(RootCard {
-        card: found.card,
-        weight: found.weight,
-        most: found.most,
-    })
+impl Question<'_> {
+    /// What `root_front` finds, with a crew that searches root cards beforehand.
+    pub fn front<C: RootCrew>(&self, crew: &C, pass: &mut Pass) -> Result<RootFront, RootFault>
+        requires ready { C.ready crew.now }
+        requires question { IsQuestion self.now }
+        requires workers { HasWorkers self.now.options.now }
+        requires pass { IsPassOf self.now.table.now pass.old }
+        ensures front { IfOk result (λ root. IsFrontAt self.now.node.now self.now.moves
+            root.front) }
+        ensures card { IfOk result (λ root. IsNamedByWeight bridge self.now.weights.now
+            self.now.node.now self.now.moves root.card) }
+        ensures weight { IfOk result (λ root. IsBestWeight bridge self.now.weights.now
+            self.now.node.now self.now.moves root.weight) }
+        ensures cards { IfOk result (λ root. AreReports (course_of self.now.node.now
+            self.now.moves self.now.options.now self.now.table.now pass.old pass.new)
+            root.cards.items) }
+        ensures within { IfOk result (λ root. IsWithin self.now.options.now.nodes root.most) }
+        ensures fits { FitsIfPlain self.now result }
+        ensures spent { NamesSpent self.now result }
+        ensures first_spent { NamesFirstSpent self.now result }
+        ensures pass { IsPassOf self.now.table.now pass.new }
+        ensures grown { HasSeenMore pass.old pass.new }
+    {
+        let found = rounds(crew, self, pass, Stop::SameFront)?;
+        let cards = reports(self, pass, &found.founds)?;
+        Ok(RootFront {
+            front: found.front,
+            card: found.card,
+            weight: found.weight,
+            cards,
+            most: found.most,
+        })
+    }
+
+    /// What `root_card` finds, with a crew that searches root cards beforehand.
+    pub fn card<C: RootCrew>(&self, crew: &C, pass: &mut Pass) -> Result<RootCard, RootFault>
+        requires ready { C.ready crew.now }
+        requires question { IsQuestion self.now }
+        requires workers { HasWorkers self.now.options.now }
+        requires pass { IsPassOf self.now.table.now pass.old }
+        ensures card { IfOk result (λ root. IsNamedByWeight bridge self.now.weights.now
+            self.now.node.now self.now.moves root.card) }
+        ensures weight { IfOk result (λ root. IsBestWeight bridge self.now.weights.now
+            self.now.node.now self.now.moves root.weight) }
+        ensures within { IfOk result (λ root. IsWithin self.now.options.now.nodes root.most) }
+        ensures fits { FitsIfPlain self.now result }
+        ensures spent { NamesSpent self.now result }
+        ensures first_spent { NamesFirstSpent self.now result }
+        ensures pass { IsPassOf self.now.table.now pass.new }
+        ensures grown { HasSeenMore pass.old pass.new }
+    {
+        let found = rounds(crew, self, pass, Stop::SameWeight)?;
+        Ok(RootCard {
+            card: found.card,
+            weight: found.weight,
+            most: found.most,
+        })
+    }
 }

@@ -70,7 +70,7 @@ fn known_after(
     ensures pass { IsPassOf round.now.table.now pass.new }
     ensures grown { HasSeenMore pass.old pass.new }
 {
-    match search_card(round, solver, pass, card, alpha) {
+    match search_card(round, solver, card, alpha, pass) {
         Ok(searched) => Ok(Some(Known::of(searched))),
         Err(RootFault::Spent(_)) if round.rules.bound => Ok(None),
         Err(RootFault::Spent(_)) => Ok(Some(Known::Spent)),

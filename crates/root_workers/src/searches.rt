@@ -1,14 +1,14 @@
 //! Searches with a budget of their own.
 ghost use Rattle.std.specs.Prelude.{◌≡◌, ◌<◌, ◌≤◌, ◌-◌, ℕ, true, length, Contains};
 ghost use Rattle.std.specs.Prelude.{IfOk, IsErrOf};
-ghost use Rattle.trick_rules.specs.Nodes.{choices, child};
+ghost use Rattle.trick_rules.specs.Nodes.{choices};
 ghost use Rattle.strategy_games.specs.Plans.{tree_size};
 ghost use Rattle.strategy_tree.specs.Bridge.{bridge};
 ghost use Rattle.cut_rules.specs.Rules.{no_cuts};
 ghost use Rattle.front_table.specs.Proven.{IsFrontAt};
 ghost use Rattle.alphamu_core.specs.Findings.{IsFound, IsExact};
 ghost use Rattle.alphamu_core.specs.Costs.{IsWithin};
-ghost use Rattle.root_workers.specs.Rounds.{IsRound, size_after};
+ghost use Rattle.root_workers.specs.Rounds.{IsRound, IsSearchedAfter, size_after};
 
 use crate::rounds::Round;
 use alphamu_core::{Budget, Entered, Found, RootFault, SearchFault, exact_front, search};
@@ -74,10 +74,7 @@ pub fn after_card<S: FrontStore>(
     requires round { IsRound round.now }
     requires card { Contains (choices round.now.node.now) card }
     requires width { alpha.now.width ≡ length round.now.node.now.lefts }
-    ensures found { IfOk result (λ searched. IsFound (child round.now.node.now card)
-        (round.now.moves - 1) alpha.now.vectors searched.found) }
-    ensures exact { round.now.rules ≡ no_cuts → IfOk result (λ searched. IsExact searched.found) }
-    ensures within { IfOk result (λ searched. IsWithin round.now.nodes searched.entered) }
+    ensures searched { IfOk result (IsSearchedAfter round.now card alpha.now.vectors) }
     ensures fits { round.now.rules ≡ no_cuts → S.blind ≡ true
         → IfOk result (λ _. size_after round.now card ≤ round.now.nodes) }
     ensures spent { (other : ℕ) → IsErrOf result (RootFault.Spent other)

@@ -10,6 +10,15 @@ use Rattle.job_search.proofs.counted.counted_front.Goals as goal
 pub root_front-requires-clause-weights : goal.root_front-requires-clause-weights
 root_front-requires-clause-weights g c = λ κs outlives. ap length c.requires.alike ∙ length-replicate (length c.args.question.now.node.now.lefts) 1
 
+pub front-requires-clause-question : goal.front-requires-clause-question
+front-requires-clause-question g c = record {
+  ours = c.requires.ours;
+  goes_on = c.requires.goes_on;
+  some_moves = c.requires.some_moves;
+  few_moves = c.requires.few_moves;
+  weights = ap length c.requires.alike ∙ length-replicate (length c.args.question.now.node.now.lefts) 1;
+}
+
 pub returns-in_err-found-clause-spent : goal.returns-in_err-found-clause-spent
 returns-in_err-found-clause-spent g c = λ card e.
     c.in_err-found.ensures.spent card (ap Err (passed_on c.from_residual.result c.in_err-found.field-0.0 (Spent card) c.from_residual.ensures.1 e))

@@ -18,4 +18,4 @@ returns-clause-first_spent g c = λ plain card e.
     absurd (omega (arith, c.in_ok-found.ensures.fits plain card spent.0, spent.1))
 
 pub returns-clause-grown : goal.returns-clause-grown
-returns-clause-grown g c = seen_more c.args.pass.now c.root_front.new.pass c.written_by.new.pass c.root_front.ensures.grown c.written_by.ensures.grown
+returns-clause-grown g c = seen_more c.args.pass.now c.front.new.pass c.written_by.new.pass c.front.ensures.grown c.written_by.ensures.grown

@@ -12,7 +12,7 @@ pub union-requires : goal.union-requires
 union-requires c =
     let n = c.args.round.now.node.now in
     let same = ap (λ (m : NodeValue). length m.lefts) c.in_ok-child.ensures.node in
-    let ours = length-our_child n c.args.card c.requires.round.ours (has_card-from_Contains (choices n) c.args.card c.requires.card) in
+    let ours = length-our_child n c.args.card c.requires.round.asked.ours (has_card-from_Contains (choices n) c.args.card c.requires.card) in
     let seen = ap (λ (m : NodeValue). length m.lefts) c.child-2.view_is in
     omega (arith, c.look.ensures.width, c.reset.ensures.width, c.width.ensures.value, c.requires.width)
 

@@ -7,11 +7,15 @@ use Rattle.root_workers.specs.Rounds.{IsKnownAt}
 use Rattle.root_workers.proofs.Covered.{below_front}
 use Rattle.root_workers.proofs.best_card.after_place.Goals as goal
 
-pub returns-in-Some-Below-clause-found : goal.returns-in-Some-Below-clause-found
-returns-in-Some-Below-clause-found g c =
+pub returns-in-Some-Below-clause-searched : goal.returns-in-Some-Below-clause-searched
+returns-in-Some-Below-clause-searched g c =
     let r = c.args.work.now.round.now in
     let known = subst (λ (k : Known). IsKnownAt r c.args.place k) c.in-Some-Below.field-0-is c.in-Some-Below.ensures.found in
     let some : Some known.card ≡ Some c.args.card = sym known.here ∙ c.requires.card in
     let same : known.card ≡ c.args.card = cc in
-    subst (λ card. IsBelow bridge (child r.node.now card) (r.moves - 1) c.args.alpha.now.vectors) same
-    (below_front r.node.now r.moves (take c.args.place (choices r.node.now)) known.card c.args.alpha.now.vectors c.requires.won known.known_is.0)
+    record {
+      found = subst (λ card. IsBelow bridge (child r.node.now card) (r.moves - 1) c.args.alpha.now.vectors) same
+          (below_front r.node.now r.moves (take c.args.place (choices r.node.now)) known.card c.args.alpha.now.vectors c.requires.won known.known_is.0);
+      exact = λ none. absurd (known.known_is.1 none);
+      within = known.known_is.2;
+    }

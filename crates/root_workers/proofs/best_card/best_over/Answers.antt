@@ -63,35 +63,35 @@ returns-in_err-below-clause-spent g c = λ card e.
 pub with_card-requires-clause-width : goal.with_card-requires-clause-width
 with_card-requires-clause-width g c =
     let n = c.args.round.now.node.now in
-    root_width n (c.args.round.now.moves - 1) c.args.round.now.weights.now c.cards.invariant.so.0 c.in-Some.ensures.value (child n c.in-Some.card) c.in-Exact.won c.requires.round.ours refl
-    (subst (λ (f : Found). IsFound (child n c.in-Some.card) (c.args.round.now.moves - 1) c.cards.front.vectors f) c.in-Exact.is c.in_ok-below.ensures.found)
+    root_width n (c.args.round.now.moves - 1) c.args.round.now.weights.now c.cards.invariant.so.0 c.in-Some.ensures.value (child n c.in-Some.card) c.in-Exact.won c.requires.round.asked.ours refl
+    (subst (λ (f : Found). IsFound (child n c.in-Some.card) (c.args.round.now.moves - 1) c.cards.front.vectors f) c.in-Exact.is c.in_ok-below.ensures.searched.found)
 
 pub with_card-requires-clause-filled : goal.with_card-requires-clause-filled
 with_card-requires-clause-filled g c =
     let n = c.args.round.now.node.now in
     root_filled n (c.args.round.now.moves - 1) c.args.round.now.weights.now c.cards.invariant.so.0 c.in-Some.ensures.value (child n c.in-Some.card) c.in-Exact.won c.width.ensures.a_node refl
-    (subst (λ (f : Found). IsFound (child n c.in-Some.card) (c.args.round.now.moves - 1) c.cards.front.vectors f) c.in-Exact.is c.in_ok-below.ensures.found)
+    (subst (λ (f : Found). IsFound (child n c.in-Some.card) (c.args.round.now.moves - 1) c.cards.front.vectors f) c.in-Exact.is c.in_ok-below.ensures.searched.found)
 
 pub returns-then-is_enough-clause-front : goal.returns-then-is_enough-clause-front
 returns-then-is_enough-clause-front g c = λ other.
     let n = c.args.round.now.node.now in
     let so = root_with n (c.args.round.now.moves - 1) c.args.round.now.weights.now c.cards.invariant.so.0 c.in-Some.ensures.value (child n c.in-Some.card) c.in-Exact.won c.with_card.new.front c.in_ok-lead-in-Exact.lead refl
-    (subst (λ (f : Found). IsFound (child n c.in-Some.card) (c.args.round.now.moves - 1) c.cards.front.vectors f) c.in-Exact.is c.in_ok-below.ensures.found)
+    (subst (λ (f : Found). IsFound (child n c.in-Some.card) (c.args.round.now.moves - 1) c.cards.front.vectors f) c.in-Exact.is c.in_ok-below.ensures.searched.found)
     c.in_ok-below.ensures.fits c.in_ok-lead-in-Exact.ensures.leads c.in_ok-lead-in-Exact.ensures.union c.in_ok-lead-in-Exact.ensures.width in
     let moves : suc (c.args.round.now.moves - 1) ≡ c.args.round.now.moves = omega arith in
     subst (λ front. IsFrontAt n c.args.round.now.moves front) (sym c.found.ensures.front)
-    (front_here n (c.args.round.now.moves - 1) c.args.round.now.weights.now so c.width.ensures.a_node c.requires.round.goes_on c.requires.round.ours c.args.round.now.moves moves
-    (stop_front n (c.args.round.now.moves - 1) c.args.round.now.weights.now so c.width.ensures.a_node c.requires.round.goes_on c.requires.round.ours c.in_ok-lead-in-Exact.lead refl c.args.round.now.previous.now.vectors c.args.round.now.rules.stop c.requires.round.previous c.is_enough.result c.if-is_enough.true
+    (front_here n (c.args.round.now.moves - 1) c.args.round.now.weights.now so c.width.ensures.a_node c.requires.round.asked.goes_on c.requires.round.asked.ours c.args.round.now.moves moves
+    (stop_front n (c.args.round.now.moves - 1) c.args.round.now.weights.now so c.width.ensures.a_node c.requires.round.asked.goes_on c.requires.round.asked.ours c.in_ok-lead-in-Exact.lead refl c.args.round.now.previous.now.vectors c.args.round.now.rules.stop c.requires.round.previous c.is_enough.result c.if-is_enough.true
     c.is_enough.ensures.never c.is_enough.ensures.front other))
 
 pub returns-then-is_enough-clause-weight : goal.returns-then-is_enough-clause-weight
 returns-then-is_enough-clause-weight g c =
     let n = c.args.round.now.node.now in
     let so = root_with n (c.args.round.now.moves - 1) c.args.round.now.weights.now c.cards.invariant.so.0 c.in-Some.ensures.value (child n c.in-Some.card) c.in-Exact.won c.with_card.new.front c.in_ok-lead-in-Exact.lead refl
-    (subst (λ (f : Found). IsFound (child n c.in-Some.card) (c.args.round.now.moves - 1) c.cards.front.vectors f) c.in-Exact.is c.in_ok-below.ensures.found)
+    (subst (λ (f : Found). IsFound (child n c.in-Some.card) (c.args.round.now.moves - 1) c.cards.front.vectors f) c.in-Exact.is c.in_ok-below.ensures.searched.found)
     c.in_ok-below.ensures.fits c.in_ok-lead-in-Exact.ensures.leads c.in_ok-lead-in-Exact.ensures.union c.in_ok-lead-in-Exact.ensures.width in
     let moves : suc (c.args.round.now.moves - 1) ≡ c.args.round.now.moves = omega arith in
-    let best = stop_best n (c.args.round.now.moves - 1) c.args.round.now.weights.now so c.width.ensures.a_node c.requires.round.goes_on c.requires.round.ours c.in_ok-lead-in-Exact.lead refl c.args.round.now.previous.now.vectors c.args.round.now.rules.stop c.requires.round.previous c.is_enough.result c.if-is_enough.true
+    let best = stop_best n (c.args.round.now.moves - 1) c.args.round.now.weights.now so c.width.ensures.a_node c.requires.round.asked.goes_on c.requires.round.asked.ours c.in_ok-lead-in-Exact.lead refl c.args.round.now.previous.now.vectors c.args.round.now.rules.stop c.requires.round.previous c.is_enough.result c.if-is_enough.true
     c.is_enough.ensures.never c.is_enough.ensures.front c.is_enough.ensures.weight c.args.round.now.moves moves in
     subst (λ (weight : ℕ). IsBestWeight bridge c.args.round.now.weights.now n c.args.round.now.moves weight) (sym c.found.ensures.weight) best.0
 
@@ -99,10 +99,10 @@ pub returns-then-is_enough-clause-card : goal.returns-then-is_enough-clause-card
 returns-then-is_enough-clause-card g c =
     let n = c.args.round.now.node.now in
     let so = root_with n (c.args.round.now.moves - 1) c.args.round.now.weights.now c.cards.invariant.so.0 c.in-Some.ensures.value (child n c.in-Some.card) c.in-Exact.won c.with_card.new.front c.in_ok-lead-in-Exact.lead refl
-    (subst (λ (f : Found). IsFound (child n c.in-Some.card) (c.args.round.now.moves - 1) c.cards.front.vectors f) c.in-Exact.is c.in_ok-below.ensures.found)
+    (subst (λ (f : Found). IsFound (child n c.in-Some.card) (c.args.round.now.moves - 1) c.cards.front.vectors f) c.in-Exact.is c.in_ok-below.ensures.searched.found)
     c.in_ok-below.ensures.fits c.in_ok-lead-in-Exact.ensures.leads c.in_ok-lead-in-Exact.ensures.union c.in_ok-lead-in-Exact.ensures.width in
     let moves : suc (c.args.round.now.moves - 1) ≡ c.args.round.now.moves = omega arith in
-    let best = stop_best n (c.args.round.now.moves - 1) c.args.round.now.weights.now so c.width.ensures.a_node c.requires.round.goes_on c.requires.round.ours c.in_ok-lead-in-Exact.lead refl c.args.round.now.previous.now.vectors c.args.round.now.rules.stop c.requires.round.previous c.is_enough.result c.if-is_enough.true
+    let best = stop_best n (c.args.round.now.moves - 1) c.args.round.now.weights.now so c.width.ensures.a_node c.requires.round.asked.goes_on c.requires.round.asked.ours c.in_ok-lead-in-Exact.lead refl c.args.round.now.previous.now.vectors c.args.round.now.rules.stop c.requires.round.previous c.is_enough.result c.if-is_enough.true
     c.is_enough.ensures.never c.is_enough.ensures.front c.is_enough.ensures.weight c.args.round.now.moves moves in
     subst (λ (card : ℕ). IsNamedByWeight bridge c.args.round.now.weights.now n c.args.round.now.moves card) (sym c.found.ensures.card) best.1
 
@@ -119,9 +119,9 @@ pub with_card-requires-clause-weights : goal.with_card-requires-clause-weights
 with_card-requires-clause-weights g c =
     let r = c.args.round.now in
     let n = r.node.now in
-    let same = root_width n (r.moves - 1) r.weights.now c.cards.invariant.so.0 c.in-Some.ensures.value (child n c.in-Some.card) c.in-Exact.won c.requires.round.ours refl
-    (subst (λ (f : Found). IsFound (child n c.in-Some.card) (r.moves - 1) c.cards.front.vectors f) c.in-Exact.is c.in_ok-below.ensures.found) in
-    c.requires.round.weights ∙ sym (same ∙ c.cards.invariant.so.0.width)
+    let same = root_width n (r.moves - 1) r.weights.now c.cards.invariant.so.0 c.in-Some.ensures.value (child n c.in-Some.card) c.in-Exact.won c.requires.round.asked.ours refl
+    (subst (λ (f : Found). IsFound (child n c.in-Some.card) (r.moves - 1) c.cards.front.vectors f) c.in-Exact.is c.in_ok-below.ensures.searched.found) in
+    c.requires.round.asked.weights ∙ sym (same ∙ c.cards.invariant.so.0.width)
 
 pub returns-in_err-push-in-Exact-clause-grown : goal.returns-in_err-push-in-Exact-clause-grown
 returns-in_err-push-in-Exact-clause-grown g c = seen_more c.args.pass.now c.cards.pass c.after_place.new.pass c.cards.invariant.grown c.after_place.ensures.grown
@@ -134,12 +134,12 @@ returns-then-is_enough-clause-founds g c = λ other.
     let r = c.args.round.now in
     let n = r.node.now in
     let so = root_with_at n (r.moves - 1) r.weights.now c.cards.invariant.so.0 c.in-Some.ensures.value (child n c.in-Some.card) c.in-Exact.won c.with_card.new.front c.in_ok-lead-in-Exact.lead c.cards.place c.cards.invariant.so.1 refl
-    (subst (λ (f : Found). IsFound (child n c.in-Some.card) (r.moves - 1) c.cards.front.vectors f) c.in-Exact.is c.in_ok-below.ensures.found)
+    (subst (λ (f : Found). IsFound (child n c.in-Some.card) (r.moves - 1) c.cards.front.vectors f) c.in-Exact.is c.in_ok-below.ensures.searched.found)
     c.in_ok-below.ensures.fits c.in_ok-lead-in-Exact.ensures.leads c.in_ok-lead-in-Exact.ensures.union c.in_ok-lead-in-Exact.ensures.width in
     let here = found_after n r.moves (MakesCuts r) c.cards.place c.in-Some.card c.cards.front.vectors (Exact c.in-Exact.won)
     (root_here n (r.moves - 1) r.weights.now c.cards.invariant.so.0 c.in-Some.ensures.value c.cards.place c.cards.invariant.so.1)
     (root_won n (r.moves - 1) r.weights.now c.cards.invariant.so.0 c.in-Some.ensures.value c.cards.place c.cards.invariant.so.1)
-    (subst (λ (f : Found). IsFound (child n c.in-Some.card) (r.moves - 1) c.cards.front.vectors f) c.in-Exact.is c.in_ok-below.ensures.found)
+    (subst (λ (f : Found). IsFound (child n c.in-Some.card) (r.moves - 1) c.cards.front.vectors f) c.in-Exact.is c.in_ok-below.ensures.searched.found)
     (λ e. let no : Exact c.in-Exact.won ≡ Below = e in cc) in
     let more = founds_more r c.cards.founds.items c.push.new.self.items (Exact c.in-Exact.won) c.cards.place c.in_ok-push-in-Exact.ensures.items c.cards.invariant.founds c.cards.invariant.counted here in
     let counted = counted_push r c.cards.founds.items c.push.new.self.items (Exact c.in-Exact.won) c.cards.place c.in_ok-push-in-Exact.ensures.items c.cards.invariant.counted in
@@ -153,17 +153,17 @@ cards-preserved-in-Exact g c =
     let here = found_after n r.moves (MakesCuts r) c.cards.place c.in-Some.card c.cards.front.vectors (Exact c.in-Exact.won)
     (root_here n (r.moves - 1) r.weights.now c.cards.invariant.so.0 c.in-Some.ensures.value c.cards.place c.cards.invariant.so.1)
     (root_won n (r.moves - 1) r.weights.now c.cards.invariant.so.0 c.in-Some.ensures.value c.cards.place c.cards.invariant.so.1)
-    (subst (λ (f : Found). IsFound (child n c.in-Some.card) (r.moves - 1) c.cards.front.vectors f) c.in-Exact.is c.in_ok-below.ensures.found)
+    (subst (λ (f : Found). IsFound (child n c.in-Some.card) (r.moves - 1) c.cards.front.vectors f) c.in-Exact.is c.in_ok-below.ensures.searched.found)
     (λ e. let no : Exact c.in-Exact.won ≡ Below = e in cc) in record {
       pass = c.after_place.ensures.pass;
       grown = seen_more c.args.pass.now c.cards.pass c.after_place.new.pass c.cards.invariant.grown c.after_place.ensures.grown;
       right = c.after_place.ensures.right;
       founds = founds_more r c.cards.founds.items c.push.new.self.items (Exact c.in-Exact.won) c.cards.place c.in_ok-push-in-Exact.ensures.items c.cards.invariant.founds c.cards.invariant.counted here;
       counted = counted_push r c.cards.founds.items c.push.new.self.items (Exact c.in-Exact.won) c.cards.place c.in_ok-push-in-Exact.ensures.items c.cards.invariant.counted;
-      most = c.larger-entered.ensures.within r.nodes c.in_ok-below.ensures.within c.cards.invariant.most;
+      most = c.larger-entered.ensures.within r.nodes c.in_ok-below.ensures.searched.within c.cards.invariant.most;
       searched = inr refl;
       so = root_with_at n (r.moves - 1) r.weights.now c.cards.invariant.so.0 c.in-Some.ensures.value (child n c.in-Some.card) c.in-Exact.won c.with_card.new.front c.in_ok-lead-in-Exact.lead c.cards.place c.cards.invariant.so.1 refl
-          (subst (λ (f : Found). IsFound (child n c.in-Some.card) (r.moves - 1) c.cards.front.vectors f) c.in-Exact.is c.in_ok-below.ensures.found)
+          (subst (λ (f : Found). IsFound (child n c.in-Some.card) (r.moves - 1) c.cards.front.vectors f) c.in-Exact.is c.in_ok-below.ensures.searched.found)
           c.in_ok-below.ensures.fits c.in_ok-lead-in-Exact.ensures.leads c.in_ok-lead-in-Exact.ensures.union c.in_ok-lead-in-Exact.ensures.width;
     }
 
@@ -171,8 +171,8 @@ pub cards-preserved : goal.cards-preserved
 cards-preserved g c =
     let r = c.args.round.now in
     let n = r.node.now in
-    let below = subst (λ (f : Found). IsFound (child n c.in-Some.card) (r.moves - 1) c.cards.front.vectors f) c.in-Below.is c.in_ok-below.ensures.found in
-    let cut : MakesCuts r = λ none. subst (λ (f : Found). IsExact f) c.in-Below.is (c.in_ok-below.ensures.exact none) in
+    let below = subst (λ (f : Found). IsFound (child n c.in-Some.card) (r.moves - 1) c.cards.front.vectors f) c.in-Below.is c.in_ok-below.ensures.searched.found in
+    let cut : MakesCuts r = λ none. subst (λ (f : Found). IsExact f) c.in-Below.is (c.in_ok-below.ensures.searched.exact none) in
     let here = found_after n r.moves (MakesCuts r) c.cards.place c.in-Some.card c.cards.front.vectors Below
     (root_here n (r.moves - 1) r.weights.now c.cards.invariant.so.0 c.in-Some.ensures.value c.cards.place c.cards.invariant.so.1)
     (root_won n (r.moves - 1) r.weights.now c.cards.invariant.so.0 c.in-Some.ensures.value c.cards.place c.cards.invariant.so.1)
@@ -182,7 +182,7 @@ cards-preserved g c =
       right = c.after_place.ensures.right;
       founds = founds_more r c.cards.founds.items c.push-in-Below.new.self.items Below c.cards.place c.in_ok-push-in-Below.ensures.items c.cards.invariant.founds c.cards.invariant.counted here;
       counted = counted_push r c.cards.founds.items c.push-in-Below.new.self.items Below c.cards.place c.in_ok-push-in-Below.ensures.items c.cards.invariant.counted;
-      most = c.larger-entered.ensures.within r.nodes c.in_ok-below.ensures.within c.cards.invariant.most;
+      most = c.larger-entered.ensures.within r.nodes c.in_ok-below.ensures.searched.within c.cards.invariant.most;
       searched = inr refl;
       so = root_covered_at n (r.moves - 1) r.weights.now c.cards.invariant.so.0 c.in-Some.ensures.value c.width.ensures.a_node (child n c.in-Some.card) c.cards.place c.cards.invariant.so.1 refl
           below (λ plain. cut plain.cuts);
@@ -190,7 +190,7 @@ cards-preserved g c =
 
 pub unreachable-requires : goal.unreachable-requires
 unreachable-requires g c =
-    root_some c.args.round.now.node.now (c.args.round.now.moves - 1) c.args.round.now.weights.now c.cards.invariant.so.0 c.width.ensures.a_node c.requires.round.goes_on c.requires.round.ours c.in_default.ensures.value.0 c.in-None.is
+    root_some c.args.round.now.node.now (c.args.round.now.moves - 1) c.args.round.now.weights.now c.cards.invariant.so.0 c.width.ensures.a_node c.requires.round.asked.goes_on c.requires.round.asked.ours c.in_default.ensures.value.0 c.in-None.is
 
 pub returns-clause-front : goal.returns-clause-front
 returns-clause-front g c = λ other.
@@ -198,15 +198,15 @@ returns-clause-front g c = λ other.
     let so = c.cards.invariant.so.0 in
     let moves : suc (c.args.round.now.moves - 1) ≡ c.args.round.now.moves = omega arith in
     subst (λ front. IsFrontAt n c.args.round.now.moves front) (sym c.found-in-Some-best.ensures.front)
-    (front_here n (c.args.round.now.moves - 1) c.args.round.now.weights.now so c.width.ensures.a_node c.requires.round.goes_on c.requires.round.ours c.args.round.now.moves moves
-    (root_front n (c.args.round.now.moves - 1) c.args.round.now.weights.now so c.width.ensures.a_node c.requires.round.goes_on c.requires.round.ours c.in_default.ensures.value.0))
+    (front_here n (c.args.round.now.moves - 1) c.args.round.now.weights.now so c.width.ensures.a_node c.requires.round.asked.goes_on c.requires.round.asked.ours c.args.round.now.moves moves
+    (root_front n (c.args.round.now.moves - 1) c.args.round.now.weights.now so c.width.ensures.a_node c.requires.round.asked.goes_on c.requires.round.asked.ours c.in_default.ensures.value.0))
 
 pub returns-clause-weight : goal.returns-clause-weight
 returns-clause-weight g c =
     let n = c.args.round.now.node.now in
     let so = c.cards.invariant.so.0 in
     let moves : suc (c.args.round.now.moves - 1) ≡ c.args.round.now.moves = omega arith in
-    let best = best_of_all n (c.args.round.now.moves - 1) c.args.round.now.weights.now so c.width.ensures.a_node c.requires.round.goes_on c.requires.round.ours c.in-Some-best.best c.in-Some-best.is c.in_default.ensures.value.0 in
+    let best = best_of_all n (c.args.round.now.moves - 1) c.args.round.now.weights.now so c.width.ensures.a_node c.requires.round.asked.goes_on c.requires.round.asked.ours c.in-Some-best.best c.in-Some-best.is c.in_default.ensures.value.0 in
     subst (λ (weight : ℕ). IsBestWeight bridge c.args.round.now.weights.now n c.args.round.now.moves weight) (sym c.found-in-Some-best.ensures.weight)
     (subst (λ m. IsBestWeight bridge c.args.round.now.weights.now n m c.in-Some-best.best.1) moves best.0)
 
@@ -215,7 +215,7 @@ returns-clause-card g c =
     let n = c.args.round.now.node.now in
     let so = c.cards.invariant.so.0 in
     let moves : suc (c.args.round.now.moves - 1) ≡ c.args.round.now.moves = omega arith in
-    let best = best_of_all n (c.args.round.now.moves - 1) c.args.round.now.weights.now so c.width.ensures.a_node c.requires.round.goes_on c.requires.round.ours c.in-Some-best.best c.in-Some-best.is c.in_default.ensures.value.0 in
+    let best = best_of_all n (c.args.round.now.moves - 1) c.args.round.now.weights.now so c.width.ensures.a_node c.requires.round.asked.goes_on c.requires.round.asked.ours c.in-Some-best.best c.in-Some-best.is c.in_default.ensures.value.0 in
     subst (λ (card : ℕ). IsNamedByWeight bridge c.args.round.now.weights.now n c.args.round.now.moves card) (sym c.found-in-Some-best.ensures.card)
     (subst (λ m. IsNamedByWeight bridge c.args.round.now.weights.now n m c.in-Some-best.best.0) moves best.1)
 
@@ -232,4 +232,4 @@ unwrap-requires g c = elim c.cards.invariant.searched [
 
 pub returns-then-is_enough-clause-within : goal.returns-then-is_enough-clause-within
 returns-then-is_enough-clause-within g c =
-    rw (c.found.ensures.most) (c.larger-entered.ensures.within c.args.round.now.nodes c.in_ok-below.ensures.within c.cards.invariant.most)
+    rw (c.found.ensures.most) (c.larger-entered.ensures.within c.args.round.now.nodes c.in_ok-below.ensures.searched.within c.cards.invariant.most)

@@ -14,11 +14,13 @@ use Rattle.root_workers.proofs.deepening.deepened.Goals as goal
 pub run_round-requires-clause-round : goal.run_round-requires-clause-round
 run_round-requires-clause-round g c = λ κs outlives.
     let same : c.loop-fewer.fewer ≡ c.loop-fewer.fewer + 1 - 1 = omega arith in record {
-      ours = c.requires.question.ours;
-      goes_on = c.requires.question.goes_on;
-      some_moves = omega arith;
-      few_moves = omega (arith, c.requires.question.few_moves);
-      weights = c.requires.question.weights;
+      asked = record {
+        ours = c.requires.question.ours;
+        goes_on = c.requires.question.goes_on;
+        some_moves = omega arith;
+        few_moves = omega (arith, c.requires.question.few_moves);
+        weights = c.requires.question.weights;
+      };
       width = c.loop-fewer.invariant.front.width;
       previous = λ _. subst (λ k. IsFront bridge c.args.question.now.node.now k c.loop-fewer.front.vectors) same c.loop-fewer.invariant.front.front;
     }

@@ -12,7 +12,7 @@ union-requires c =
     let n = c.args.round.now.node.now in
     let known = c.requires.known in
     let is : IsFrontAt (child n known.card) (c.args.round.now.moves - 1) c.in-Exact.front = exact_front c.args.round.now c.args.place c.args.known.now c.in-Exact.front _ c.in-Exact.is known in
-    is.width ∙ length-our_child n known.card c.requires.round.ours (has_card-from_Contains (choices n) known.card (get_in (choices n) c.args.place known.card known.here)) ∙ sym c.requires.own.width
+    is.width ∙ length-our_child n known.card c.requires.round.asked.ours (has_card-from_Contains (choices n) known.card (get_in (choices n) c.args.place known.card known.here)) ∙ sym c.requires.own.width
 
 pub returns-in_ok-union : goal.returns-in_ok-union
 returns-in_ok-union c =

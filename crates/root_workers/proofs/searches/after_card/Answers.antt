@@ -7,4 +7,4 @@ use Rattle.root_workers.proofs.searches.after_card.Goals as goal
 pub searched-requires-clause-width : goal.searched-requires-clause-width
 searched-requires-clause-width g c =
     let same = ap (λ (m : NodeValue). length m.lefts) c.in_ok-child.ensures.node in
-    c.requires.width ∙ sym (same ∙ length-our_child c.args.round.now.node.now c.args.card c.requires.round.ours (has_card-from_Contains (choices c.args.round.now.node.now) c.args.card c.requires.card))
+    c.requires.width ∙ sym (same ∙ length-our_child c.args.round.now.node.now c.args.card c.requires.round.asked.ours (has_card-from_Contains (choices c.args.round.now.node.now) c.args.card c.requires.card))

@@ -1,0 +1,138 @@
+//! The report of a root, the card to play at it, and the first strategy that is printed for it.
+ghost use Rattle.std.specs.Prelude.{Ok, IfOk, IfErr};
+ghost use Rattle.strategy_tree.specs.PlanMeaning.{plan_of};
+ghost use Rattle.front_table.specs.Proven.{IsFrontAt};
+ghost use Rattle.strategy_tree.specs.RootTrees.{AllFit};
+ghost use Rattle.root_workers.specs.Questions.{IsQuestion, NamesSpent};
+ghost use Rattle.shared_table.specs.Passes.{IsPassOf};
+ghost use Rattle.am_answer.specs.Tasks.{Card, Match, Playing, Solve};
+ghost use Rattle.am_answer.specs.Endings.{IsPlain};
+ghost use Rattle.am_answer.specs.Matches.{IsFirstStrategy};
+ghost use Rattle.am_answer.specs.Stages.{IsTaskRefusal, IsTextFor};
+ghost use Rattle.job_search.specs.RootJobs.{IsRootJob};
+
+use alphamu_core::RootFault;
+use am_answer::{Root, Status};
+use am_report::{Entry, card_text};
+use byte_text::Text;
+use job_words::Search;
+use pareto_fronts::Front;
+use root_answers::{chosen_plan, options_of, report_text, reported, table_of, written_root};
+use root_workers::{Question, RootCrew};
+use shared_table::Pass;
+use std::alloc::Global;
+
+/// A root to be searched with `moves` moves of declarer's side, as the words ask.
+#[derive(Clone, Copy)]
+pub struct RootJob<'a> {
+    pub root: &'a Root,
+    pub moves: u8,
+    pub search: &'a Search,
+}
+
+/// The report of a root. Errors: `Spent` at a root card whose tree has more nodes than a search may
+/// enter, in a plain search the first such card; `Memory`. The crew and its gate change nothing of
+/// it.
+pub fn solve<C: RootCrew>(crew: &C, alloc: Global, job: &RootJob<'_>) -> Result<Text, Status>
+    requires ready { C.ready crew.now }
+    requires job { IsRootJob job.now }
+    ensures text { IfOk result
+        (IsTextFor (Ok (Solve job.now.root.now job.now.moves job.now.search.now))) }
+    ensures refused { IfErr result
+        (IsTaskRefusal (Ok (Solve job.now.root.now job.now.moves job.now.search.now))) }
+{
+    let root = job.root;
+    let options = options_of(job.search);
+    let (table, mut pass) = table_of(alloc, job.search)?;
+    let question = Question {
+        alloc,
+        node: &root.kept.node,
+        moves: job.moves,
+        weights: &root.kept.weights,
+        options: &options,
+        table: &table,
+    };
+    let answer = written_root(crew, &question, &mut pass)?;
+    Ok(report_text(alloc, root, job.moves, &answer)?)
+}
+
+/// The first card that keeps the best weight, with that weight.
+/// Errors: those of `solve`.
+pub fn name_card<C: RootCrew>(crew: &C, alloc: Global, job: &RootJob<'_>) -> Result<Text, Status>
+    requires ready { C.ready crew.now }
+    requires job { IsRootJob job.now }
+    ensures text { IfOk result
+        (IsTextFor (Ok (Card job.now.root.now job.now.moves job.now.search.now))) }
+    ensures refused { IfErr result
+        (IsTaskRefusal (Ok (Card job.now.root.now job.now.moves job.now.search.now))) }
+{
+    let root = job.root;
+    let options = options_of(job.search);
+    let (table, mut pass) = table_of(alloc, job.search)?;
+    let question = Question {
+        alloc,
+        node: &root.kept.node,
+        moves: job.moves,
+        weights: &root.kept.weights,
+        options: &options,
+        table: &table,
+    };
+    let found = question.card(crew, &mut pass)?;
+    Ok(card_text(alloc, found.card, found.weight, question.weights)?)
+}
+
+// The first vector of a front in report order, with the plan for it.
+fn first_entry(question: &Question, pass: Pass, front: &Front) -> Result<Entry, RootFault>
+    requires question { IsQuestion question.now }
+    requires pass { IsPassOf question.now.table.now pass }
+    requires front { IsFrontAt question.now.node.now question.now.moves front.now }
+    ensures first { IfOk result (λ entry. IsFirstStrategy question.now.node.now
+        question.now.weights.now question.now.moves entry.vector entry.plan) }
+    ensures spent { NamesSpent question.now result }
+{
+    prove!(question.node.width() > 0);
+    let vectors = reported(
+        question.alloc,
+        question.node,
+        question.moves,
+        question.weights,
+        front,
+    )?;
+    let vector = vectors[0];
+    Ok(Entry {
+        vector,
+        plan: chosen_plan(question, pass, &vector)?,
+    })
+}
+
+/// The first vector that is printed for a root, with its plan.
+/// Errors: those of `solve`.
+pub fn first_strategy<C: RootCrew>(
+    crew: &C,
+    alloc: Global,
+    job: &RootJob<'_>,
+) -> Result<Entry, Status>
+    requires ready { C.ready crew.now }
+    requires job { IsRootJob job.now }
+    ensures first { IfOk result (λ entry.
+        IsFirstStrategy job.now.root.now.kept.node job.now.root.now.kept.weights job.now.moves
+        entry.vector entry.plan) }
+    ensures fits { IfOk result (λ _. IsPlain job.now.search.now
+        → AllFit job.now.root.now.kept.node job.now.moves job.now.search.now.nodes) }
+    ensures refused { (playing : Playing) → IfErr result (IsTaskRefusal
+        (Ok (Match job.now.root.now job.now.moves job.now.search.now playing))) }
+{
+    let root = job.root;
+    let options = options_of(job.search);
+    let (table, mut pass) = table_of(alloc, job.search)?;
+    let question = Question {
+        alloc,
+        node: &root.kept.node,
+        moves: job.moves,
+        weights: &root.kept.weights,
+        options: &options,
+        table: &table,
+    };
+    let found = question.front(crew, &mut pass)?;
+    Ok(first_entry(&question, pass, &found.front)?)
+}

@@ -1,0 +1,67 @@
+//! The plan for a vector of a front.
+ghost use Rattle.std.specs.Prelude.{IfOk};
+ghost use Rattle.strategy_games.specs.Choosing.{IsChosenPlan};
+ghost use Rattle.strategy_tree.specs.Bridge.{bridge};
+ghost use Rattle.strategy_tree.specs.PlanMeaning.{plan_of};
+ghost use Rattle.plan_finder.specs.Targets.{IsOfFront};
+ghost use Rattle.root_workers.specs.Questions.{IsQuestion, NamesSpent};
+ghost use Rattle.shared_table.specs.Passes.{IsPassOf};
+
+use alphamu_core::RootFault;
+use dd_solver::Solver;
+use front_table::{FrontStore, NoStore};
+use plan_finder::plan_for;
+use root_workers::Question;
+use shared_table::{Pass, SharedStore};
+use strategy_tree::Plan;
+use win_vectors::WinVector;
+
+// The plan for a vector, over a store.
+fn chosen<S: FrontStore>(
+    store: &mut S,
+    question: &Question,
+    vector: &WinVector,
+) -> Result<Plan, RootFault>
+    requires question { IsQuestion question.now }
+    requires target { IsOfFront question.now.node.now question.now.moves vector.now }
+    ensures plan { IfOk result (λ plan. IsChosenPlan bridge (plan_of plan)
+        question.now.node.now question.now.moves vector.now) }
+    ensures spent { NamesSpent question.now result }
+{
+    let mut solver = Solver::new(question.alloc);
+    let found = plan_for(
+        question.alloc,
+        store,
+        &mut solver,
+        question.node,
+        question.moves,
+        vector,
+        question.options.nodes,
+        question.options.cuts,
+    )?;
+    Ok(found.plan)
+}
+
+/// The plan that is chosen for a vector of the node's front. It is found over the table, if the
+/// options say so, by the last pass of a search.
+///
+/// `Spent` names a root card whose tree has more nodes than a search may enter.
+pub fn chosen_plan(
+    question: &Question,
+    mut pass: Pass,
+    vector: &WinVector,
+) -> Result<Plan, RootFault>
+    requires pass { IsPassOf question.now.table.now pass }
+    requires question { IsQuestion question.now }
+    requires target { IsOfFront question.now.node.now question.now.moves vector.now }
+    ensures plan { IfOk result (λ plan. IsChosenPlan bridge (plan_of plan)
+        question.now.node.now question.now.moves vector.now) }
+    ensures spent { NamesSpent question.now result }
+{
+    if question.options.table {
+        let mut store = SharedStore::new(question.table, &mut pass);
+        chosen(&mut store, question, vector)
+    } else {
+        chosen(&mut NoStore, question, vector)
+    }
+}
