@@ -5,6 +5,7 @@
 //! It promises nothing of its own: what is read, written and answered is the contract of
 //! `am_top::run`.
 #![tactic(auto)]
+
 ghost use Rattle.std.specs.Prelude.{◌≡◌, IfOk, length};
 
 use am_line::refuse;
@@ -44,7 +45,9 @@ fn main(rt: HostRuntime) -> ExitCode {
     let gate = &OpenGate;
     let status = match words_given(&rt) {
         Ok(words) => match defenders(alloc) {
-            Ok(mut table) => run(&rt, alloc, &words, &mut shelf, &mut out, &mut err, gate, &mut table),
+            Ok(mut table) => run(
+                &rt, alloc, &words, &mut shelf, &mut out, &mut err, gate, &mut table,
+            ),
             Err(_) => refuse(Status::Memory, &mut err),
         },
         Err(error) if error.kind() == io::ErrorKind::OutOfMemory => {

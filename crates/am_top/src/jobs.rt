@@ -18,7 +18,7 @@ use job_fusion::sample_text;
 use job_list::list_layouts;
 use job_match::{Match, play_match};
 use job_prove::prove_front;
-use job_search::{Made, RootJob, name_card, solve, summarize};
+use job_search::{Made, name_card, solve, summarize};
 use job_words::{Ask, LayoutsJob, Search};
 use layout_maker::made_problem;
 use root_workers::{InThreads, searched_in_threads};
@@ -54,16 +54,8 @@ fn text_at<R: Threads + Sync, G: Gate>(
         search: searched_in_threads,
     };
     match job {
-        LayoutsJob::Solve { moves, search } => {
-            let moves = *moves;
-            let asked = RootJob { root, moves, search };
-            solve(&crew, alloc, &asked)
-        }
-        LayoutsJob::Card { moves, search } => {
-            let moves = *moves;
-            let asked = RootJob { root, moves, search };
-            name_card(&crew, alloc, &asked)
-        }
+        LayoutsJob::Solve { moves, search } => solve(&crew, alloc, root, *moves, search),
+        LayoutsJob::Card { moves, search } => name_card(&crew, alloc, root, *moves, search),
         LayoutsJob::Match {
             moves,
             search,

@@ -12,7 +12,7 @@ use am_report::{Entry, match_text};
 use byte_text::Text;
 use card_sets::Seat;
 use dd_solver::Solver;
-use job_search::{RootJob, first_strategy};
+use job_search::first_strategy;
 use job_words::Search;
 use root_workers::RootCrew;
 use std::alloc::{AllocError, Global};
@@ -134,12 +134,7 @@ pub fn play_match<C: RootCrew>(
     let Some(place) = place_of(job.layout, root) else {
         return Err(Status::NoLayout(job.layout));
     };
-    let asked = RootJob {
-        root,
-        moves: job.moves,
-        search: job.search,
-    };
-    let first = first_strategy(crew, alloc, &asked)?;
+    let first = first_strategy(crew, alloc, root, job.moves, job.search)?;
     prove!(root.kept.node.width() > 0);
     let text = played_text(alloc, job, &first, place as u16, table)?;
     Ok(text)

@@ -6,7 +6,7 @@
 
 mod counted;
 mod made;
-mod root_job;
+mod root_jobs;
 
 pub use made::{Made, summarize};
-pub use root_job::{RootJob, first_strategy, name_card, solve};
+pub use root_jobs::{first_strategy, name_card, solve};

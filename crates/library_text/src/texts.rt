@@ -13,7 +13,7 @@ use byte_text::Text;
 use job_check::check_report;
 use job_fusion::sample_text_alone;
 use job_list::list_layouts;
-use job_search::{RootJob, name_card, solve};
+use job_search::{name_card, solve};
 use root_workers::Alone;
 use std::alloc::Global;
 
@@ -33,12 +33,7 @@ fn report(
 {
     let (moves, search) = search_by(moves, nodes)?;
     let root = root_of(alloc, deal, layouts)?;
-    let job = RootJob {
-        root: &root,
-        moves,
-        search: &search,
-    };
-    solve(&Alone { gate: &OpenGate }, alloc, &job)
+    solve(&Alone { gate: &OpenGate }, alloc, &root, moves, &search)
 }
 
 // The card to play at a root.
@@ -51,12 +46,7 @@ fn card(alloc: Global, deal: &[u8], layouts: &[u8], moves: u32, nodes: u64) -> R
 {
     let (moves, search) = search_by(moves, nodes)?;
     let root = root_of(alloc, deal, layouts)?;
-    let job = RootJob {
-        root: &root,
-        moves,
-        search: &search,
-    };
-    name_card(&Alone { gate: &OpenGate }, alloc, &job)
+    name_card(&Alone { gate: &OpenGate }, alloc, &root, moves, &search)
 }
 
 // What plain sampling believes at a root.

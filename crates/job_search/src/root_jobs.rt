@@ -1,15 +1,15 @@
 //! The report of a root, the card to play at it, and the first strategy that is printed for it.
-ghost use Rattle.std.specs.Prelude.{Ok, IfOk, IfErr};
-ghost use Rattle.strategy_tree.specs.PlanMeaning.{plan_of};
+ghost use Rattle.std.specs.Prelude.{◌≡◌, true, Ok, IfOk, IfErr, length};
 ghost use Rattle.front_table.specs.Proven.{IsFrontAt};
 ghost use Rattle.strategy_tree.specs.RootTrees.{AllFit};
 ghost use Rattle.root_workers.specs.Questions.{IsQuestion, NamesSpent};
 ghost use Rattle.shared_table.specs.Passes.{IsPassOf};
+ghost use Rattle.job_words.specs.Asks.{IsMoves, IsSearchWithinLimits};
+ghost use Rattle.am_answer.specs.Answers.{has_choice};
 ghost use Rattle.am_answer.specs.Tasks.{Card, Match, Playing, Solve};
 ghost use Rattle.am_answer.specs.Endings.{IsPlain};
 ghost use Rattle.am_answer.specs.Matches.{IsFirstStrategy};
 ghost use Rattle.am_answer.specs.Stages.{IsTaskRefusal, IsTextFor};
-ghost use Rattle.job_search.specs.RootJobs.{IsRootJob};
 
 use alphamu_core::RootFault;
 use am_answer::{Root, Status};
@@ -22,57 +22,62 @@ use root_workers::{Question, RootCrew};
 use shared_table::Pass;
 use std::alloc::Global;
 
-/// A root to be searched with `moves` moves of declarer's side, as the words ask.
-#[derive(Clone, Copy)]
-pub struct RootJob<'a> {
-    pub root: &'a Root,
-    pub moves: u8,
-    pub search: &'a Search,
-}
-
-/// The report of a root. Errors: `Spent` at a root card whose tree has more nodes than a search may
-/// enter, in a plain search the first such card; `Memory`. The crew and its gate change nothing of
-/// it.
-pub fn solve<C: RootCrew>(crew: &C, alloc: Global, job: &RootJob<'_>) -> Result<Text, Status>
+/// The report of a root, for `moves` moves of declarer's side. Errors: `Spent` at a root card whose
+/// tree has more nodes than a search may enter, in a plain search the first such card; `Memory`.
+/// The crew and its gate change nothing of it.
+pub fn solve<C: RootCrew>(
+    crew: &C,
+    alloc: Global,
+    root: &Root,
+    moves: u8,
+    search: &Search,
+) -> Result<Text, Status>
     requires ready { C.ready crew.now }
-    requires job { IsRootJob job.now }
-    ensures text { IfOk result
-        (IsTextFor (Ok (Solve job.now.root.now job.now.moves job.now.search.now))) }
-    ensures refused { IfErr result
-        (IsTaskRefusal (Ok (Solve job.now.root.now job.now.moves job.now.search.now))) }
+    requires turn { has_choice root.now.kept.node ≡ true }
+    requires weighed { length root.now.kept.weights ≡ length root.now.kept.node.lefts }
+    requires moves { IsMoves moves }
+    requires limits { IsSearchWithinLimits search.now }
+    ensures text { IfOk result (IsTextFor (Ok (Solve root.now moves search.now))) }
+    ensures refused { IfErr result (IsTaskRefusal (Ok (Solve root.now moves search.now))) }
 {
-    let root = job.root;
-    let options = options_of(job.search);
-    let (table, mut pass) = table_of(alloc, job.search)?;
+    let options = options_of(search);
+    let (table, mut pass) = table_of(alloc, search)?;
     let question = Question {
         alloc,
         node: &root.kept.node,
-        moves: job.moves,
+        moves,
         weights: &root.kept.weights,
         options: &options,
         table: &table,
     };
     let answer = written_root(crew, &question, &mut pass)?;
-    Ok(report_text(alloc, root, job.moves, &answer)?)
+    Ok(report_text(alloc, root, moves, &answer)?)
 }
 
-/// The first card that keeps the best weight, with that weight.
+/// The first card that keeps the best weight, with that weight, for `moves` moves of declarer's
+/// side.
 /// Errors: those of `solve`.
-pub fn name_card<C: RootCrew>(crew: &C, alloc: Global, job: &RootJob<'_>) -> Result<Text, Status>
+pub fn name_card<C: RootCrew>(
+    crew: &C,
+    alloc: Global,
+    root: &Root,
+    moves: u8,
+    search: &Search,
+) -> Result<Text, Status>
     requires ready { C.ready crew.now }
-    requires job { IsRootJob job.now }
-    ensures text { IfOk result
-        (IsTextFor (Ok (Card job.now.root.now job.now.moves job.now.search.now))) }
-    ensures refused { IfErr result
-        (IsTaskRefusal (Ok (Card job.now.root.now job.now.moves job.now.search.now))) }
+    requires turn { has_choice root.now.kept.node ≡ true }
+    requires weighed { length root.now.kept.weights ≡ length root.now.kept.node.lefts }
+    requires moves { IsMoves moves }
+    requires limits { IsSearchWithinLimits search.now }
+    ensures text { IfOk result (IsTextFor (Ok (Card root.now moves search.now))) }
+    ensures refused { IfErr result (IsTaskRefusal (Ok (Card root.now moves search.now))) }
 {
-    let root = job.root;
-    let options = options_of(job.search);
-    let (table, mut pass) = table_of(alloc, job.search)?;
+    let options = options_of(search);
+    let (table, mut pass) = table_of(alloc, search)?;
     let question = Question {
         alloc,
         node: &root.kept.node,
-        moves: job.moves,
+        moves,
         weights: &root.kept.weights,
         options: &options,
         table: &table,
@@ -105,30 +110,35 @@ fn first_entry(question: &Question, pass: Pass, front: &Front) -> Result<Entry, 
     })
 }
 
-/// The first vector that is printed for a root, with its plan.
+/// The first vector that is printed for a root, for `moves` moves of declarer's side, with its
+/// plan.
 /// Errors: those of `solve`.
 pub fn first_strategy<C: RootCrew>(
     crew: &C,
     alloc: Global,
-    job: &RootJob<'_>,
+    root: &Root,
+    moves: u8,
+    search: &Search,
 ) -> Result<Entry, Status>
     requires ready { C.ready crew.now }
-    requires job { IsRootJob job.now }
+    requires turn { has_choice root.now.kept.node ≡ true }
+    requires weighed { length root.now.kept.weights ≡ length root.now.kept.node.lefts }
+    requires moves { IsMoves moves }
+    requires limits { IsSearchWithinLimits search.now }
     ensures first { IfOk result (λ entry.
-        IsFirstStrategy job.now.root.now.kept.node job.now.root.now.kept.weights job.now.moves
+        IsFirstStrategy root.now.kept.node root.now.kept.weights moves
         entry.vector entry.plan) }
-    ensures fits { IfOk result (λ _. IsPlain job.now.search.now
-        → AllFit job.now.root.now.kept.node job.now.moves job.now.search.now.nodes) }
-    ensures refused { (playing : Playing) → IfErr result (IsTaskRefusal
-        (Ok (Match job.now.root.now job.now.moves job.now.search.now playing))) }
+    ensures fits { IfOk result (λ _. IsPlain search.now
+        → AllFit root.now.kept.node moves search.now.nodes) }
+    ensures refused { (playing : Playing)
+        → IfErr result (IsTaskRefusal (Ok (Match root.now moves search.now playing))) }
 {
-    let root = job.root;
-    let options = options_of(job.search);
-    let (table, mut pass) = table_of(alloc, job.search)?;
+    let options = options_of(search);
+    let (table, mut pass) = table_of(alloc, search)?;
     let question = Question {
         alloc,
         node: &root.kept.node,
-        moves: job.moves,
+        moves,
         weights: &root.kept.weights,
         options: &options,
         table: &table,
