@@ -1,6 +1,6 @@
 -- How the search of a root may end.
 use Rattle.std.proofs.Common.{◌≡◌, ℕ, List, Result, Ok, Err, refl, sym, subst}
-use Rattle.std.specs.Prelude.{⊤, IfOk, IsErrOf, IsErrAnd}
+use Rattle.std.specs.Prelude.{IfOk, IsErrOf, IsErrAnd}
 use Rattle.trick_rules.specs.Nodes.{NodeValue}
 use Rattle.strategy_games.specs.Choosing.{IsBestWeight, IsNamedByWeight}
 use Rattle.strategy_tree.specs.Bridge.{bridge}
@@ -10,12 +10,9 @@ use Rattle.alphamu_core.specs.declared.answers.RootFault.{RootFault}
 use Rattle.alphamu_core.specs.declared.answers.RootFault.TheVariants.{Spent, Memory}
 use Rattle.strategy_tree.specs.RootTrees.{IsSpentAt, IsFirstSpentAt, AllFit}
 use Rattle.root_workers.specs.Founds.{AreFound}
-use Rattle.root_workers.specs.Plain.{IsPlain}
-use Rattle.root_workers.specs.Questions.{IsRootEnd, NamesSpent, NamesFirstSpent}
-use Rattle.root_workers.specs.declared.question.Question.{Question}
+use Rattle.root_workers.specs.Questions.{IsRootEnd}
 use Rattle.root_workers.specs.declared.rounds.RoundFront.{RoundFront}
 use Rattle.root_workers.proofs.Founds.{found_by}
-use Rattle.root_workers.proofs.Stops.{passed_on}
 
 module _ (n : NodeValue) (moves nodes : ℕ) (weights : List ℕ) (whole cuts plain : Type 0) where
   -- the end by what is said of it clause by clause
@@ -63,15 +60,3 @@ module _ (n : NodeValue) (moves nodes : ℕ) (weights : List ℕ) (whole cuts pl
   }
   end_by (Err (Spent card)) end less reason simple at why is = (end.0, λ s. end.1 (is s))
   end_by (Err Memory) end less reason simple at why is = tt
-
--- what is said of the card that a fault names, once `?` has passed it on
-module _ {A : Type 0} (q : Question) (result : Result A RootFault) (fault : RootFault) (passed : IsErrAnd result (λ e. e ≡ fault))
-    (end : IsRootEnd q.node.now q.moves q.options.now.nodes q.weights.now ⊤ ⊤ (IsPlain q.options.now) (Err fault)) where
-  names : (card : ℕ) → IsErrOf result (Spent card) → IsSpentAt q.node.now q.moves q.options.now.nodes card × (IsPlain q.options.now → IsFirstSpentAt q.node.now q.moves q.options.now.nodes card)
-  names card e = spent_end q.node.now q.moves q.options.now.nodes q.weights.now ⊤ ⊤ (IsPlain q.options.now) fault card (passed_on result fault (Spent card) passed e) end
-
-  pub names_spent : NamesSpent q result
-  names_spent card e = (names card e).0
-
-  pub names_first_spent : NamesFirstSpent q result
-  names_first_spent plain card e = (names card e).1 plain

@@ -7,12 +7,12 @@ use Rattle.strategy_games.specs.Joins.{WinsByCard}
 use Rattle.strategy_tree.specs.Bridge.{bridge}
 
 -- a node where declarer's side is to play may be asked, with 1 to 26 moves and a weight for each layout
-pub record MayBeAsked (n : NodeValue) (moves : ℕ) (weights : List ℕ) : Type 0 where
+pub record MayBeAsked (n : NodeValue) (moves : ℕ) (ws : List ℕ) : Type 0 where
   pub ours : bridge.is_ours n ≡ true
   pub goes_on : bridge.is_over n ≡ false
   pub some_moves : 1 ≤ moves
   pub few_moves : moves ≤ most_moves
-  pub weights : length weights ≡ length n.lefts
+  pub weights : length ws ≡ length n.lefts
 
 -- whatever a strategy wins after the card, something is won after one of the earlier cards that dominates it
 abbrev pub IsCoveredBefore : NodeValue → ℕ → List ℕ → ℕ → Type 0
