@@ -1,8 +1,8 @@
 mod Zips
-mod Twins
-mod TwinNodes
+pub mod Twins
+pub mod TwinNodes
 mod Start
-mod OneFront
+pub mod OneFront
 mod Kept
 mod Masks
 mod Next

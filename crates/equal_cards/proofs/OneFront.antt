@@ -23,7 +23,7 @@ module _ (a b : ℕ) (suit : suit_of a ≡ suit_of b) (order : a < b) (low : b <
       subst (λ e. (mask bridge n (swap a b d) ≡ mask bridge m e) × TwinNodes a b (child n (swap a b d)) (child m e)) (swap-swap a b d)
       (sym (twins-mask a b suit order low n m r (swap a b d)), twins-child a b suit order low n m r (swap a b d))
 
-  twins_kept : IsKeptByPlay bridge IsNode (TwinNodes a b)
+  pub twins_kept : IsKeptByPlay bridge IsNode (TwinNodes a b)
   twins_kept = record {
     turn = λ n m ok mok r. nodes-turn a b n m ok r;
     decided = λ n m ok mok r. nodes-decided a b n m ok r;

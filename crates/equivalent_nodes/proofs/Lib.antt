@@ -1,0 +1,3 @@
+mod MovedUp
+mod Closing
+mod Relative

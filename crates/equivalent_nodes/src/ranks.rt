@@ -1,0 +1,85 @@
+//! Relative ranks (DDS: relRanks): between two tricks the cards in play stand at the highest places
+//! of their suits.
+ghost use Rattle.std.specs.Prelude.{◌≡◌, [], map, IfOk};
+ghost use Rattle.trick_rules.specs.Positions.{IsSound};
+ghost use Rattle.trick_rules.specs.Nodes.{IsNode};
+ghost use Rattle.equivalent_nodes.specs.Ranks.{gaps_of as gaps_at, with_gaps_closed as closed_up, with_gaps_closed_in, with_gaps_closed_at, in_relative_ranks as relative_node, AreEquivalent};
+
+use card_sets::CardSet;
+use double_dummy::cards_in_play;
+use std::alloc::{AllocError, Global};
+use trick_rules::{Node, Position};
+
+// The places at which no card is in play.
+fn gaps_of(position: &Position) -> CardSet
+    ensures { result ≡ gaps_at position.now }
+{
+    CardSet::pack().minus(cards_in_play(position))
+}
+
+// The cards after these gaps are closed, the lowest first.
+fn with_gaps_closed(gaps: CardSet, cards: CardSet) -> CardSet
+    ensures { result ≡ closed_up gaps cards }
+{
+    let mut rest = gaps;
+    let mut raised = cards;
+    while let Some(gap) = rest.pop_first() {
+        raised = raised.raised_to(gap);
+    }
+    raised
+}
+
+// Left's hands, one a layout, after these gaps are closed.
+fn lefts_of(alloc: Global, gaps: CardSet, node: &Node) -> Result<Vec<CardSet>, AllocError>
+    ensures lefts { IfOk result (λ lefts. lefts.items ≡ map (closed_up gaps) node.now.lefts) }
+    ensures a_node { IsNode node.now }
+{
+    let mut lefts = Vec::with_capacity(alloc, usize::from(node.width()))?;
+    for left in node.lefts() {
+        lefts.push(with_gaps_closed(gaps, *left))?;
+    }
+    Ok(lefts)
+}
+
+// The position after these gaps are closed.
+fn closed_position(gaps: CardSet, position: &Position) -> Position
+    requires { IsSound (with_gaps_closed_in gaps position.now) }
+    ensures { result ≡ with_gaps_closed_in gaps position.now }
+{
+    Position {
+        declarer: with_gaps_closed(gaps, position.declarer),
+        dummy: with_gaps_closed(gaps, position.dummy),
+        unseen: with_gaps_closed(gaps, position.unseen),
+        trick: position.trick.copy(),
+        need: position.need,
+        trump: position.trump,
+    }
+}
+
+// The node with all gaps closed, between two tricks.
+fn with_all_closed(alloc: Global, node: &Node) -> Result<Node, AllocError>
+    requires { node.now.position.trick.cards ≡ [] }
+    ensures value { IfOk result (λ there.
+        there ≡ with_gaps_closed_at (gaps_at node.now.position) node.now) }
+    ensures equivalent { IfOk result (AreEquivalent node.now) }
+{
+    let position = node.position();
+    let gaps = gaps_of(position);
+    let lefts = lefts_of(alloc, gaps, node)?;
+    let there = closed_position(gaps, position);
+    Node::new(alloc, there, lefts.as_slice())
+}
+
+/// The node in relative ranks, which has the same front with each number of moves. Between two
+/// tricks no gap is left in a suit: the cards in play stand at its highest places. A node whose
+/// trick is under way stays as it is.
+pub fn in_relative_ranks(alloc: Global, node: &Node) -> Result<Node, AllocError>
+    ensures value { IfOk result (λ there. there ≡ relative_node node.now) }
+    ensures equivalent { IfOk result (AreEquivalent node.now) }
+{
+    if node.position().trick.cards.is_empty() {
+        with_all_closed(alloc, node)
+    } else {
+        node.copy(alloc)
+    }
+}
