@@ -1,2 +1,4 @@
+pub mod Zips
 pub mod Lines
 pub mod Between
+pub mod Steps

@@ -54,7 +54,7 @@ found {X} f (x ∷ xs) = go (f x) refl (found f xs)
     go false is (inr none) = inr (λ y m e. ⊎_elim (λ (same : x ≡ y). true≢false (sym e ∙ ap f (sym same) ∙ is)) (λ (k : Contains xs y). none y k e) (Contains-cons x xs y m))
 
 -- a line for each card makes branches for them
-branches_from : {S C : Type 0} (Fit : Branches S C → Type 0) (Ok : C → Line S C → Type 0) → Fit NoBranch
+pub branches_from : {S C : Type 0} (Fit : Branches S C → Type 0) (Ok : C → Line S C → Type 0) → Fit NoBranch
     → ((c : C) (p : Line S C) (bs : Branches S C) → Ok c p → Fit bs → Fit (Branch c p bs))
     → (cs : List C) → ((c : C) → Contains cs c → (p : Line S C) × Ok c p) → (bs : Branches S C) × (cards_of bs ≡ cs) × Fit bs
 branches_from Fit Ok none more [] h = (NoBranch, refl, none)

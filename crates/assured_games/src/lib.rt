@@ -9,6 +9,7 @@ ghost use Rattle.win_vectors.specs.Fronts.{Vector};
 ghost use Rattle.win_vectors.specs.Weights.{IsMonotone};
 ghost use Rattle.strategy_games.specs.Games.{Game, IsLawful, IsDoubleDummy};
 ghost use Rattle.assured_games.specs.Laws.{IsPlayedOut, IsSureOfAll, IsBracketed, HasBracket};
+ghost use Rattle.assured_games.specs.Steps.{HasAssuredSteps};
 
 /// A game of hidden layouts with a test of nodes at which declarer's side is sure to make the
 /// contract.
@@ -53,4 +54,10 @@ pub fn assured_is_won<G: AssuredGame>()
 pub fn best_lies_in_the_bracket<G: AssuredGame>()
     ensures { (measure : Vector → ℕ) → IsMonotone measure
         → HasBracket G.game G.Sound G.sure measure }
+{}
+
+/// The assured front where play stops, and from the fronts of the children card by card, as a
+/// search goes through the choices of a node.
+pub fn assured_front_steps<G: AssuredGame>()
+    ensures { HasAssuredSteps G.game G.sure G.Sound }
 {}

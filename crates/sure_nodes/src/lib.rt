@@ -4,3 +4,6 @@
 #![tactic(auto)]
 
 pub mod laws;
+mod tops;
+
+pub use tops::is_sure;
