@@ -12,8 +12,8 @@ pub struct Choice {
 #[repr(C)]
 #[derive(Clone, Copy, Debug)]
 pub struct Worth {
-    /// The first of the heaviest vectors of the front after the card. Layout i is bit i % 64 of word
-    /// i / 64.
+    /// The first of the heaviest vectors of the front after the card. Layout i is bit i % 64 of
+    /// word i / 64.
     pub vector: [u64; 4],
     /// The card by its place in card order.
     pub card: u32,

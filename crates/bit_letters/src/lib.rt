@@ -1,6 +1,6 @@
-//! The bits of a vector as letters, 1 or 0 for each layout in order, as they are written and as they
-//! are read. It builds on `win_vectors` and `byte_text`. It promises the letters of the definition, and
-//! the vector that they say.
+//! The bits of a vector as letters: 1 or 0 for each layout, in order.
+//! It builds on `win_vectors` and `byte_text`.
+//! Its contract promises the letters of the definition, and the vector that letters say.
 #![tactic(auto)]
 
 ghost use Rattle.std.specs.Prelude.{◌≡◌, ◌≤◌, ◌++◌, OnOk, length, map};

@@ -15,8 +15,8 @@ use std::alloc::Global;
 use trick_rules::{MOST_MOVES, Node, Position};
 use win_vectors::Weights;
 
-/// A node at which declarer's side is to play, a weight for each of its layouts, how many moves, and
-/// how many nodes a search may enter.
+/// A node at which declarer's side is to play, a weight for each of its layouts, how many moves,
+/// and how many nodes a search may enter.
 #[derive(Drop)]
 pub struct Asked {
     pub node: Node,

@@ -14,7 +14,8 @@ use trick_rules::MOST_MOVES;
 
 /// How the caller alone searches by these moves and nodes, if they are allowed.
 pub fn search_by(moves: u32, nodes: u64) -> Result<(u8, Search), Status>
-    ensures found { IfOk result (λ found. (found.0 ≡ moves) × (search_by moves nodes ≡ Ok found.1)) }
+    ensures found { IfOk result
+        (λ found. (found.0 ≡ moves) × (search_by moves nodes ≡ Ok found.1)) }
     ensures moves { IfOk result (λ found. IsMoves found.0) }
     ensures limits { IfOk result (λ found. IsSearchWithinLimits found.1) }
     ensures refused { IfErr result (λ status. (status ≡ Status.BadWords)
