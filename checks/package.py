@@ -1,11 +1,12 @@
 #!/usr/bin/env python3
 """Makes the packages by ./build package and tries them: in a folder into which the .tar.gz is unpacked, and in an empty root into
 which dpkg installs the Debian package. In both the front page's first question is answered without the toolchain on the path, the
-library's example is linked as pkg-config says and gives the same in C and Python, the checksums of BUILD agree, and the man page is
-well formed and has each job, option and status. A closed pipe is a failed write. After dpkg has removed the package nothing is left.
-What needs a command that isn't there, or the right to install, is left out, with a line.
+strategies of docs/USING.md are told in words, the library's example is linked as pkg-config says and gives the same in C and Python,
+the checksums of BUILD agree, and the man page is well formed and has each job, option and status. A closed pipe is a failed write.
+After dpkg has removed the package nothing is left. What needs a command that isn't there, or the right to install, is left out, with
+a line.
 
-There must be a current proved program and library, which ./build and ./build library make."""
+There must be current proved programs and a library, which ./build, ./build study and ./build library make."""
 import gzip
 import os
 import pathlib
@@ -55,6 +56,18 @@ def try_answer(prefix):
     expect(f"{prefix}: a closed pipe: {found}", (found.returncode, found.stderr) == (8, b"alphamu: cannot write\n"))
 
 
+def try_words(prefix):
+    """A report told in words by the second program, as docs/USING.md shows it."""
+    found = pages.commands((TOP / "docs/USING.md").read_text(encoding="utf-8"))
+    place = next(at for at, (_, it, _) in enumerate(found) if it.startswith("./study"))
+    report, answer = found[place - 1][1], found[place][2]
+    with tempfile.TemporaryDirectory() as room:
+        line = " && ".join((report, found[place][1])).replace("./alphamu", "alphamu").replace("./study", "alphamu_study")
+        env = {"PATH": f"{prefix}/bin:/usr/bin:/bin"}
+        told = run(["sh", "-c", line.replace("/tmp/", f"{room}/")], cwd=prefix / DOCS, env=env)
+    expect(f"{prefix}: the strategies in words: {told.stdout!r}", told.returncode == 0 and told.stdout.splitlines() == answer)
+
+
 def try_library(prefix):
     """The example of the library in C, linked against what is installed, and in Python: both print the same."""
     example, env = prefix / DOCS / "examples/library/ending", {"PATH": "/usr/bin:/bin", "PYTHONDONTWRITEBYTECODE": "1"}
@@ -89,7 +102,7 @@ def try_links(prefix):
 def try_man_page(prefix):
     text = gzip.decompress((prefix / "share/man/man1/alphamu.1.gz").read_bytes()).decode()
     bold = set(re.findall(r"\\fB(.*?)\\fR", text.replace("\\-", "-")))
-    for name in (*jobs.JOBS, *(f"--{it}" for it in jobs.OPTIONS)):
+    for name in (*jobs.JOBS, "alphamu_study", *(f"--{it}" for it in jobs.OPTIONS)):
         expect(f"the man page lacks {name}", name in bold)
     statuses = re.findall(r"^\| (\d+) \|", (TOP / "docs/REFUSALS.md").read_text(encoding="utf-8"), re.M)
     for status in statuses:
@@ -105,7 +118,7 @@ def try_tar(folder, made):
     with tarfile.open(made) as tar:
         tar.extractall(folder, filter="data")
     prefix = next(folder.iterdir())
-    for it in (try_answer, try_library, try_sums, try_links, try_man_page):
+    for it in (try_answer, try_words, try_library, try_sums, try_links, try_man_page):
         it(prefix)
 
 
@@ -117,7 +130,7 @@ def try_deb(root, made):
     (root / "var/lib/dpkg/status").touch()
     found = run(["dpkg", f"--root={root}", "--force-depends", "--install", made])
     expect(f"dpkg --install: {found.stdout}", found.returncode == 0)
-    for it in (try_answer, try_library, try_sums):
+    for it in (try_answer, try_words, try_library, try_sums):
         it(root / "usr")
     found = run(["dpkg", f"--root={root}", "--verify", "alphamu"])
     expect(f"dpkg --verify: {found.stdout}", (found.returncode, found.stdout) == (0, ""))

@@ -1,9 +1,12 @@
-"""The man page of alphamu, made from the pages for users: what alphamu is and its jobs from README.md, options, refusals and
-statuses from docs/REFUSALS.md, the first question from docs/USING.md. So each thing is said in one place."""
+"""The man page of alphamu and alphamu_study, made from the pages for users: what alphamu is and its jobs from README.md, options,
+refusals and statuses from docs/REFUSALS.md, the first question and the strategies in words from docs/USING.md. So each thing is said
+in one place."""
 import re
 
 TITLE, SECTION = re.compile(r"^# "), re.compile(r"^## (.*)$")
 BULLET = "\\(bu"
+# The files that alphamu_study is given.
+STUDY = ("deal", "layouts", "report")
 
 
 def escaped(text):
@@ -115,23 +118,28 @@ def synopsis(jobs):
             words.append("[\\fISEARCH OPTIONS\\fR]")
         out += [" ".join(words), ".br"]
     flags = [f"[\\fB\\-\\-{escaped(it)}\\fR" + ("]" if it in jobs.FLAGS else " \\fIN\\fR]") for it in jobs.SEARCH]
-    return [*out[:-1], ".PP", "The search options are", " ".join(flags)]
+    study = " ".join(["\\fBalphamu_study \\-\\-job words\\fR", *(f"\\fB\\-\\-{it}\\fR \\fIFILE\\fR" for it in STUDY)])
+    return [*out, study, ".PP", "The search options are", " ".join(flags)]
 
 
 def page(readme, refusals, using, jobs, version):
     """The man page as text."""
     what = readme[:readme.index("## ")]
-    first = section(using, "A first question")
+    first, words = (section(using, it).replace("./alphamu", "alphamu") for it in ("A first question", "The strategies in words"))
+    # Whoever has the man page has the program.
+    words = re.sub(r" A package has it .*", "", words).replace("    ./study", "    alphamu_study")
+    words = re.sub(r" `\./study` runs .*", "", words)
     refusals = refusals[refusals.index("\n## "):]
     out = [
         f'.TH ALPHAMU 1 "" "alphamu {version}" "alphamu"',
-        ".SH NAME", "alphamu \\- names the card that declarer should play at bridge, with a proof behind its answers",
+        ".SH NAME", "alphamu, alphamu_study \\- names the card that declarer should play at bridge, with a proof behind its answers",
         ".SH SYNOPSIS", *synopsis(jobs),
         ".SH DESCRIPTION", *converted(what),
         ".SH JOBS", *converted(section(readme, "What it does")),
         *converted(refusals),
-        ".SH EXAMPLE", *converted(first.replace("./alphamu", "alphamu")),
+        ".SH EXAMPLE", *converted(first),
+        ".SH THE STRATEGIES IN WORDS", *converted(words),
         ".SH SEE ALSO", *converted("The pages and the files of the examples are in `share/doc/alphamu` beside this page's folder: "
-                                   "begin with `docs/USING.md`. Run the commands of the pages in that folder, with `alphamu` for `./alphamu`."),
+                                   "begin with `docs/USING.md`. Run the commands of the pages in that folder."),
     ]
     return "\n".join(out) + "\n"

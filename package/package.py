@@ -2,9 +2,9 @@
 """package.py library [--prefix DIR] | install --prefix DIR | package [--out DIR]
 
 `library` makes libalphamu.a and libalphamu.so next to the proved static library, or puts them under a prefix with header, pkg-config file
-and bindings. `install` puts what people use under a prefix, and `package` into a .tar.gz and a Debian package: the proved program with
-its launcher, the man page, the library, the pages for users, the examples, and BUILD with the version, the kit that proved it, and a
-checksum of each other file. It proves nothing: ./build calls it once the proved program and library are there. If something fails, a
+and bindings. `install` puts what people use under a prefix, and `package` into a .tar.gz and a Debian package: the proved programs with
+their launcher, the man page, the library, the pages for users, the examples, and BUILD with the version, the kit that proved it, and a
+checksum of each other file. It proves nothing: ./build calls it once the proved programs and library are there. If something fails, a
 line on standard error says what, the status is 70, and what has been written so far stays, except that no package is left incomplete.
 """
 import argparse
@@ -27,13 +27,14 @@ import jobs
 import libraries
 import man
 
-PROGRAM = TOP / "crates" / "alphamu" / "out" / "alphamu"
+PROGRAMS = ("alphamu", "alphamu_study")
 DOCS = "share/doc/alphamu"
 # What people read, with the folders that come whole.
 PAGES = ("README.md", "CHANGELOG.md", "docs/USING.md", "docs/REFUSALS.md", "docs/PROGRAMS.md", "docs/SCALING.md", "docs/PROVED.md",
          "docs/TESTED.md", "docs/SPEED.md", "docs/definitions", "bindings/README.md", "bindings/c/README.md", "examples")
 LINK = re.compile(r"(?<!!)\[([^]]*)\]\(([^)#\s]*)(#[^)\s]*)?\)")
-COMMAND = re.compile(r"^(    (?:timeout \d+ )?)\./alphamu ", re.M)
+COMMAND = re.compile(r"^(    (?:timeout \d+ )?)\./(alphamu|study) ", re.M)
+INSTALLED = {"alphamu": "alphamu", "study": "alphamu_study"}
 SUMMARY = "which card should declarer play, with a proof behind its answers"
 
 
@@ -65,18 +66,20 @@ def for_package(name, text, names):
         target = os.path.normpath(os.path.join(os.path.dirname(name), link[2])) if link[2] else name
         is_there = "://" in link[2] or target in names or any(it.startswith(target + "/") for it in names)
         return link[0] if is_there else link[1]
-    return COMMAND.sub(r"\1alphamu ", LINK.sub(kept, text))
+    return COMMAND.sub(lambda it: f"{it[1]}{INSTALLED[it[2]]} ", LINK.sub(kept, text))
 
 
 def contents():
     """What the package holds: for each name under the prefix its bytes and its mode."""
     names = set(page_names())
     found = {
-        "bin/alphamu": ((TOP / "package" / "alphamu").read_bytes(), 0o755),
-        "lib/alphamu/alphamu": (PROGRAM.read_bytes(), 0o755),
         "share/man/man1/alphamu.1.gz": (gzip.compress(man_page().encode(), mtime=0), 0o644),
+        "share/man/man1/alphamu_study.1.gz": (b"alphamu.1.gz", libraries.LINK),
         **libraries.contents(SUMMARY, version()),
     }
+    for name in PROGRAMS:
+        found[f"bin/{name}"] = ((TOP / "package" / "launcher").read_bytes(), 0o755)
+        found[f"lib/alphamu/{name}"] = ((TOP / "crates" / name / "out" / name).read_bytes(), 0o755)
     for name in sorted(names):
         path = TOP / name
         data, mode = path.read_bytes(), 0o755 if os.access(path, os.X_OK) else 0o644
