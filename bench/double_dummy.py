@@ -1,6 +1,6 @@
 #!/usr/bin/env python3
-"""Checks double dummy against plain minimax and Bo Haglund's DDS (Debian's libdds-dev), and times it beside DDS and beside the same
-work in C++. Both sides answer the same question on the same random deals in one run. If an answer differs, the run stops.
+"""Checks double dummy against plain minimax and Bo Haglund's DDS (Debian's libdds-dev), and compares its time with DDS's, and
+with that of the same work in C++. Both sides answer the same question on the same random deals in one run. If an answer differs, the run stops.
 
 Usage: bench/double_dummy.py [MODE ..] [--OPTION VALUE ..]. If you give no mode, it runs all of them except `plain`.
     agree    compares answers: each need after 0 to 7 random cards, so inside tricks too. ENDINGS endings of three to eight tricks,

@@ -45,7 +45,7 @@ def as_number(cards):
 
 
 class Dds:
-    """A process that asks DDS one question after another. It clears DDS's memory before each, and times nothing but DDS's calls."""
+    """A process that puts one question after another to DDS. It clears DDS's memory before each, and times nothing but DDS's calls."""
 
     def __init__(self):
         self.process = subprocess.Popen([BASELINE, "lines"], stdin=subprocess.PIPE, stdout=subprocess.PIPE, text=True)
