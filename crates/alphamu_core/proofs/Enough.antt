@@ -35,3 +35,12 @@ module _ (n : NodeValue) where
         );
     sums = λ size. sum_by-filter size (has_card lowest) (choices n);
   })
+
+  -- which are those that have no lower equal card
+  pub lowest_part : (lowest cards : List ℕ) → cards ≡ filter (has_card lowest) (choices n)
+      → ((card : ℕ) → (has_card lowest card ≡ true) ↔ IsLowest n card)
+      → (card : ℕ) → (has_card cards card ≡ true) ↔ IsLowest n card
+  lowest_part lowest cards is low card = subst (λ cards. (has_card cards card ≡ true) ↔ IsLowest n card) (sym is) (
+    λ among. (low card).0 (and_parts (has_card (choices n) card) (has_card lowest card) (sym (has_card-filter (has_card lowest) (choices n) card) ∙ among)).1,
+    λ is_low. has_card-filter (has_card lowest) (choices n) card ∙ and_from (has_card (choices n) card) (has_card lowest card) is_low.choice ((low card).1 is_low),
+  )

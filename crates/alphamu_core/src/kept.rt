@@ -1,6 +1,8 @@
 // The cards that a search tries at a node.
-ghost use Rattle.std.specs.Prelude.{◌≡◌, [], true, MatchOption};
+ghost use Rattle.std.specs.Prelude.{◌≡◌, ◌↔◌, [], ℕ, true, IfSome, MatchOption};
+ghost use Rattle.card_sets.specs.SetWords.{has_card, IsLast};
 ghost use Rattle.trick_rules.specs.Nodes.{choices as choices_of};
+ghost use Rattle.equal_cards.specs.Equals.{IsLowest};
 ghost use Rattle.cut_rules.specs.Rules.{no_cuts};
 ghost use Rattle.alphamu_core.specs.Kept.{AreEnough, IsTaken};
 
@@ -12,6 +14,8 @@ use trick_rules::Node;
 /// The choices that are enough to try: if there are cuts, of equal cards the lowest.
 pub fn cards_to_try(node: &Node, rules: CutRules) -> CardSet
     ensures enough { AreEnough node.now result }
+    ensures lowest { rules.bound ≡ true
+        → (card : ℕ) → (has_card result card ≡ true) ↔ IsLowest node.now card }
     ensures each { rules ≡ no_cuts → result ≡ choices_of node.now }
 {
     if rules.bound {
@@ -23,13 +27,11 @@ pub fn cards_to_try(node: &Node, rules: CutRules) -> CardSet
 
 /// Takes the highest card out, in card order.
 pub fn take_highest(cards: &mut CardSet) -> Option<Card>
-    ensures { MatchOption result ((cards.old ≡ []) × (cards.new ≡ []))
+    ensures taken { MatchOption result ((cards.old ≡ []) × (cards.new ≡ []))
         (λ card. IsTaken cards.old card cards.new) }
+    ensures highest { IfSome result (λ card. IsLast card cards.old) }
 {
-    let mut highest = cards.first()?;
-    'higher: while let Some(next) = cards.after(highest) {
-        highest = next;
-    }
+    let highest = cards.last()?;
     *cards = cards.without(highest);
     Some(highest)
 }

@@ -32,7 +32,7 @@ at_declarer-cards-init g t c = record {
 }
 
 pub at_declarer-child-requires : goal.at_declarer-child-requires
-at_declarer-child-requires g t c = has_card-from_Contains _ _ (ours_next c.args.node.now (c.args.moves - 1) c.cards.invariant.so c.in-Some.ensures)
+at_declarer-child-requires g t c = has_card-from_Contains _ _ (ours_next c.args.node.now (c.args.moves - 1) c.cards.invariant.so c.in-Some.ensures.taken)
 
 pub at_declarer-returns-in_err-child-clause-costs : goal.at_declarer-returns-in_err-child-clause-costs
 at_declarer-returns-in_err-child-clause-costs g t c =
@@ -41,23 +41,23 @@ at_declarer-returns-in_err-child-clause-costs g t c =
 
 pub at_declarer-visit-requires : goal.at_declarer-visit-requires
 at_declarer-visit-requires g t c κs within =
-    let less = ours_fewer c.args.node.now (c.args.moves - 1) c.cards.invariant.so c.in-Some.ensures c.in_ok-child.ensures.node c.width.ensures.a_node in
-    let width = ours_width c.args.node.now (c.args.moves - 1) c.cards.invariant.so c.in-Some.ensures c.in_ok-child.ensures.node c.requires.ours in
+    let less = ours_fewer c.args.node.now (c.args.moves - 1) c.cards.invariant.so c.in-Some.ensures.taken c.in_ok-child.ensures.node c.width.ensures.a_node in
+    let width = ours_width c.args.node.now (c.args.moves - 1) c.cards.invariant.so c.in-Some.ensures.taken c.in_ok-child.ensures.node c.requires.ours in
     (omega arith, (within, (width, tt)))
 
 pub at_declarer-returns-in_err-found-clause-costs : goal.at_declarer-returns-in_err-found-clause-costs
 at_declarer-returns-in_err-found-clause-costs g t c =
     let size = size_ours c.args.node.now c.args.moves c.width.ensures.a_node c.requires.goes_on c.requires.ours in
-    paid_below (EntersEach c.args.self.now.rules g.S.FrontStore.blind) c.args.node.now (c.args.moves - 1) c.cards.invariant.paid c.args.moves size c.in-Some.ensures c.in_ok-child.ensures.node
+    paid_below (EntersEach c.args.self.now.rules g.S.FrontStore.blind) c.args.node.now (c.args.moves - 1) c.cards.invariant.paid c.args.moves size c.in-Some.ensures.taken c.in_ok-child.ensures.node
     c.from_residual-in_err-found.result c.in_err-found.field-0.0 (costs_by c.cards.invariant.same.rules c.in_err-found.ensures.costs) c.from_residual-in_err-found.ensures.1
 
 pub at_declarer-unite-requires : goal.at_declarer-unite-requires
-at_declarer-unite-requires g t c = ours_found_width c.args.node.now (c.args.moves - 1) c.cards.invariant.so c.in-Some.ensures c.in_ok-child.ensures.node c.requires.ours c.in_ok-found.found c.cards.self.rules c.in_ok-found.ensures.answer
+at_declarer-unite-requires g t c = ours_found_width c.args.node.now (c.args.moves - 1) c.cards.invariant.so c.in-Some.ensures.taken c.in_ok-child.ensures.node c.requires.ours c.in_ok-found.found c.cards.self.rules c.in_ok-found.ensures.answer
 
 pub at_declarer-returns-in_err-unite-clause-costs : goal.at_declarer-returns-in_err-unite-clause-costs
 at_declarer-returns-in_err-unite-clause-costs g t c =
     let size = size_ours c.args.node.now c.args.moves c.width.ensures.a_node c.requires.goes_on c.requires.ours in
-    let paid = paid_more (EntersEach c.args.self.now.rules g.S.FrontStore.blind) c.args.node.now (c.args.moves - 1) c.cards.invariant.paid c.in-Some.ensures c.in_ok-child.ensures.node c.in_ok-found.found (costs_by c.cards.invariant.same.rules c.in_ok-found.ensures.costs) in
+    let paid = paid_more (EntersEach c.args.self.now.rules g.S.FrontStore.blind) c.args.node.now (c.args.moves - 1) c.cards.invariant.paid c.in-Some.ensures.taken c.in_ok-child.ensures.node c.in_ok-found.found (costs_by c.cards.invariant.same.rules c.in_ok-found.ensures.costs) in
     paid_memory (EntersEach c.args.self.now.rules g.S.FrontStore.blind) c.args.node.now (c.args.moves - 1) paid c.args.moves size c.from_residual-in_err-unite.result c.from_residual-in_err-unite.ensures.1
 
 pub at_declarer-returns-in_err-unite-clause-same : goal.at_declarer-returns-in_err-unite-clause-same
@@ -69,13 +69,13 @@ at_declarer-is_reached-requires g t c =
 
 pub at_declarer-returns-then-is_reached-clause-answer : goal.at_declarer-returns-then-is_reached-clause-answer
 at_declarer-returns-then-is_reached-clause-answer g t c =
-    let so = ours_more c.args.node.now (c.args.moves - 1) c.cards.invariant.so c.in-Some.ensures c.in_ok-child.ensures.node c.in_ok-found.found c.cards.self.rules c.unite.new.front c.in_ok-found.ensures.answer c.in_ok-unite.ensures.united c.in_ok-unite.ensures.width in
+    let so = ours_more c.args.node.now (c.args.moves - 1) c.cards.invariant.so c.in-Some.ensures.taken c.in_ok-child.ensures.node c.in_ok-found.found c.cards.self.rules c.unite.new.front c.in_ok-found.ensures.answer c.in_ok-unite.ensures.united c.in_ok-unite.ensures.width in
     ours_enough c.args.node.now (c.args.moves - 1) so c.args.moves c.width.ensures.a_node c.requires.goes_on c.requires.ours refl c.args.upper.now c.requires.upper (c.is_reached.ensures c.if-is_reached.true)
 
 pub at_declarer-returns-then-is_reached-clause-costs : goal.at_declarer-returns-then-is_reached-clause-costs
 at_declarer-returns-then-is_reached-clause-costs g t c =
     let size = size_ours c.args.node.now c.args.moves c.width.ensures.a_node c.requires.goes_on c.requires.ours in
-    let paid = paid_more (EntersEach c.args.self.now.rules g.S.FrontStore.blind) c.args.node.now (c.args.moves - 1) c.cards.invariant.paid c.in-Some.ensures c.in_ok-child.ensures.node c.in_ok-found.found (costs_by c.cards.invariant.same.rules c.in_ok-found.ensures.costs) in
+    let paid = paid_more (EntersEach c.args.self.now.rules g.S.FrontStore.blind) c.args.node.now (c.args.moves - 1) c.cards.invariant.paid c.in-Some.ensures.taken c.in_ok-child.ensures.node c.in_ok-found.found (costs_by c.cards.invariant.same.rules c.in_ok-found.ensures.costs) in
     paid_all (EntersEach c.args.self.now.rules g.S.FrontStore.blind) c.args.node.now (c.args.moves - 1) paid c.args.moves size _
     (λ each. absurd (never_reached c.args.upper.now c.unite.new.front.vectors (c.requires.none each.0) (c.is_reached.ensures c.if-is_reached.true)))
 
@@ -84,33 +84,33 @@ at_declarer-returns-then-is_reached-clause-same g t c = same_more g.met.S.FrontS
 
 pub at_declarer-cards-preserved : goal.at_declarer-cards-preserved
 at_declarer-cards-preserved g t c = record {
-  so = ours_more c.args.node.now (c.args.moves - 1) c.cards.invariant.so c.in-Some.ensures c.in_ok-child.ensures.node c.in_ok-found.found c.cards.self.rules c.unite.new.front c.in_ok-found.ensures.answer c.in_ok-unite.ensures.united c.in_ok-unite.ensures.width;
-  paid = paid_more (EntersEach c.args.self.now.rules g.S.FrontStore.blind) c.args.node.now (c.args.moves - 1) c.cards.invariant.paid c.in-Some.ensures c.in_ok-child.ensures.node c.in_ok-found.found (costs_by c.cards.invariant.same.rules c.in_ok-found.ensures.costs);
+  so = ours_more c.args.node.now (c.args.moves - 1) c.cards.invariant.so c.in-Some.ensures.taken c.in_ok-child.ensures.node c.in_ok-found.found c.cards.self.rules c.unite.new.front c.in_ok-found.ensures.answer c.in_ok-unite.ensures.united c.in_ok-unite.ensures.width;
+  paid = paid_more (EntersEach c.args.self.now.rules g.S.FrontStore.blind) c.args.node.now (c.args.moves - 1) c.cards.invariant.paid c.in-Some.ensures.taken c.in_ok-child.ensures.node c.in_ok-found.found (costs_by c.cards.invariant.same.rules c.in_ok-found.ensures.costs);
   same = same_more g.met.S.FrontStore.grown_more c.cards.invariant.same c.in_ok-found.ensures.same;
 }
 
 pub at_declarer-cards-preserved-else-is_reached : goal.at_declarer-cards-preserved-else-is_reached
 at_declarer-cards-preserved-else-is_reached g t c = record {
-  so = ours_more c.args.node.now (c.args.moves - 1) c.cards.invariant.so c.in-Some.ensures c.in_ok-child.ensures.node c.in_ok-found.found c.cards.self.rules c.unite.new.front c.in_ok-found.ensures.answer c.in_ok-unite.ensures.united c.in_ok-unite.ensures.width;
-  paid = paid_more (EntersEach c.args.self.now.rules g.S.FrontStore.blind) c.args.node.now (c.args.moves - 1) c.cards.invariant.paid c.in-Some.ensures c.in_ok-child.ensures.node c.in_ok-found.found (costs_by c.cards.invariant.same.rules c.in_ok-found.ensures.costs);
+  so = ours_more c.args.node.now (c.args.moves - 1) c.cards.invariant.so c.in-Some.ensures.taken c.in_ok-child.ensures.node c.in_ok-found.found c.cards.self.rules c.unite.new.front c.in_ok-found.ensures.answer c.in_ok-unite.ensures.united c.in_ok-unite.ensures.width;
+  paid = paid_more (EntersEach c.args.self.now.rules g.S.FrontStore.blind) c.args.node.now (c.args.moves - 1) c.cards.invariant.paid c.in-Some.ensures.taken c.in_ok-child.ensures.node c.in_ok-found.found (costs_by c.cards.invariant.same.rules c.in_ok-found.ensures.costs);
   same = same_more g.met.S.FrontStore.grown_more c.cards.invariant.same c.in_ok-found.ensures.same;
 }
 
 pub at_declarer-cards-preserved-else-is_reached-2 : goal.at_declarer-cards-preserved-else-is_reached-2
 at_declarer-cards-preserved-else-is_reached-2 g t c = record {
-  so = ours_more c.args.node.now (c.args.moves - 1) c.cards.invariant.so c.in-Some.ensures c.in_ok-child.ensures.node c.in_ok-found.found c.cards.self.rules c.unite.new.front c.in_ok-found.ensures.answer c.in_ok-unite.ensures.united c.in_ok-unite.ensures.width;
-  paid = paid_more (EntersEach c.args.self.now.rules g.S.FrontStore.blind) c.args.node.now (c.args.moves - 1) c.cards.invariant.paid c.in-Some.ensures c.in_ok-child.ensures.node c.in_ok-found.found (costs_by c.cards.invariant.same.rules c.in_ok-found.ensures.costs);
+  so = ours_more c.args.node.now (c.args.moves - 1) c.cards.invariant.so c.in-Some.ensures.taken c.in_ok-child.ensures.node c.in_ok-found.found c.cards.self.rules c.unite.new.front c.in_ok-found.ensures.answer c.in_ok-unite.ensures.united c.in_ok-unite.ensures.width;
+  paid = paid_more (EntersEach c.args.self.now.rules g.S.FrontStore.blind) c.args.node.now (c.args.moves - 1) c.cards.invariant.paid c.in-Some.ensures.taken c.in_ok-child.ensures.node c.in_ok-found.found (costs_by c.cards.invariant.same.rules c.in_ok-found.ensures.costs);
   same = same_more g.met.S.FrontStore.grown_more c.cards.invariant.same c.in_ok-found.ensures.same;
 }
 
 pub at_declarer-returns-clause-answer : goal.at_declarer-returns-clause-answer
 at_declarer-returns-clause-answer g t c =
-    ours_all c.args.node.now (c.args.moves - 1) c.cards.invariant.so c.args.moves c.width.ensures.a_node c.requires.goes_on c.requires.ours refl c.in_default.ensures.0
+    ours_all c.args.node.now (c.args.moves - 1) c.cards.invariant.so c.args.moves c.width.ensures.a_node c.requires.goes_on c.requires.ours refl c.in_default.ensures.taken.0
 
 pub at_declarer-returns-clause-costs : goal.at_declarer-returns-clause-costs
 at_declarer-returns-clause-costs g t c =
     let size = size_ours c.args.node.now c.args.moves c.width.ensures.a_node c.requires.goes_on c.requires.ours in
-    paid_all (EntersEach c.args.self.now.rules g.S.FrontStore.blind) c.args.node.now (c.args.moves - 1) c.cards.invariant.paid c.args.moves size _ (λ each. c.in_default.ensures.0)
+    paid_all (EntersEach c.args.self.now.rules g.S.FrontStore.blind) c.args.node.now (c.args.moves - 1) c.cards.invariant.paid c.args.moves size _ (λ each. c.in_default.ensures.taken.0)
 
 -- ---- a defender
 

@@ -31,7 +31,7 @@ at_declarer-cards-init g t c =
     }
 
 pub at_declarer-child-requires : goal.at_declarer-child-requires
-at_declarer-child-requires g t c = has_card-from_Contains _ _ (ours_next c.args.node.now (c.args.moves - 1) c.cards.invariant.so.so c.in-Some.ensures)
+at_declarer-child-requires g t c = has_card-from_Contains _ _ (ours_next c.args.node.now (c.args.moves - 1) c.cards.invariant.so.so c.in-Some.ensures.taken)
 
 pub at_declarer-returns-in_err-child-clause-costs : goal.at_declarer-returns-in_err-child-clause-costs
 at_declarer-returns-in_err-child-clause-costs g t c =
@@ -41,30 +41,30 @@ at_declarer-returns-in_err-child-clause-costs g t c =
 pub at_declarer-visit-requires : goal.at_declarer-visit-requires
 at_declarer-visit-requires g t c κs within =
     let so = c.cards.invariant.so.so in
-    let taken = c.in-Some.ensures in
+    let taken = c.in-Some.ensures.taken in
     let less = fewer_cards _ _ _ c.width.ensures.a_node (ours_next c.args.node.now (c.args.moves - 1) so taken) c.in_ok-child.ensures.node in
     (omega arith, (within, (omega (arith, c.requires.few_moves), c.requires.width ∙ sym so.width ∙ ours_width c.args.node.now (c.args.moves - 1) so taken c.in_ok-child.ensures.node c.requires.ours)))
 
 pub at_declarer-returns-in_err-won-clause-costs : goal.at_declarer-returns-in_err-won-clause-costs
 at_declarer-returns-in_err-won-clause-costs g t c =
     let size = size_ours c.args.node.now c.args.moves c.width.ensures.a_node c.requires.goes_on c.requires.ours in
-    paid_below ⊥ c.args.node.now (c.args.moves - 1) c.cards.invariant.paid c.args.moves size c.in-Some.ensures c.in_ok-child.ensures.node
+    paid_below ⊥ c.args.node.now (c.args.moves - 1) c.cards.invariant.paid c.args.moves size c.in-Some.ensures.taken c.in_ok-child.ensures.node
     c.from_residual-in_err-won.result c.in_err-won.field-0.0 c.in_err-won.ensures.costs c.from_residual-in_err-won.ensures.1
 
 pub at_declarer-union-requires : goal.at_declarer-union-requires
 at_declarer-union-requires g t c =
     let so = c.cards.invariant.so in
-    c.in_ok-won.ensures.above.width ∙ sym (ours_width c.args.node.now (c.args.moves - 1) so.so c.in-Some.ensures c.in_ok-child.ensures.node c.requires.ours) ∙ so.so.width ∙ sym so.width
+    c.in_ok-won.ensures.above.width ∙ sym (ours_width c.args.node.now (c.args.moves - 1) so.so c.in-Some.ensures.taken c.in_ok-child.ensures.node c.requires.ours) ∙ so.so.width ∙ sym so.width
 
 pub at_declarer-returns-in_err-union-clause-costs : goal.at_declarer-returns-in_err-union-clause-costs
 at_declarer-returns-in_err-union-clause-costs g t c =
     let size = size_ours c.args.node.now c.args.moves c.width.ensures.a_node c.requires.goes_on c.requires.ours in
-    let paid = paid_more ⊥ c.args.node.now (c.args.moves - 1) c.cards.invariant.paid c.in-Some.ensures c.in_ok-child.ensures.node c.in_ok-won.won c.in_ok-won.ensures.costs in
+    let paid = paid_more ⊥ c.args.node.now (c.args.moves - 1) c.cards.invariant.paid c.in-Some.ensures.taken c.in_ok-child.ensures.node c.in_ok-won.won c.in_ok-won.ensures.costs in
     paid_memory ⊥ c.args.node.now (c.args.moves - 1) paid c.args.moves size c.from_residual-in_err-union.result c.from_residual-in_err-union.ensures.1
 
 pub at_declarer-cards-preserved : goal.at_declarer-cards-preserved
 at_declarer-cards-preserved g t c =
-    let taken = c.in-Some.ensures in
+    let taken = c.in-Some.ensures.taken in
     let same = above_more g.met.S.FrontStore.grown_more c.cards.invariant.same c.in_ok-won.ensures.same in
     record {
       so = ours_above_more c.args.node.now (c.args.moves - 1) c.args.target.now c.cards.invariant.so taken c.in_ok-child.ensures.node c.in_ok-won.won c.union.new.self c.in_ok-won.ensures.above c.in_ok-union.ensures.ok c.in_ok-union.ensures.width;
@@ -74,7 +74,7 @@ at_declarer-cards-preserved g t c =
 
 pub at_declarer-cards-preserved-else-is_complete : goal.at_declarer-cards-preserved-else-is_complete
 at_declarer-cards-preserved-else-is_complete g t c =
-    let taken = c.in-Some.ensures in
+    let taken = c.in-Some.ensures.taken in
     let same = above_more g.met.S.FrontStore.grown_more c.cards.invariant.same c.in_ok-won.ensures.same in
     record {
       so = ours_above_more c.args.node.now (c.args.moves - 1) c.args.target.now c.cards.invariant.so taken c.in_ok-child.ensures.node c.in_ok-won.won c.union.new.self c.in_ok-won.ensures.above c.in_ok-union.ensures.ok c.in_ok-union.ensures.width;
@@ -87,7 +87,7 @@ at_declarer-returns-in_err-union-clause-same g t c = above_more g.met.S.FrontSto
 
 pub at_declarer-returns-clause-above : goal.at_declarer-returns-clause-above
 at_declarer-returns-clause-above g t c =
-    ours_above_all c.args.node.now (c.args.moves - 1) c.args.target.now c.cards.invariant.so c.args.moves c.width.ensures.a_node c.requires.goes_on c.requires.ours refl c.in_default.ensures.0
+    ours_above_all c.args.node.now (c.args.moves - 1) c.args.target.now c.cards.invariant.so c.args.moves c.width.ensures.a_node c.requires.goes_on c.requires.ours refl c.in_default.ensures.taken.0
 
 pub at_declarer-returns-clause-costs : goal.at_declarer-returns-clause-costs
 at_declarer-returns-clause-costs g t c =
@@ -99,13 +99,13 @@ at_declarer-is_complete-requires g t c = c.in_ok-union.ensures.width ∙ c.cards
 
 pub at_declarer-returns-then-is_complete-clause-above : goal.at_declarer-returns-then-is_complete-clause-above
 at_declarer-returns-then-is_complete-clause-above g t c =
-    let so = ours_above_more c.args.node.now (c.args.moves - 1) c.args.target.now c.cards.invariant.so c.in-Some.ensures c.in_ok-child.ensures.node c.in_ok-won.won c.union.new.self c.in_ok-won.ensures.above c.in_ok-union.ensures.ok c.in_ok-union.ensures.width in
+    let so = ours_above_more c.args.node.now (c.args.moves - 1) c.args.target.now c.cards.invariant.so c.in-Some.ensures.taken c.in_ok-child.ensures.node c.in_ok-won.won c.union.new.self c.in_ok-won.ensures.above c.in_ok-union.ensures.ok c.in_ok-union.ensures.width in
     ours_above_enough c.args.node.now (c.args.moves - 1) c.args.target.now so c.args.moves c.width.ensures.a_node c.requires.goes_on c.requires.ours refl (c.is_complete.ensures c.if-is_complete.true)
 
 pub at_declarer-returns-then-is_complete-clause-costs : goal.at_declarer-returns-then-is_complete-clause-costs
 at_declarer-returns-then-is_complete-clause-costs g t c =
     let size = size_ours c.args.node.now c.args.moves c.width.ensures.a_node c.requires.goes_on c.requires.ours in
-    let paid = paid_more ⊥ c.args.node.now (c.args.moves - 1) c.cards.invariant.paid c.in-Some.ensures c.in_ok-child.ensures.node c.in_ok-won.won c.in_ok-won.ensures.costs in
+    let paid = paid_more ⊥ c.args.node.now (c.args.moves - 1) c.cards.invariant.paid c.in-Some.ensures.taken c.in_ok-child.ensures.node c.in_ok-won.won c.in_ok-won.ensures.costs in
     paid_all ⊥ c.args.node.now (c.args.moves - 1) paid c.args.moves size _ (λ each. absurd each)
 
 pub at_declarer-returns-then-is_complete-clause-same : goal.at_declarer-returns-then-is_complete-clause-same
