@@ -1,5 +1,6 @@
 //! The vectors of a front that dominate a target, by a search that looks for no others.
-ghost use Rattle.std.specs.Prelude.{◌≡◌, ◌≤◌, ◌<◌, ◌+◌, [], true, false, length, map, IfOk, IfSome, IsErrOf, IsTrue, slice_index_or};
+ghost use Rattle.std.specs.Prelude.{◌≡◌, ◌≤◌, ◌<◌, ◌+◌, [], true, false, length, map};
+ghost use Rattle.std.specs.Prelude.{IfOk, IfSome, IsErrOf, IsTrue, slice_index_or};
 ghost use Rattle.win_vectors.specs.Fronts.{Covers, Dominates};
 ghost use Rattle.trick_rules.specs.Play.{makes};
 ghost use Rattle.trick_rules.specs.Nodes.{IsNode, states, most_moves};
@@ -11,6 +12,7 @@ ghost use Rattle.alphamu_core.specs.Judging.{makes_at};
 ghost use Rattle.plan_finder.specs.Above.{IsPartAbove, AreAbove};
 ghost use Rattle.plan_finder.specs.AboveSearches.{IsSameAbove};
 
+use crate::rules::PlanRules;
 use alphamu_core::{Budget, Found, SearchFault, cards_to_try, search, take_highest};
 use cut_rules::CutRules;
 use dd_solver::Solver;
@@ -31,7 +33,7 @@ pub struct AboveSearch<'a, S> {
     pub store: &'a mut S,
     pub solver: &'a mut Solver,
     pub budget: &'a mut Budget,
-    pub rules: CutRules,
+    pub rules: PlanRules,
 }
 
 /// The vectors of the front of a node with `moves` moves that dominate a target. The budget pays for
@@ -44,7 +46,7 @@ pub fn vectors_above<S: FrontStore>(
     node: &Node,
     moves: u8,
     target: &WinVector,
-    rules: CutRules,
+    rules: PlanRules,
 ) -> Result<Front, SearchFault>
     requires few_moves { moves ≤ most_moves }
     requires width { length target.now ≡ length node.now.lefts }
@@ -161,7 +163,10 @@ impl<S: FrontStore> AboveSearch<'_, S> {
         ensures same_store { self.new.store.ghost_name ≡ self.old.store.ghost_name }
         ensures same_budget { self.new.budget.ghost_name ≡ self.old.budget.ghost_name }
     {
-        if self.rules.bound && !makes_each(self.solver, &node, target) {
+        if self.rules.whole_fronts {
+            return self.by_whole_front(&node, moves, target);
+        }
+        if self.rules.cuts.bound && !makes_each(self.solver, &node, target) {
             self.budget.enter()?;
             return Ok(no_vectors(self.alloc, &node));
         }
@@ -206,7 +211,7 @@ impl<S: FrontStore> AboveSearch<'_, S> {
             node,
             moves,
             &none,
-            self.rules,
+            self.rules.cuts,
         )? {
             Found::Exact(front) => Ok(part_above(self.alloc, &front, target)?),
             Found::Below => unreachable!(),
@@ -262,12 +267,12 @@ impl<S: FrontStore> AboveSearch<'_, S> {
         ensures same { IsSameAbove S.grown self.old self.new }
     {
         let mut front = Front::new(self.alloc, node.width());
-        let mut cards = cards_to_try(node, self.rules);
+        let mut cards = cards_to_try(node, self.rules.cuts);
         'cards: while let Some(card) = take_highest(&mut cards) {
             let (child, _) = node.child(self.alloc, card)?;
             let won = self.visit(child, moves - 1, target)?;
             front.union(&won)?;
-            if is_complete(self.solver, self.rules, node, &front) {
+            if is_complete(self.solver, self.rules.cuts, node, &front) {
                 return Ok(front);
             }
         }
@@ -288,7 +293,7 @@ impl<S: FrontStore> AboveSearch<'_, S> {
         ensures same { IsSameAbove S.grown self.old self.new }
     {
         let mut joiner = Joiner::new(self.alloc, node.width());
-        let mut cards = cards_to_try(node, self.rules);
+        let mut cards = cards_to_try(node, self.rules.cuts);
         'cards: while let Some(card) = cards.pop_first() {
             let (child, mask) = node.child(self.alloc, card)?;
             let part = target.restrict(mask);

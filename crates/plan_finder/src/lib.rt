@@ -8,6 +8,7 @@ mod choice;
 mod digest;
 mod finder;
 mod plan_lines;
+mod rules;
 mod searches;
 mod writer;
 mod written;

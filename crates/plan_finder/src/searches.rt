@@ -9,8 +9,8 @@ ghost use Rattle.plan_finder.specs.Choices.{KeepsNone};
 ghost use Rattle.plan_finder.specs.PlanSearches.{IsSameSearch};
 
 use crate::above::vectors_above;
+use crate::rules::PlanRules;
 use alphamu_core::{Budget, Entered, SearchFault};
-use cut_rules::{CutRules, Stop};
 use dd_solver::Solver;
 use front_table::FrontStore;
 use std::alloc::Global;
@@ -25,24 +25,15 @@ pub struct PlanSearch<'a, S> {
     pub store: &'a mut S,
     pub solver: &'a mut Solver,
     pub nodes: u64,
-    pub rules: CutRules,
+    pub rules: PlanRules,
 }
 
-/// The first vector of a front that dominates another, if there is one, and how many nodes the search
-/// for it entered.
+/// The first vector of a front that dominates another, if there is one, and how many nodes the
+/// search for it entered.
 #[derive(Drop)]
 pub struct Picked {
     pub vector: Option<WinVector>,
     pub entered: Entered,
-}
-
-/// The rules of a search: each cut, or none. It has no `ensures`, since no rules change an answer.
-pub fn rules_of(cuts: bool) -> CutRules {
-    if cuts {
-        CutRules::all(Stop::Never)
-    } else {
-        CutRules::none()
-    }
 }
 
 impl<S: FrontStore> PlanSearch<'_, S> {

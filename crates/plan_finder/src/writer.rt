@@ -25,6 +25,9 @@ const FEW_SLOTS: usize = 1024;
 
 const MOST_SLOTS: usize = 65_536;
 
+/// How many vectors a front has at most if its plans are found by whole fronts.
+const MOST_NARROW: usize = 200;
+
 /// How many bytes a short text has at most.
 const SHORT: usize = 65_536;
 
@@ -55,6 +58,7 @@ impl WrittenPlan {
 #[derive(Drop)]
 pub struct PlanWriter {
     alloc: Global,
+    whole_fronts: bool,
     text: Vec<u8>,
     slots: Vec<Option<WrittenPlan>>,
 }
@@ -83,12 +87,28 @@ fn empty_slots(alloc: Global, count: usize) -> Result<Vec<Option<WrittenPlan>>, 
 }
 
 impl PlanWriter {
-    /// Nothing written yet. It takes no memory.
+    /// Nothing written yet, for plans of which each is found by the vectors above its target. It
+    /// takes no memory.
     pub fn new(alloc: Global) -> PlanWriter
         ensures { result ≡ [] }
     {
         PlanWriter {
             alloc,
+            whole_fronts: false,
+            text: Vec::new(alloc),
+            slots: Vec::new(alloc),
+        }
+    }
+
+    /// Nothing written yet, for the plans of a front with this many vectors. If they are few, the
+    /// plans are found by whole fronts, which serve them all; the lines are the same. It takes no
+    /// memory.
+    pub fn for_front(alloc: Global, vectors: usize) -> PlanWriter
+        ensures { result ≡ [] }
+    {
+        PlanWriter {
+            alloc,
+            whole_fronts: vectors <= MOST_NARROW,
             text: Vec::new(alloc),
             slots: Vec::new(alloc),
         }
@@ -118,6 +138,11 @@ impl PlanWriter {
 
     pub(crate) fn alloc(&self) -> Global {
         self.alloc
+    }
+
+    /// Whether the plans are found by whole fronts.
+    pub(crate) fn whole_fronts(&self) -> bool {
+        self.whole_fronts
     }
 
     // The place of the plan for a vector of a node with `moves` moves, if it is remembered.

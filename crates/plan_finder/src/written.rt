@@ -11,7 +11,8 @@ ghost use Rattle.plan_finder.specs.Written.{IsPlanWritten, AreRepliesWritten};
 
 use crate::choice::{at_card, without_card};
 use crate::plan_lines::{push_hear, push_on, push_play, push_stop};
-use crate::searches::{PlanSearch, rules_of};
+use crate::rules::PlanRules;
+use crate::searches::PlanSearch;
 use crate::writer::PlanWriter;
 use alphamu_core::{Entered, RootFault, SearchFault};
 use dd_solver::Solver;
@@ -51,7 +52,7 @@ impl PlanWriter {
             store,
             solver,
             nodes,
-            rules: rules_of(cuts),
+            rules: PlanRules::new(cuts, self.whole_fronts()),
         };
         search.write_root(self, node, moves, target)
     }

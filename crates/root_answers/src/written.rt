@@ -48,7 +48,7 @@ fn written<S: FrontStore>(
     ensures spent { NamesSpent question.now result }
 {
     let mut solver = Solver::new(question.alloc);
-    let mut out = PlanWriter::new(question.alloc);
+    let mut out = PlanWriter::for_front(question.alloc, vectors.len());
     for vector in vectors {
         let line = vector_text(question.alloc, question.weights, *vector)?;
         out.push(line.bytes())?;
