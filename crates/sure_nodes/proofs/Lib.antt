@@ -1,5 +1,5 @@
 pub mod Kept
 pub mod Cashed
 pub mod PlayedOut
-pub mod Tops
+pub mod TopCards
 pub mod SureBridge

@@ -16,7 +16,7 @@ use Rattle.sure_tricks.specs.Sure.{AreSure}
 use Rattle.sure_nodes.specs.SureNodes.{own, sure_tops, is_sure_node}
 use Rattle.sure_nodes.proofs.Cashed.{some_state, state_of, cashed}
 use Rattle.sure_nodes.proofs.PlayedOut.{played_out}
-use Rattle.sure_nodes.proofs.Tops.{tops, own_set, length_tops, tops_sure}
+use Rattle.sure_nodes.proofs.TopCards.{tops, own_set, length_tops, tops_sure}
 
 no_cards : (xs : List ℕ) → length xs ≡ 0 → xs ≡ []
 no_cards [] e = refl
