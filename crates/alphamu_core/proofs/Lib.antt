@@ -18,3 +18,4 @@ pub mod OursSoFar
 pub mod TheirsSoFar
 pub mod Answered
 pub mod SameSearch
+pub mod StoreKeys

@@ -8,6 +8,7 @@ ghost use Rattle.strategy_tree.specs.Bridge.{bridge};
 ghost use Rattle.front_table.specs.Proven.{IsFrontAt};
 ghost use Rattle.cut_rules.specs.declared.CutRules.{CutRules};
 ghost use Rattle.cut_rules.specs.Rules.{no_cuts};
+ghost use Rattle.equivalent_nodes.specs.Ranks.{AreEquivalent};
 ghost use Rattle.alphamu_core.specs.Findings.{IsAnswer};
 ghost use Rattle.alphamu_core.specs.Judging.{IsKnown};
 ghost use Rattle.alphamu_core.specs.Limits.{IsLimit, IsUnknown, IsUpperBound, IsUnionOf};
@@ -37,11 +38,12 @@ pub enum Limit {
 }
 
 impl<S: FrontStore> TreeSearch<'_, S> {
-    /// The answer from the store, or by an upper bound; or else the upper bound, if the rules ask
-    /// for one.
+    /// The answer from the store, under the node's key, or by an upper bound; or else the upper
+    /// bound, if the rules ask for one.
     pub fn limit(
         &mut self,
         node: &Node,
+        key: &Node,
         moves: u8,
         alpha: &Front,
         known: Known,
@@ -49,15 +51,16 @@ impl<S: FrontStore> TreeSearch<'_, S> {
         requires width { alpha.now.width ≡ length node.now.lefts }
         requires known { IsKnown node.now known }
         requires goes_on { stops bridge node.now moves ≡ false }
+        requires key { AreEquivalent node.now key.now }
         ensures limit { IfOk result (IsLimit node.now moves alpha.now.vectors self.old.rules) }
         ensures unknown { self.old.rules ≡ no_cuts → S.blind ≡ true → IfOk result IsUnknown }
         ensures unpaid { self.new.budget.now.left ≡ self.old.budget.now.left }
         ensures same { IsSameSearch S.grown self.old self.new }
     {
-        if let Some(front) = self.scratch.known(self.store, node, moves)? {
+        if let Some(front) = self.scratch.known(self.store, node, key, moves)? {
             return Ok(Limit::Settled(Found::Exact(front)));
         }
-        if let Some(previous) = self.previous(node, moves)? {
+        if let Some(previous) = self.previous(node, key, moves)? {
             return by_previous(self.alloc, node, moves, alpha, previous);
         }
         if !self.rules.bound {
@@ -73,8 +76,9 @@ impl<S: FrontStore> TreeSearch<'_, S> {
     }
 
     // The front with a move less, if the rules use it and the store has it.
-    fn previous(&mut self, node: &Node, moves: u8) -> Result<Option<Front>, AllocError>
+    fn previous(&mut self, node: &Node, key: &Node, moves: u8) -> Result<Option<Front>, AllocError>
         requires goes_on { stops bridge node.now moves ≡ false }
+        requires key { AreEquivalent node.now key.now }
         ensures front { IfOk result (λ front. IfSome front (IsFrontAt node.now (moves - 1))) }
         ensures deepens { IfOk result (λ front. IfSome front (λ _. self.old.rules ≢ no_cuts)) }
         ensures unpaid { self.new.budget.now.left ≡ self.old.budget.now.left }
@@ -83,7 +87,7 @@ impl<S: FrontStore> TreeSearch<'_, S> {
         if !self.rules.deepen {
             return Ok(None);
         }
-        self.scratch.known(self.store, node, moves - 1)
+        self.scratch.known(self.store, node, key, moves - 1)
     }
 }
 

@@ -3,6 +3,7 @@ ghost use Rattle.std.specs.Prelude.{◌≡◌, ◌≤◌, true, IfOk, IfSome};
 ghost use Rattle.trick_rules.specs.Nodes.{IsNode};
 ghost use Rattle.front_table.specs.Proven.{IsFrontAt};
 ghost use Rattle.front_table.specs.Entries.{most_entry_vectors};
+ghost use Rattle.equivalent_nodes.specs.Ranks.{AreEquivalent};
 
 use front_table::{FrontStore, Look, MOST_ENTRY_VECTORS};
 use pareto_fronts::Front;
@@ -26,20 +27,22 @@ impl Scratch {
         Ok(Scratch { front })
     }
 
-    /// The front that the store has for a node with `moves` moves.
+    /// The front that the store has for a node with `moves` moves, under a key: an equivalent node.
     pub fn known<S: FrontStore>(
         &mut self,
         store: &mut S,
         node: &Node,
+        key: &Node,
         moves: u8,
     ) -> Result<Option<Front>, AllocError>
+        requires { AreEquivalent node.now key.now }
         ensures a_node { IsNode node.now }
         ensures front { IfOk result (λ front. IfSome front (IsFrontAt node.now moves)) }
         ensures blind { S.blind ≡ true → IfOk result (λ front. front ≡ None) }
         ensures grown { S.grown store.old store.new }
     {
         self.front.reset(node.width());
-        match store.look(node, moves, &mut self.front) {
+        match store.look(key, moves, &mut self.front) {
             Look::Hit => Ok(Some(self.front.copy()?)),
             Look::Miss | Look::Busy => Ok(None),
         }

@@ -10,6 +10,7 @@ ghost use Rattle.alphamu_core.specs.TreeSearches.{IsSameSearch, Pays, PaysBelow}
 
 use crate::answers::{Found, SearchFault};
 use crate::kept::{cards_to_try, take_highest};
+use crate::keys::store_key;
 use crate::known::Known;
 use crate::limits::{Limit, leaf};
 use crate::offers::offer;
@@ -72,12 +73,13 @@ impl<S: FrontStore> TreeSearch<'_, S> {
         ensures costs { PaysBelow S.blind node moves self.old self.new result }
         ensures same { IsSameSearch S.grown self.old self.new }
     {
-        let answer = match self.limit(&node, moves, alpha, known)? {
+        let key = store_key(self.alloc, &node, self.rules)?;
+        let answer = match self.limit(&node, &key, moves, alpha, known)? {
             Limit::Settled(found) => return Ok(found),
             Limit::Upper(made, upper) => self.in_made(&node, moves, alpha, made, upper),
             Limit::Open => self.by_cards(&node, moves, alpha, &None, Known::Nothing),
         };
-        offer(self.store, node, moves, &answer);
+        offer(self.store, &node, key, moves, &answer);
         answer
     }
 

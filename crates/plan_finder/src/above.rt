@@ -13,7 +13,7 @@ ghost use Rattle.plan_finder.specs.Above.{IsPartAbove, AreAbove};
 ghost use Rattle.plan_finder.specs.AboveSearches.{IsSameAbove};
 
 use crate::rules::PlanRules;
-use alphamu_core::{Budget, Found, SearchFault, cards_to_try, search, take_highest};
+use alphamu_core::{Budget, Found, SearchFault, cards_to_try, search, store_key, take_highest};
 use cut_rules::CutRules;
 use dd_solver::Solver;
 use front_join::Joiner;
@@ -218,7 +218,8 @@ impl<S: FrontStore> AboveSearch<'_, S> {
         }
     }
 
-    // The front that the store has for a node with `moves` moves.
+    // The front that the store has for a node with `moves` moves, under its key.
+    #[tactic(auto, using(alphamu_core::proofs::StoreKeys::front_from_key))]
     fn known(&mut self, node: &Node, moves: u8) -> Result<Option<Front>, AllocError>
         ensures front { IfOk result (λ front. IfSome front (IsFrontAt node.now moves)) }
         ensures unpaid { self.new.budget.now.left ≡ self.old.budget.now.left }
@@ -226,7 +227,8 @@ impl<S: FrontStore> AboveSearch<'_, S> {
     {
         let mut front = Front::new(self.alloc, node.width());
         front.reserve(MOST_ENTRY_VECTORS)?;
-        match self.store.look(node, moves, &mut front) {
+        let key = store_key(self.alloc, node, self.rules.cuts)?;
+        match self.store.look(&key, moves, &mut front) {
             Look::Hit => Ok(Some(front)),
             Look::Miss | Look::Busy => Ok(None),
         }

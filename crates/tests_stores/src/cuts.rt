@@ -253,3 +253,17 @@ fn an_inner_node_is_put(rt: HostRuntime) -> Result<(), Fail> {
     assert_eq!(rt; over(&rt, alloc, &mut store, &node, 2), (1, true));
     Ok(())
 }
+
+// S4 in place of S5: the cards in play lie alike, so the store has the front already. Else the root
+// and what follows it are entered again.
+#[test]
+fn cards_that_lie_alike(rt: HostRuntime) -> Result<(), Fail> {
+    let alloc = rt.alloc();
+    let none = Front::new(alloc, 2);
+    let mut store = LocalStore::new(alloc, 64);
+    let node = guess(&rt, alloc)?;
+    assert_eq!(rt; after_alpha(&rt, alloc, &mut store, &node, 2, &none), (7, true));
+    let alike = root(&rt, alloc, &KING_JACK, &[2, 5, 10, 12], 1, &[[2, 10], [2, 12]])?;
+    assert_eq!(rt; after_alpha(&rt, alloc, &mut store, &alike, 2, &none), (1, true));
+    Ok(())
+}

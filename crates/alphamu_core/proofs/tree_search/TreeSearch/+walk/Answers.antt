@@ -6,7 +6,7 @@ use Rattle.trick_rules.specs.Play.{cards_left}
 use Rattle.front_table.specs.Proven.{IsFrontAt}
 use Rattle.alphamu_core.specs.Findings.{IsAnswer}
 use Rattle.alphamu_core.specs.Limits.{IsUnknown}
-use Rattle.alphamu_core.specs.Costs.{EntersEach}
+use Rattle.alphamu_core.specs.Costs.{Costs, EntersEach}
 use Rattle.strategy_games.specs.Plans.{tree_size}
 use Rattle.strategy_tree.specs.Bridge.{bridge}
 use Rattle.strategy_tree.proofs.CardLists.{has_card-from_Contains}
@@ -20,7 +20,9 @@ use Rattle.alphamu_core.proofs.SameSearch.{same_none, same_more, still_early, co
 use Rattle.alphamu_core.proofs.OursSoFar.{ours_none, ours_all, ours_enough, ours_next, ours_fewer, ours_width, ours_found_width, ours_more}
 use Rattle.alphamu_core.proofs.Taken.{taken_first}
 use Rattle.alphamu_core.proofs.TheirsSoFar.{theirs_none, theirs_covered, theirs_all, theirs_cut, theirs_next, theirs_fewer, theirs_width, theirs_filled, theirs_exact, theirs_more}
+use Rattle.alphamu_core.specs.TreeSearches.{IsSameSearch}
 use Rattle.alphamu_core.proofs.tree_search.TreeSearch.+walk.Goals as goal
+use Rattle.alphamu_core.proofs.tree_search.TreeSearch.+walk.Goals.{open-in-Upper, open-in-Open}
 
 -- ---- declarer's side
 
@@ -244,17 +246,46 @@ in_made-returns-clause-costs g t c =
 
 -- ---- a node
 
+pub open-returns-in_err-key-clause-costs : goal.open-returns-in_err-key-clause-costs
+open-returns-in_err-key-clause-costs g t c =
+    let some = tree_size-positive c.args.node c.args.moves in
+    costs_memory (EntersEach c.args.self.now.rules g.S.FrontStore.blind) (tree_size bridge c.args.node c.args.moves) (c.args.self.now.budget.now.left + 1) c.args.self.now.budget.now.left c.from_residual.result c.from_residual.ensures.1 (omega arith) (omega arith)
+
 pub open-returns-in_err-found-clause-costs : goal.open-returns-in_err-found-clause-costs
 open-returns-in_err-found-clause-costs g t c =
     let some = tree_size-positive c.args.node c.args.moves in
     let same = c.in_err-found.ensures.unpaid in
-    costs_memory (EntersEach c.args.self.now.rules g.S.FrontStore.blind) (tree_size bridge c.args.node c.args.moves) (c.args.self.now.budget.now.left + 1) c.limit.new.self.budget.now.left c.from_residual.result c.from_residual.ensures.1 (omega arith) (omega arith)
+    costs_memory (EntersEach c.args.self.now.rules g.S.FrontStore.blind) (tree_size bridge c.args.node c.args.moves) (c.args.self.now.budget.now.left + 1) c.limit.new.self.budget.now.left c.from_residual-in_err-found.result c.from_residual-in_err-found.ensures.1 (omega arith) (omega arith)
 
 pub open-returns-in-Settled-clause-costs : goal.open-returns-in-Settled-clause-costs
 open-returns-in-Settled-clause-costs g t c =
     let some = tree_size-positive c.args.node c.args.moves in
     costs_one (EntersEach c.args.self.now.rules g.S.FrontStore.blind) (tree_size bridge c.args.node c.args.moves) (c.args.self.now.budget.now.left + 1) c.limit.new.self.budget.now.left c.in-Settled.found
     (λ each. absurd (subst (λ limit. IsUnknown limit) c.in-Settled.is (c.in_ok-found.ensures.unknown each.0 each.1))) some (ap (λ left. left + 1) c.in_ok-found.ensures.unpaid)
+
+pub open-returns-clause-costs : goal.open-returns-clause-costs
+open-returns-clause-costs g t c =
+    let before = c.in_ok-found.ensures in
+    elim c.match-branch-3.branch as (λ _. Costs (EntersEach c.args.self.now.rules g.S.FrontStore.blind) (tree_size bridge c.args.node c.args.moves) (c.args.self.now.budget.now.left + 1) c.match-branch-3.self.budget.now.left c.match-branch-3.answer) [
+      | open-in-Upper w ↦ rw (w.self-is, w.answer-is, ← before.unpaid) (costs_by before.same.rules w.in_made-answer.ensures.costs)
+      | open-in-Open w ↦ rw (w.self-is, w.answer-is, ← before.unpaid) (costs_by before.same.rules w.by_cards-answer.ensures.costs)
+    ]
+
+pub open-returns-clause-same : goal.open-returns-clause-same
+open-returns-clause-same g t c =
+    let before = c.in_ok-found.ensures.same in
+    let whole : IsSameSearch g.S.FrontStore.grown c.args.self.now c.match-branch-3.self =
+    elim c.match-branch-3.branch as (λ _. IsSameSearch g.S.FrontStore.grown c.args.self.now c.match-branch-3.self) [
+      | open-in-Upper w ↦ rw w.self-is (same_more g.met.S.FrontStore.grown_more before w.in_made-answer.ensures.same)
+      | open-in-Open w ↦ rw w.self-is (same_more g.met.S.FrontStore.grown_more before w.by_cards-answer.ensures.same)
+    ] in
+    record {
+      store = whole.store;
+      budget = whole.budget;
+      nodes = whole.nodes;
+      rules = whole.rules;
+      grown = g.met.S.FrontStore.grown_more c.args.self.now.store.now c.match-branch-3.self.store.now c.offer.new.store whole.grown c.offer.ensures;
+    }
 
 pub visit-returns-in_err-enter-clause-costs : goal.visit-returns-in_err-enter-clause-costs
 visit-returns-in_err-enter-clause-costs g t c =
