@@ -7,11 +7,8 @@ use Rattle.job_search.proofs.Counts.{count_is, count_small, card_is}
 use Rattle.am_answer.proofs.Passed.{passed_on}
 use Rattle.job_search.proofs.counted.counted_front.Goals as goal
 
-pub root_front-requires-clause-weights : goal.root_front-requires-clause-weights
-root_front-requires-clause-weights g c = λ κs outlives. ap length c.requires.alike ∙ length-replicate (length c.args.question.now.node.now.lefts) 1
-
 pub front-requires-clause-question : goal.front-requires-clause-question
-front-requires-clause-question g c = record {
+front-requires-clause-question g c = λ κs outlives. record {
   ours = c.requires.ours;
   goes_on = c.requires.goes_on;
   some_moves = c.requires.some_moves;
