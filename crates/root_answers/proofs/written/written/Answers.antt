@@ -11,7 +11,7 @@ use Rattle.root_answers.proofs.written.written.Goals as goal
 
 pub loop-vector-init : goal.loop-vector-init
 loop-vector-init g c =
-    subst (λ (text : List ℕ). AreEntriesWritten c.args.question.now.node.now c.args.question.now.weights.now c.args.question.now.moves (take 0 c.args.vectors.now) [] text) (sym c.new-out.ensures)
+    subst (λ (text : List ℕ). AreEntriesWritten c.args.question.now.node.now c.args.question.now.weights.now c.args.question.now.moves (take 0 c.args.vectors.now) [] text) (sym c.for_front-out.ensures)
     (none_written c.args.question.now.node.now c.args.question.now.weights.now c.args.question.now.moves c.args.vectors.now [])
 
 pub vector_text-requires : goal.vector_text-requires
