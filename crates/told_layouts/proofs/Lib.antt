@@ -1,0 +1,4 @@
+pub mod Placed
+pub mod Looked
+pub mod Behind
+pub mod GivenUp

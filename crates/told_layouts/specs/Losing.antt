@@ -1,0 +1,14 @@
+-- How a strategy loses a layout that double dummy makes.
+use Rattle.std.specs.Prelude.{◌≡◌, ◌↔◌, ℕ, true, false, List, Contains}
+use Rattle.trick_rules.specs.Positions.{State}
+use Rattle.trick_rules.specs.Play.{makes}
+use Rattle.trick_rules.specs.Nodes.{NodeValue, IsNode, states}
+use Rattle.strategy_games.specs.Plans.{Plan, Fits, wins}
+use Rattle.strategy_tree.specs.Bridge.{bridge}
+use Rattle.told_layouts.specs.Places.{IsGivenUpAt}
+
+-- of the layouts that double dummy makes, a strategy loses exactly those that its card gives up at some step
+abbrev pub LosesWhatItGivesUp : Type 0
+LosesWhatItGivesUp =
+    (plan : Plan ℕ) (n : NodeValue) (moves : ℕ) (s : State) → IsNode n → Fits bridge plan n moves → Contains (states n) s → makes s ≡ true
+    → (wins bridge plan s ≡ false) ↔ ((sets : List (List ℕ)) × IsGivenUpAt sets plan s)

@@ -1,0 +1,50 @@
+//! The layouts behind a step.
+ghost use Rattle.std.specs.Prelude.{◌≡◌, ℕ};
+ghost use Rattle.strategy_games.specs.Plans.{Fits};
+ghost use Rattle.strategy_tree.specs.Bridge.{bridge};
+ghost use Rattle.strategy_tree.specs.PlanMeaning.{plan_of};
+ghost use Rattle.told_layouts.specs.Behind.{AreBehind};
+
+use crate::standing::standing_at;
+use card_sets::CardSet;
+use dd_solver::Solver;
+use strategy_tree::Plan;
+use trick_rules::Node;
+use win_vectors::WinVector;
+
+/// The layouts behind a step, each a bit a layout, in the order of the layouts.
+#[derive(Clone, Copy, Debug)]
+pub struct StepLayouts {
+    /// Those that can reach the step.
+    pub reached: WinVector,
+    /// Those of them that are won from every place that the step stands for.
+    pub won: WinVector,
+    /// Those that the card that is played at the step gives up: at one of the places double dummy
+    /// makes before the card and not after it.
+    pub given_up: WinVector,
+}
+
+/// The layouts behind the step of a strategy at a node that is told after one card of each of these
+/// sets.
+///
+/// The solver remembers what it finds, so one should be used for all steps.
+pub fn layouts_at(solver: &mut Solver, plan: &Plan, node: &Node, sets: &[CardSet]) -> StepLayouts
+    requires { (moves : ℕ) × Fits bridge (plan_of plan.now) node.now moves }
+    ensures { AreBehind sets.now (plan_of plan.now) node.now result }
+{
+    let width = node.width();
+    let mut reached = WinVector::none(width);
+    let mut won = reached;
+    let mut given_up = reached;
+    for place in 0..width {
+        let standing = standing_at(solver, plan, node.position(), node.left(place), sets);
+        reached = reached.set(place, standing.reached);
+        won = won.set(place, standing.is_won());
+        given_up = given_up.set(place, standing.given_up);
+    }
+    StepLayouts {
+        reached,
+        won,
+        given_up,
+    }
+}
