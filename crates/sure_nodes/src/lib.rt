@@ -4,6 +4,6 @@
 #![tactic(auto)]
 
 pub mod laws;
-mod tops;
+mod look;
 
-pub use tops::is_sure;
+pub use look::is_sure;
