@@ -4,9 +4,9 @@ ghost use Rattle.strategy_tree.specs.PlanMeaning.{plan_of, replies_of};
 ghost use Rattle.strategy_check.specs.Following.{CanFollow, CanFollowEach};
 ghost use Rattle.told_layouts.specs.Looking.{somewhere, somewhere_below, loses, gives_up};
 
-use crate::winning::wins;
 use card_sets::CardSet;
 use dd_solver::Solver;
+use strategy_check::wins;
 use strategy_tree::{Plan, Reply};
 use trick_rules::{Position, play};
 
@@ -135,7 +135,7 @@ fn standing_here(solver: &mut Solver, plan: &Plan, position: &Position, left: Ca
     ensures given_up { result.given_up ≡ gives_up (plan_of plan.now)
         (record { position = position.now; left = left }) }
 {
-    let lost = !wins(solver, plan, position, left);
+    let lost = !wins(plan, position, left);
     let given_up = match plan {
         Plan::Stop => false,
         Plan::Play(card, _) => {
