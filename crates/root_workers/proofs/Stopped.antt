@@ -1,5 +1,5 @@
 -- What a round found where it stopped, and where no card is left.
-use Rattle.std.proofs.Common.{◌≡◌, ◌∙◌, ◌+◌, ◌-◌, ℕ, true, false, Bool, Option, IsTrue, List, [], ◌∷◌, ◌++◌, length, refl, sym, ap, subst, arith, true≢false}
+use Rattle.std.proofs.Common.{◌≡◌, ◌↔◌, ◌∙◌, ◌+◌, ◌-◌, ℕ, true, false, Bool, Option, IsTrue, List, [], ◌∷◌, ◌++◌, length, refl, sym, ap, subst, arith, true≢false}
 use Rattle.std.proofs.lemmas.List.{length-append}
 use Rattle.win_vectors.specs.Fronts.{CoversAll}
 use Rattle.pareto_fronts.specs.FrontValue.{FrontValue}
@@ -35,7 +35,7 @@ module _ (r : Round) where
 
   module _ {nodes : ℕ} {plain : Type 0} {cards : List ℕ} {front : FrontValue} {best : Option (ℕ × ℕ)} (so : RootSoFar r.node.now (r.moves - 1) r.weights.now nodes plain cards front best)
       (founds : List Found) (so_far : AreFoundSoFar r.node.now r.moves (MakesCuts r) founds) (counted : length founds ≡ length so.tried) where
-    pub founds_at_stop : (says_so : Bool) → says_so ≡ true → (r.rules.stop ≡ Never → says_so ≡ false) → (r.rules.stop ≡ SameFront → IsTrue says_so → CoversAll front.vectors r.previous.now.vectors)
+    pub founds_at_stop : (says_so : Bool) → says_so ≡ true → (r.rules.stop ≡ Never → says_so ≡ false) → (r.rules.stop ≡ SameFront → IsTrue says_so ↔ CoversAll front.vectors r.previous.now.vectors)
         → ((r.rules.stop ≡ Never → ⊥) → IsFront bridge r.node.now (r.moves - 1) r.previous.now.vectors) → (r.rules.stop ≡ SameWeight → ⊥) → AreFound r.node.now r.moves (MakesCuts r) founds
     founds_at_stop says_so says never covers is_less other = go r.rules.stop refl
       where
@@ -44,7 +44,7 @@ module _ (r : Round) where
         go SameWeight e = absurd (other e)
         go SameFront e = some_found r.node.now r.moves (MakesCuts r) founds so_far
             (subst (λ (cs : List ℕ). AreEnough r.node.now r.moves cs) (tried_first r.node.now (r.moves - 1) r.weights.now so (length founds) counted)
-            (enough_by_front r.node.now r.moves so.tried front.vectors r.previous.now.vectors so.won (covers e says) (is_less (λ f. let no : SameFront ≡ Never = sym e ∙ f in cc))))
+            (enough_by_front r.node.now r.moves so.tried front.vectors r.previous.now.vectors so.won ((covers e).0 says) (is_less (λ f. let no : SameFront ≡ Never = sym e ∙ f in cc))))
             (λ none. let no : SameFront ≡ Never = sym e ∙ ap (λ (rules : CutRules). rules.stop) none in cc)
 
     pub founds_of_all : cards ≡ [] → AreFound r.node.now r.moves (MakesCuts r) founds

@@ -1,5 +1,5 @@
 -- Where the cards so far are enough.
-use Rattle.std.proofs.Common.{◌≡◌, ◌∙◌, ◌≤◌, ◌+◌, ◌-◌, ℕ, zero, suc, true, false, Bool, Option, Some, Result, Ok, Err, IsErrAnd, IsErrOf, IsTrue, List, refl, sym, subst, arith, true≢false}
+use Rattle.std.proofs.Common.{◌≡◌, ◌↔◌, ◌∙◌, ◌≤◌, ◌+◌, ◌-◌, ℕ, zero, suc, true, false, Bool, Option, Some, Result, Ok, Err, IsErrAnd, IsErrOf, IsTrue, List, refl, sym, subst, arith, true≢false}
 use Rattle.win_vectors.specs.Fronts.{Vector, CoversAll}
 use Rattle.pareto_fronts.specs.FrontValue.{FrontValue}
 use Rattle.trick_rules.specs.Nodes.{NodeValue, IsNode, child}
@@ -15,20 +15,20 @@ use Rattle.root_workers.proofs.RootSoFar.{RootSoFar, IsBest, whole_by_front, bes
 module _ (n : NodeValue) (below : ℕ) (ws : List ℕ) {nodes : ℕ} {plain : Type 0} {cards : List ℕ} {front : FrontValue} {best : Option (ℕ × ℕ)}
     (so : RootSoFar n below ws nodes plain cards front best) (sound : IsNode n) (over : bridge.is_over n ≡ false) (ours : bridge.is_ours n ≡ true)
     (lead : ℕ × ℕ) (is : best ≡ Some lead) (less : List Vector) (stop : Stop) (is_less : (stop ≡ Never → ⊥) → IsFront bridge n below less) (says_so : Bool) (says : says_so ≡ true)
-    (never : stop ≡ Never → says_so ≡ false) (covers : stop ≡ SameFront → IsTrue says_so → CoversAll front.vectors less) where
+    (never : stop ≡ Never → says_so ≡ false) (covers : stop ≡ SameFront → IsTrue says_so ↔ CoversAll front.vectors less) where
   front_at : (s : Stop) → stop ≡ s → (s ≡ SameWeight → ⊥) → IsFront bridge n (suc below) front.vectors
   front_at Never e other = absurd (true≢false (sym says ∙ never e))
-  front_at SameFront e other = whole_by_front n below ws so sound over ours less (is_less (λ f. let no : SameFront ≡ Never = sym e ∙ f in cc)) (covers e says)
+  front_at SameFront e other = whole_by_front n below ws so sound over ours less (is_less (λ f. let no : SameFront ≡ Never = sym e ∙ f in cc)) ((covers e).0 says)
   front_at SameWeight e other = absurd (other refl)
 
   pub stop_front : (stop ≡ SameWeight → ⊥) → IsFront bridge n (suc below) front.vectors
   stop_front other = front_at stop refl other
 
-  module _ (weighed : stop ≡ SameWeight → IsTrue says_so → IsGreatestWeight ws less lead.1) where
+  module _ (weighed : stop ≡ SameWeight → IsTrue says_so ↔ IsGreatestWeight ws less lead.1) where
     best_at : (s : Stop) → stop ≡ s → IsBest n below ws (suc below) lead
     best_at Never e = absurd (true≢false (sym says ∙ never e))
-    best_at SameFront e = best_by_front n below ws so sound over ours lead is less (is_less (λ f. let no : SameFront ≡ Never = sym e ∙ f in cc)) (covers e says)
-    best_at SameWeight e = best_by_weight n below ws so sound over ours lead is less (is_less (λ f. let no : SameWeight ≡ Never = sym e ∙ f in cc)) (weighed e says)
+    best_at SameFront e = best_by_front n below ws so sound over ours lead is less (is_less (λ f. let no : SameFront ≡ Never = sym e ∙ f in cc)) ((covers e).0 says)
+    best_at SameWeight e = best_by_weight n below ws so sound over ours lead is less (is_less (λ f. let no : SameWeight ≡ Never = sym e ∙ f in cc)) ((weighed e).0 says)
 
     pub stop_best : (moves : ℕ) → suc below ≡ moves → IsBest n below ws moves lead
     stop_best moves steps = subst (λ moves. IsBest n below ws moves lead) steps (best_at stop refl)

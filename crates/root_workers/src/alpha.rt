@@ -1,5 +1,6 @@
 //! What a worker knows that the cards before a root card win.
-ghost use Rattle.std.specs.Prelude.{◌≡◌, ◌≤◌, ◌-◌, ◌⊎◌, ℕ, false, OnOk, IfOk, IsTrue, Contains, length, take};
+ghost use Rattle.std.specs.Prelude.{◌≡◌, ◌↔◌, ◌≤◌, ◌-◌, ◌⊎◌, ℕ, false, OnOk, IfOk, IsTrue};
+ghost use Rattle.std.specs.Prelude.{Contains, length, take};
 ghost use Rattle.win_vectors.specs.Fronts.{Vector, CoversAll};
 ghost use Rattle.trick_rules.specs.Nodes.{choices, child};
 ghost use Rattle.strategy_games.specs.Plans.{CanWin};
@@ -141,11 +142,11 @@ pub fn is_enough_before(round: &Round, alpha: &Front) -> bool
     requires round { IsRound round.now }
     requires width { alpha.now.width ≡ length round.now.node.now.lefts }
     ensures never { round.now.rules.stop ≡ Stop.Never → result ≡ false }
-    ensures front { round.now.rules.stop ≡ Stop.SameFront → IsTrue result
-        → CoversAll alpha.now.vectors round.now.previous.now.vectors }
-    ensures weight { round.now.rules.stop ≡ Stop.SameWeight → IsTrue result → (weight : ℕ)
+    ensures front { round.now.rules.stop ≡ Stop.SameFront
+        → IsTrue result ↔ CoversAll alpha.now.vectors round.now.previous.now.vectors }
+    ensures weight { round.now.rules.stop ≡ Stop.SameWeight → IsTrue result ↔ ((weight : ℕ)
         × IsGreatestWeight round.now.weights.now alpha.now.vectors weight
-        × IsGreatestWeight round.now.weights.now round.now.previous.now.vectors weight }
+        × IsGreatestWeight round.now.weights.now round.now.previous.now.vectors weight) }
 {
     match round.rules.stop {
         Stop::Never => false,

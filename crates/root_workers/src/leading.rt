@@ -1,5 +1,5 @@
 //! Which root card leads, and whether the cards so far are enough.
-ghost use Rattle.std.specs.Prelude.{◌≡◌, ◌≤◌, ◌++◌, ℕ, IfOk, IsTrue, false, length};
+ghost use Rattle.std.specs.Prelude.{◌≡◌, ◌↔◌, ◌≤◌, ◌++◌, ℕ, IfOk, IsTrue, false, length};
 ghost use Rattle.win_vectors.specs.Fronts.{CoversAll, IsReduced};
 ghost use Rattle.cut_rules.specs.Stops.{IsGreatestWeight};
 ghost use Rattle.root_workers.specs.Leaders.{leader};
@@ -61,10 +61,10 @@ pub fn is_enough(stop: Stop, front: &Front, best: u32, previous: &Front, weights
     requires front { front.now.width ≡ previous.now.width }
     requires weights { length weights.now ≡ previous.now.width }
     ensures never { stop ≡ Stop.Never → result ≡ false }
-    ensures front { stop ≡ Stop.SameFront → IsTrue result
-        → CoversAll front.now.vectors previous.now.vectors }
-    ensures weight { stop ≡ Stop.SameWeight → IsTrue result
-        → IsGreatestWeight weights.now previous.now.vectors best }
+    ensures front { stop ≡ Stop.SameFront
+        → IsTrue result ↔ CoversAll front.now.vectors previous.now.vectors }
+    ensures weight { stop ≡ Stop.SameWeight
+        → IsTrue result ↔ IsGreatestWeight weights.now previous.now.vectors best }
 {
     match stop {
         Stop::Never => false,
