@@ -11,3 +11,4 @@ mod verdict;
 mod winning;
 
 pub use verdict::{Verdict, check};
+pub use winning::wins;
