@@ -1,12 +1,12 @@
--- An escaped text has no sign of markup but in names, and is read back.
-use Rattle.std.proofs.Common.{◌≡◌, ◌≢◌, ◌⊎◌, ◌∙◌, ◌==◌, ◌||◌, ◌++◌, ℕ, Bool, true, false, cond, List, [], ◌∷◌, Contains, refl, sym, ap, ap₂, subst, inl, inr, true≢false, append_assoc}
+-- An escaped text has no sign of markup except in names, and is read back.
+use Rattle.std.proofs.Common.{◌≡◌, ◌⊎◌, ◌∙◌, ◌==◌, ◌++◌, ℕ, Bool, true, false, cond, List, [], ◌∷◌, Contains, refl, sym, ap, ap₂, inl, inr, true≢false}
 use Rattle.std.specs.Prelude.{codes}
-use Rattle.std.specs.List.{list_any, flat_map}
+use Rattle.std.specs.List.{list_any}
 use Rattle.std.proofs.lemmas.Bool.{cases_eq, eq-eqb, ne_eqb, or_parts, or_from}
 use Rattle.std.proofs.lemmas.Bool.Decides.{Decides-eqb}
 use Rattle.std.proofs.lemmas.List.Folds.{list_any_at, list_any-append}
 use Rattle.html_text.specs.Escapes.{escape_byte, escape}
-use Rattle.html_text.specs.EscapeLaws.{HasNoMarkup, ReadsBack, BeginsWith, IsNamed, NamesEachSign}
+use Rattle.html_text.specs.EscapeLaws.{HasNoMarkup, ReadsBack, BeginsWith, NamesEachSign}
 
 -- ---- a byte is a sign, with its name, or stays as it is
 

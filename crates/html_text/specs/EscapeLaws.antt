@@ -1,5 +1,5 @@
 -- What an escaped text has, and that it is read back.
-use Rattle.std.specs.Prelude.{◌≡◌, ◌≢◌, ◌⊎◌, ℕ, List, ◌∷◌, ◌++◌, codes, Contains}
+use Rattle.std.specs.Prelude.{◌≡◌, ◌⊎◌, ℕ, List, ◌∷◌, ◌++◌, codes, Contains}
 use Rattle.html_text.specs.Escapes.{escape}
 
 -- an escaped text opens no tag, closes none, and ends no value of an attribute
