@@ -1,0 +1,23 @@
+-- A front that is proved to be what is assured at its node.
+use Rattle.std.specs.Prelude.{◌≡◌, ℕ, Bool, is_some, ◌&&◌, ◌||◌, nat_eq, List, map, length}
+use Rattle.std.specs.Cmp.Lexicographic.{pointwise}
+use Rattle.win_vectors.specs.Fronts.{Vector}
+use Rattle.trick_rules.specs.Play.{decided, makes}
+use Rattle.trick_rules.specs.Nodes.{NodeValue, states}
+use Rattle.pareto_fronts.specs.FrontValue.{FrontValue}
+use Rattle.strategy_tree.specs.Bridge.{bridge}
+use Rattle.assured_games.specs.Assured.{IsAssuredFront}
+use Rattle.sure_nodes.specs.SureNodes.{is_sure_node}
+
+-- what is assured at a node with these moves, with a bit for each of the node's layouts
+pub record IsAssuredAt (n : NodeValue) (moves : ℕ) (found : FrontValue) : Type 0 where
+  pub front : IsAssuredFront bridge is_sure_node n moves found.vectors
+  pub width : found.width ≡ length n.lefts
+
+-- declarer's side claims here: the result is decided, or sure
+abbrev pub claims : NodeValue → Bool
+claims n = is_some (decided n.position) || is_sure_node n
+
+-- the layouts that are won if the one in which Left holds these cards is played for
+abbrev pub won_playing_for : NodeValue → List ℕ → Vector
+won_playing_for n left = map (λ s. pointwise nat_eq left s.left && makes s) (states n)

@@ -1,0 +1,87 @@
+//! What is assured where a line of play ends.
+ghost use Rattle.std.specs.Prelude.{◌≡◌, ◌<◌, ◌&&◌, ◌||◌, true, false, [], get_or, length, map, IfOk};
+ghost use Rattle.trick_rules.specs.Play.{makes};
+ghost use Rattle.trick_rules.specs.Nodes.{states};
+ghost use Rattle.assured_fronts.specs.AssuredAt.{IsAssuredAt, claims as claims_at, won_playing_for};
+
+use dd_solver::Solver;
+use pareto_fronts::Front;
+use std::alloc::{AllocError, Global};
+use sure_nodes::is_sure;
+use trick_rules::Node;
+use win_vectors::WinVector;
+
+/// Whether declarer's side claims at a node: the result is decided, or sure.
+pub fn claims(node: &Node) -> bool
+    ensures { result ≡ claims_at node.now }
+{
+    either(node.stops(1), is_sure(node.position()))
+}
+
+// Whether one of the two holds.
+fn either(one: bool, other: bool) -> bool
+    ensures { result ≡ (one || other) }
+{
+    one || other
+}
+
+// Whether both hold.
+fn both(one: bool, other: bool) -> bool
+    ensures { result ≡ (one && other) }
+{
+    one && other
+}
+
+// Double dummy's result in each layout.
+fn results(solver: &mut Solver, node: &Node) -> WinVector
+    ensures { result ≡ map makes (states node.now) }
+{
+    let mut made = WinVector::none(node.width());
+    for place in 0..node.width() {
+        made = made.set(place, solver.makes(node.position(), node.left(place)));
+    }
+    made
+}
+
+// The layouts that are won if the one at a place is played for.
+fn played_for(solver: &mut Solver, node: &Node, place: u16) -> WinVector
+    requires { place < length node.now.lefts }
+    ensures { result ≡ won_playing_for node.now (get_or node.now.lefts place []) }
+{
+    let chosen = node.left(place);
+    let mut won = WinVector::none(node.width());
+    for other in 0..node.width() {
+        let left = node.left(other);
+        let made = solver.makes(node.position(), left);
+        won = won.set(other, both(chosen == left, made));
+    }
+    won
+}
+
+/// What is assured where declarer's side claims: double dummy's results.
+pub fn claimed(
+    alloc: Global,
+    solver: &mut Solver,
+    node: &Node,
+    moves: u8,
+) -> Result<Front, AllocError>
+    requires { claims_at node.now ≡ true }
+    ensures { IfOk result (IsAssuredAt node.now moves) }
+{
+    let mut front = Front::new(alloc, node.width());
+    front.insert(results(solver, node))?;
+    Ok(front)
+}
+
+#[tactic(auto, using(crate::proofs::Leaves::played_none))]
+/// What is assured where no moves are left: the layouts that are won if one of them is played for.
+pub fn open_stop(alloc: Global, solver: &mut Solver, node: &Node) -> Result<Front, AllocError>
+    requires { claims_at node.now ≡ false }
+    ensures { IfOk result (IsAssuredAt node.now 0) }
+{
+    let mut front = Front::new(alloc, node.width());
+    for place in 0..node.width() {
+        front.insert(played_for(solver, node, place))?;
+    }
+    Ok(front)
+}
