@@ -1,5 +1,5 @@
 -- The assured front of a node, card by card.
-use Rattle.std.proofs.Common.{◌≡◌, ℕ, zero, suc, ◌+◌, ◌-◌, ◌<◌, true, false, List, [], ◌∷◌, ◌++◌, map, replicate, length, Contains, sym, ap, subst, ◌∙◌, arith, append_assoc, append-nil}
+use Rattle.std.proofs.Common.{◌≡◌, ℕ, suc, ◌+◌, ◌-◌, ◌<◌, true, false, List, [], ◌∷◌, ◌++◌, replicate, length, Contains, sym, ap, subst, ◌∙◌, arith, append_assoc, append-nil}
 use Rattle.card_sets.specs.SetWords.{has_card}
 use Rattle.win_vectors.specs.Vectors.{ones_of}
 use Rattle.win_vectors.specs.Fronts.{Vector, IsFrontOf, IsReduced, meets, spreads}
