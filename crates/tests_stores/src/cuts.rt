@@ -262,8 +262,21 @@ fn cards_that_lie_alike(rt: HostRuntime) -> Result<(), Fail> {
     let none = Front::new(alloc, 2);
     let mut store = LocalStore::new(alloc, 64);
     let node = guess(&rt, alloc)?;
-    assert_eq!(rt; after_alpha(&rt, alloc, &mut store, &node, 2, &none), (7, true));
-    let alike = root(&rt, alloc, &KING_JACK, &[2, 5, 10, 12], 1, &[[2, 10], [2, 12]])?;
-    assert_eq!(rt; after_alpha(&rt, alloc, &mut store, &alike, 2, &none), (1, true));
+    assert_eq!(rt;
+        after_alpha(&rt, alloc, &mut store, &node, 2, &none),
+        (7, true)
+    );
+    let alike = root(
+        &rt,
+        alloc,
+        &KING_JACK,
+        &[2, 5, 10, 12],
+        1,
+        &[[2, 10], [2, 12]],
+    )?;
+    assert_eq!(rt;
+        after_alpha(&rt, alloc, &mut store, &alike, 2, &none),
+        (1, true)
+    );
     Ok(())
 }
