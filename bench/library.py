@@ -6,11 +6,14 @@ times (default 200), or of as many as fit into five seconds, and, behind it, the
 
     process   the proved program, started by posix_spawn; its output is read through a pipe
     by text   the library's call with the same files, which gives the same bytes
-    by bits   the call by bits with the same question; for `report` it is the front, without plans
+    by bits   the call by bits with the same question; for `report` it is the front, and for `strategy` the strategy for the front's first
+              vector
     DDS       SolveBoard of Bo Haglund's DDS (Debian's libdds-dev) for one layout of the question: all cards of the side to play. It isn't
               the same question; it is what a simulation asks once for each layout. Left out if it isn't installed
 
-The questions are the ending of examples/queen, the suit combination of the front page, and the slam of examples/slam.
+The questions are the ending of examples/queen, the suit combination of the front page, and the slam of examples/slam. The last columns
+say how many times as long as a call a process takes, by the least times. For a small question, such as those about the queen, a call is
+meant to take less than a tenth of a process.
 
 The program and the library must be built: ./build and ./build library."""
 import os
@@ -35,6 +38,7 @@ QUESTIONS = (
     ("suit, card", "card", f"{SUIT}.pbn", f"{SUIT}.lay", 26, "bits_card"),
     ("slam, card", "card", "examples/slam/deal.pbn", "examples/slam/layouts.lay", 4, "bits_card"),
     ("slam, report", "solve", "examples/slam/deal.pbn", "examples/slam/layouts.lay", 4, "bits_front"),
+    ("slam, strategy", "solve", "examples/slam/deal.pbn", "examples/slam/layouts.lay", 4, "bits_strategy"),
 )
 HAS_DDS = pathlib.Path("/usr/include/dds/dll.h").exists()
 
@@ -61,7 +65,8 @@ class Bench:
 
     def row(self, name, job, deal, layouts, moves, bits):
         files = [self.path(it).read_bytes() for it in (deal, layouts)]
-        position, lefts, weights = library_cases.by_bits(files)
+        states, trump, weights = library_cases.states_of(files)
+        position, lefts = library_cases.by_bits(states, trump)
         import alphamu  # which loads the library that was made here
         given = alphamu.Question(**position, moves=moves)._given(lefts, weights)
         parts = [bytes(it) for it in (given[0], given[1], given[3])]
@@ -73,7 +78,7 @@ class Bench:
         process, (text, by_bits) = self.times("process", PROGRAM, *words)[0], self.times("calls", self.room / "asked")
         dds = self.times("dds", self.room / "by bits")[0] if HAS_DDS else None
         cells = ["%10.1f%10.1f" % it if it else "%20s" % "left out" for it in (process, text, by_bits, dds)]
-        print(f"{name:16}{moves:6}{''.join(cells)}{process[0] / text[0]:12.1f}", flush=True)
+        print(f"{name:16}{moves:6}{''.join(cells)}{process[0] / text[0]:16.1f}{process[0] / by_bits[0]:16.1f}", flush=True)
 
 
 def main():
@@ -84,7 +89,7 @@ def main():
         except libraries.Lacking as fault:
             sys.exit(f"library: {fault}")
         os.environ["ALPHAMU_LIBRARY"] = str(bench.room / "libalphamu.so")
-        print("question         moves             process             by text             by bits                 DDS  process / text")
+        print("question         moves             process             by text             by bits                 DDS  process / text  process / bits")
         for question in QUESTIONS:
             bench.row(*question)
 

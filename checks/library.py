@@ -174,16 +174,24 @@ def shown():
     return re.findall(r"^card (\w\w) vector \d+ weight (\d+)$", block, re.M), card, weight, total
 
 
+def strategy_shown(trial, suit):
+    """How the strategy for the first vector of a report begins, as the examples print it."""
+    plans = library_bits.plans_of(trial.alphamu.report(*(suit.with_suffix(it).read_bytes() for it in (".pbn", ".lay")), 4))
+    [(card, replies)] = plans[max(plans, key=lambda it: (it.count("1"), it))]
+    return "".join([f"a strategy: play {card}\n", *(f"on {theirs} play {plan[0][0]}\n" for theirs, plan in replies)])
+
+
 def judge_example(trial, name, words, **given):
-    """Runs an example by bits and by text, and compares it with the front page."""
+    """Runs an example by bits and by text, and compares it with the front page and with a report."""
     believed, card, weight, total = shown()
+    suit = trial.room / "suit"
+    trial.run([TOP / "examples/suits/make.py", "K10x", "AQ9xx", suit])
     found = trial.run(words, **given)
     rows = re.findall(r"^(\w\w) wins (\d+) of (\d+); a simulation believes in (\d+)$", found.stdout, re.M)
     is_right = [(it[0], it[3]) for it in rows] == believed and (card, weight, total) in [it[:3] for it in rows]
-    is_right = is_right and all(int(it[1]) <= int(weight) for it in rows) and found.stdout.endswith(f"\nplay {card}\n")
+    is_right = is_right and all(int(it[1]) <= int(weight) for it in rows)
+    is_right = is_right and found.stdout.endswith(f"\nplay {card}\n{strategy_shown(trial, suit)}")
     trial.expect(f"the example in {name}, by bits: {found.stdout}", is_right)
-    suit = trial.room / "suit"
-    trial.run([TOP / "examples/suits/make.py", "K10x", "AQ9xx", suit])
     found = trial.run([*words, f"{suit}.pbn", f"{suit}.lay"], **given)
     right = f"alphamu card 2\ncard {card} weight {weight} of {total}\n"
     trial.expect(f"the example in {name}, by text: {found.stdout}", found.stdout == right)
@@ -216,9 +224,10 @@ def page(trial):
         exec(it, names)  # the repository's own page
     question, lefts = names["question"], names["lefts"]
     worths = [(it.card, it.weight, it.double_dummy) for it in question.worths(lefts)]
-    found = names["text"], question.card(lefts), worths, question.front(lefts), names["card_by_the_clock"](question, lefts, [1, 1], 60, 4)
+    by_clock = names["card_by_the_clock"](question, lefts, [1, 1], 60, 4)
+    found = names["text"], question.card(lefts), worths, question.front(lefts), names["told"], by_clock
     best = trial.alphamu.Choice(0, 1)
-    right = "alphamu card 1\ncard S2 count 1 of 2\n", best, [(0, 1, 2), (1, 1, 2)], ["10", "01"], (best, 4)
+    right = "alphamu card 1\ncard S2 count 1 of 2\n", best, [(0, 1, 2), (1, 1, 2)], ["10", "01"], ["S2", "SJ"], (best, 4)
     trial.expect(f"the Python of docs/PROGRAMS.md: {found}, and not {right}", found == right)
     trial.done.append(f"{len(blocks)} pieces of docs/PROGRAMS.md")
 

@@ -6,9 +6,12 @@ import struct
 import cases
 import jobs
 import library_cases
+import playing
 
-CALLS = ("report", "card", "fusion", "list", "check", "bits_card", "bits_cards", "bits_front")
+CALLS = ("report", "card", "fusion", "list", "check", "bits_card", "bits_cards", "bits_front", "bits_strategy")
 SECONDS = 300
+# What a strategy past the front is refused with, and the most nodes of one that is played out.
+NO_VECTOR, MOST_PLAYED = 47, 5000
 # The vectors of a report with their weights, what it says of the card, and the lines of `fusion`.
 VECTOR = re.compile(r"^vector ([01]+) (?:count|weight) (\d+)$", re.M)
 CARD = re.compile(r"^card (\w\w) (?:count|weight) (\d+)", re.M)
@@ -23,12 +26,27 @@ def program(case, job, *more):
     return out.decode() if status == 0 else None
 
 
+def plan_said(lines):
+    """The plan whose lines of a report come next: for each card that may be played, its name and the plan after it."""
+    word, *value = next(lines).split()
+    if word == "hear":
+        return [(next(lines).split()[1], plan_said(lines)) for _ in range(int(value[0]))]
+    return [(value[0], plan_said(lines))] if word == "play" else []
+
+
+def plans_of(text):
+    """The plan below each vector of a report."""
+    lines = iter(text.splitlines())
+    return {found[1]: plan_said(lines) for it in lines if (found := VECTOR.match(it))}
+
+
 class Compared:
     """A case with its question by bits, and what differs."""
 
     def __init__(self, alphamu, asked, has_program):
         self.alphamu, self.asked, self.has_program, self.told = alphamu, asked, has_program, []
-        position, self.lefts, self.weights = library_cases.by_bits(asked.files)
+        self.states, self.trump, self.weights = library_cases.states_of(asked.files)
+        position, self.lefts = library_cases.by_bits(self.states, self.trump)
         moves = asked.moves if asked.call != "fusion" else 1
         self.question = alphamu.Question(**position, moves=moves, nodes=asked.nodes)
 
@@ -50,6 +68,7 @@ class Compared:
         for it in worths:
             self.look_at(it, front)
         self.compare_case(named, front)
+        self.compare_strategies(front)
         self.compare_fusion(worths)
         return [f"{self.asked.case}, by bits: {it}" for it in self.told]
 
@@ -82,8 +101,40 @@ class Compared:
         if self.question.moves == 1:
             self.expect("what one move is worth", [it.vector for it in worths], [vector for _, vector, _ in rows])
 
+    def compare_strategies(self, front):
+        """The strategies of the first, the middle and the last vector with those of the report, and each played out."""
+        plans = plans_of(self.asked.text.decode()) if self.asked.call == "report" else {}
+        # With all moves a strategy stops only if the result is decided.
+        is_whole = self.question.moves >= 2 * max(map(len, self.states[0][0]))
+        for place in sorted({0, len(front) // 2, len(front) - 1}):
+            found = self.question.strategy(self.lefts, self.weights, place)
+            if plans:
+                self.expect(f"the strategy for {front[place]}", self.shown(found, 0), plans[front[place]])
+            if is_whole and len(found.nodes) < MOST_PLAYED:
+                vector = "".join("01"[self.is_won(found, 0, it)] for it in self.states)
+                self.expect(f"what the strategy for {front[place]} wins", vector, front[place])
+        try:
+            self.question.strategy(self.lefts, self.weights, len(front))
+            self.expect("a strategy past the front", 0, NO_VECTOR)
+        except self.alphamu.AlphamuError as refusal:
+            self.expect("a strategy past the front", refusal.status, NO_VECTOR)
+
+    def shown(self, strategy, place):
+        """What a strategy goes on with at a place, as plans_of has it."""
+        replies = strategy.nodes[place].replies
+        return [(self.alphamu.card_name(strategy.nodes[it].card), self.shown(strategy, it)) for it in replies]
+
+    def is_won(self, strategy, place, state):
+        """Whether the contract is made in a state, whatever the defenders play, if declarer's side plays the strategy from a place on."""
+        hands, trick, leader, _ = state
+        seat = (leader + len(trick)) % 4
+        replies = [it for it in strategy.nodes[place].replies if strategy.nodes[it].card in playing.legal(hands[seat], trick)]
+        if not replies:
+            return playing.makes(*state, self.trump)
+        return all(self.is_won(strategy, it, playing.after(*state, self.trump, seat, strategy.nodes[it].card)) for it in replies)
+
     def records(self):
-        """The question in the three calls, each with the answer that it has now."""
+        """The question in the four calls, each with the answer that it has now."""
         given = self.question._given(self.lefts, self.weights)
         parts = [bytes(given[0]), bytes(given[1]), bytes(given[3])]
         for call in CALLS[5:]:
@@ -94,10 +145,14 @@ class Compared:
         if call == "bits_card":
             it = self.question.card(self.lefts, self.weights)
             return struct.pack("<2I", it.card, it.weight)
-        kind = {"bits_cards": self.alphamu._Worth, "bits_front": ctypes.c_uint64}[call]
+        kind = {"bits_cards": self.alphamu._Worth, "bits_front": ctypes.c_uint64, "bits_strategy": self.alphamu._Node}[call]
+        # The strategy of the first vector.
+        given = [*given, 0] if call == "bits_strategy" else given
         found = self.question._all(getattr(self.alphamu._library, "alphamu_" + call), kind, 4096, given)
         if call == "bits_front":
             return struct.pack(f"<{len(found)}Q", *found)
+        if call == "bits_strategy":
+            return b"".join(struct.pack("<2QI4x", it.first_reply, it.replies, it.card) for it in found)
         return b"".join(struct.pack("<4Q3I4x", *it.vector, it.card, it.weight, it.double_dummy) for it in found)
 
 

@@ -80,13 +80,17 @@ def set_of(cards):
     return sum(1 << card for card in cards)
 
 
-def by_bits(files):
-    """The question by bits of a deal file and a layout file, without moves and nodes, and the layouts with their weights."""
+def states_of(files):
+    """The state in each layout of a deal file and a layout file, as playing.py has it, with trumps and the layouts' weights."""
     deal, layouts = files[:2]
     board = reading.board_of(reading.games_of(deal)[0])
     kept = reading.layouts_of(layouts, board)
-    states = [reading.state_of(board, it) for it in kept.layouts]
+    return [reading.state_of(board, it) for it in kept.layouts], board.trump, kept.weights
+
+
+def by_bits(states, trump):
+    """The question by bits about these states, without moves and nodes, and the layouts."""
     hands, trick, leader, need = states[0]
     position = {"declarer": set_of(hands[0]), "dummy": set_of(hands[2]), "unseen": set_of(hands[1] | hands[3]), "leader": leader,
-                "need": need, "trump": board.trump, "trick": tuple(card for _, card in trick)}
-    return position, [set_of(state[0][1]) for state in states], kept.weights
+                "need": need, "trump": trump, "trick": tuple(card for _, card in trick)}
+    return position, [set_of(state[0][1]) for state in states]

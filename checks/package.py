@@ -80,7 +80,7 @@ def try_library(prefix):
         found = run(["sh", "-c", 'cc "$0.c" $(pkg-config --cflags --libs alphamu) -o "$1"', example, f"{room}/ending"], env=env)
         expect(f"{prefix}: linking: {found.stdout}", (found.returncode, found.stdout) == (0, ""))
         in_c, in_python = (run([it], env=env) for it in (f"{room}/ending", f"{example}.py"))
-    is_right = in_c.returncode == 0 and in_c.stdout == in_python.stdout and in_c.stdout.endswith("\nplay S3\n")
+    is_right = in_c.returncode == 0 and in_c.stdout == in_python.stdout and "\nplay S3\na strategy: " in in_c.stdout
     expect(f"{prefix}: the library: {in_c.stdout!r} {in_python.stdout!r}", is_right)
 
 

@@ -58,7 +58,8 @@ enum {
     ALPHAMU_WEIGHT_COUNT = 43,     /* there isn't one weight for each layout */
     ALPHAMU_BAD_WEIGHT = 44,       /* a weight is 0 or more than 1,000,000 */
     ALPHAMU_BAD_MOVES = 45,        /* moves aren't 1 to 26 */
-    ALPHAMU_BAD_NODES = 46         /* nodes are 0 */
+    ALPHAMU_BAD_NODES = 46,        /* nodes are 0 */
+    ALPHAMU_NO_VECTOR = 47         /* a strategy: the front has fewer vectors */
 };
 
 /* ---- by text
@@ -154,6 +155,38 @@ uint32_t alphamu_bits_front(
     const alphamu_question *question, const uint64_t *lefts, size_t lefts_length,
     const uint32_t *weights, size_t weights_length,
     uint64_t *vectors, size_t vectors_length, size_t *written);
+
+/* A node of a strategy: a card that is played, and the nodes of the cards that can come next, its replies. They stand one
+ * after another in the array. There is none if the strategy stops after the card: no moves are left, or the result is decided.
+ * There is one if declarer or dummy plays next, and otherwise there is one for each card that the defender may play in some
+ * layout, in card order. */
+typedef struct {
+    size_t first_reply;  /* the place of the first reply in the array */
+    size_t replies;      /* how many there are */
+    uint32_t card;       /* ALPHAMU_NO_CARD in node 0, which stands for what has been played already */
+} alphamu_node;
+
+#define ALPHAMU_NO_CARD 52
+
+/* The strategy for a vector of the front: *written nodes, from node 0 on. It wins exactly the layouts of the vector, whatever
+ * the defenders do. vector is 0 for the first vector that alphamu_bits_front gives, and so on. */
+uint32_t alphamu_bits_strategy(
+    const alphamu_question *question, const uint64_t *lefts, size_t lefts_length,
+    const uint32_t *weights, size_t weights_length,
+    size_t vector, alphamu_node *nodes, size_t nodes_length, size_t *written);
+
+/* The card that the strategy plays at a node at which declarer or dummy is to play, or ALPHAMU_NO_CARD if it has stopped. */
+static inline uint32_t alphamu_next_card(const alphamu_node *nodes, size_t place) {
+    return nodes[place].replies ? nodes[nodes[place].first_reply].card : ALPHAMU_NO_CARD;
+}
+
+/* The place of the node to which a card leads, or 0 if the strategy has no reply to it. */
+static inline size_t alphamu_after_card(const alphamu_node *nodes, size_t place, uint32_t card) {
+    size_t first = nodes[place].first_reply;
+    for (size_t i = 0; i < nodes[place].replies; i++)
+        if (nodes[first + i].card == card) return first + i;
+    return 0;
+}
 
 /* ---- to and from the holdings of DDS
  *

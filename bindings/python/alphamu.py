@@ -26,9 +26,9 @@ from collections.abc import Sequence
 from dataclasses import dataclass
 from pathlib import Path
 
-__all__ = ["AlphamuError", "Choice", "Question", "Worth", "card", "card_name", "card_number", "cards", "check", "from_dds",
-           "fusion", "hand", "list_layouts", "report", "to_dds", "CLUBS", "DECLARER", "DIAMONDS", "DUMMY", "HEARTS", "LEFT", "NODES",
-           "NO_TRUMP", "RIGHT", "SPADES"]
+__all__ = ["AlphamuError", "Choice", "Node", "Question", "Strategy", "Worth", "card", "card_name", "card_number", "cards", "check",
+           "from_dds", "fusion", "hand", "list_layouts", "report", "to_dds", "CLUBS", "DECLARER", "DIAMONDS", "DUMMY", "HEARTS", "LEFT",
+           "NODES", "NO_TRUMP", "RIGHT", "SPADES"]
 
 SPADES, HEARTS, DIAMONDS, CLUBS, NO_TRUMP = range(5)
 DECLARER, LEFT, DUMMY, RIGHT = range(4)
@@ -36,7 +36,7 @@ DECLARER, LEFT, DUMMY, RIGHT = range(4)
 NODES = 10_000_000
 
 _SUITS, _RANKS = "SHDC", "23456789TJQKA"
-_VERSION, _DONE, _NO_ROOM = 1, 0, 8
+_VERSION, _DONE, _NO_ROOM, _NO_CARD = 1, 0, 8, 52
 # What a question by bits is refused for.
 _LINES = {
     6: "a defender is to play, or no card is left", 7: "a search needs more nodes", 9: "out of memory",
@@ -46,6 +46,7 @@ _LINES = {
     39: "need isn't 0 to 13", 40: "there is no layout", 41: "there are more than 256 layouts",
     42: "a layout isn't a part of unseen, or not of the size of Left's hand", 43: "there isn't one weight for each layout",
     44: "a weight isn't 1 to 1,000,000", 45: "moves aren't 1 to 26", 46: "nodes are 0",
+    47: "the front has fewer vectors",
 }
 
 
@@ -126,6 +127,34 @@ class Worth:
     vector: str
 
 
+@dataclass(frozen=True)
+class Node:
+    """A card that is played, and the places in the strategy of its replies, the nodes of the cards that can come next: none if the
+    strategy stops after the card, one if declarer or dummy plays next, and otherwise one for each card that the defender may play.
+    The first node stands for what has been played already, and has no card."""
+
+    card: int | None
+    replies: range
+
+
+@dataclass(frozen=True)
+class Strategy:
+    """A strategy of declarer's side. Play begins at place 0 of `nodes`. At declarer's or dummy's turn play `next_card(place)`, and
+    after each card, whoever plays it, go on at `after(place, card)`."""
+
+    nodes: tuple[Node, ...]
+
+    def next_card(self, place: int = 0) -> int | None:
+        """The card to play at a place at which declarer or dummy is to play. None if the strategy has stopped: no moves are left, or
+        the result is decided."""
+        replies = self.nodes[place].replies
+        return self.nodes[replies[0]].card if replies else None
+
+    def after(self, place: int, card: int) -> int | None:
+        """The place to which a card leads. None if the strategy has no reply to it."""
+        return next((it for it in self.nodes[place].replies if self.nodes[it].card == card), None)
+
+
 # ---- the library
 
 class _Question(ctypes.Structure):
@@ -141,6 +170,10 @@ class _Worth(ctypes.Structure):
     _fields_ = [("vector", ctypes.c_uint64 * 4), *((it, ctypes.c_uint32) for it in ("card", "weight", "double_dummy"))]
 
 
+class _Node(ctypes.Structure):
+    _fields_ = [("first_reply", ctypes.c_size_t), ("replies", ctypes.c_size_t), ("card", ctypes.c_uint32)]
+
+
 _size, _size_at = ctypes.c_size_t, ctypes.POINTER(ctypes.c_size_t)
 _file = [ctypes.c_char_p, _size]
 _limits = [ctypes.c_uint32, ctypes.c_uint64]
@@ -152,6 +185,7 @@ _CALLS = {
     "list": [*_file, *_text], "check": [*_file * 3, *_text],
     "bits_card": [*_node, ctypes.POINTER(_Choice)], "bits_cards": [*_node, ctypes.POINTER(_Worth), _size, _size_at],
     "bits_front": [*_node, ctypes.POINTER(ctypes.c_uint64), _size, _size_at],
+    "bits_strategy": [*_node, _size, ctypes.POINTER(_Node), _size, _size_at],
 }
 
 
@@ -271,6 +305,13 @@ class Question:
         many the one with a 1 at the first layout in which they differ."""
         words = self._all(_library.alphamu_bits_front, ctypes.c_uint64, 256, self._given(lefts, weights))
         return [_vector(words[at:at + 4], len(lefts)) for at in range(0, len(words), 4)]
+
+    def strategy(self, lefts: Sequence[int], weights: Sequence[int] | None = None, vector: int = 0) -> Strategy:
+        """The strategy for the vector at a place of `front`, 0 for the first one. It makes the contract in exactly the layouts of the
+        vector, whatever the defenders do."""
+        nodes = self._all(_library.alphamu_bits_strategy, _Node, 1024, [*self._given(lefts, weights), _number(vector, 64)])
+        return Strategy(tuple(Node(None if it.card == _NO_CARD else it.card, range(it.first_reply, it.first_reply + it.replies))
+                              for it in nodes))
 
     def _given(self, lefts: Sequence[int], weights: Sequence[int] | None) -> list:
         """What every call by bits is given."""

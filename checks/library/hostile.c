@@ -1,6 +1,6 @@
 /* hostile SEED COUNT: this many calls by bits, of sound questions about small endings, of the same with one number made wrong, and
  * of mere noise. Each must come back with a code that fits: one fault has its own code. What is passed ends just before a page
- * that can't be touched, so that a call that reads or writes too far ends the process. Answers are looked over, and the three
+ * that can't be touched, so that a call that reads or writes too far ends the process. Answers are looked over, and the four
  * calls compared with each other. */
 #include "alphamu.h"
 #include <inttypes.h>
@@ -10,9 +10,9 @@
 #include <sys/mman.h>
 #include <unistd.h>
 
-enum { MOST = 300, ROOM = 300, AREA = ROOM * sizeof(alphamu_worth), CALLS = 3, LAST = ALPHAMU_BAD_NODES };
-enum { CARD, CARDS, FRONT };
-#define SOUND (1ull << ALPHAMU_DONE | 1ull << ALPHAMU_SPENT | 1ull << ALPHAMU_NO_ROOM)
+enum { MOST = 300, ROOM = 300, AREA = ROOM * sizeof(alphamu_worth), CALLS = 4, LAST = ALPHAMU_NO_VECTOR };
+enum { CARD, CARDS, FRONT, STRATEGY };
+#define SOUND (1ull << ALPHAMU_DONE | 1ull << ALPHAMU_SPENT | 1ull << ALPHAMU_NO_ROOM | 1ull << ALPHAMU_NO_VECTOR)
 #define KNOWN (SOUND | 1ull << ALPHAMU_NO_TURN | ((1ull << (LAST - ALPHAMU_NOT_CARDS + 1)) - 1) << ALPHAMU_NOT_CARDS)
 #define CODE(name) (1ull << ALPHAMU_##name)
 
@@ -32,7 +32,7 @@ typedef struct {
     alphamu_question q;
     uint64_t lefts[MOST];
     uint32_t weights[MOST];
-    size_t many, weighed;
+    size_t many, weighed, vector;
     uint64_t allowed; /* bit s: a call may answer s */
 } trial;
 
@@ -80,6 +80,7 @@ static void make_sound(trial *it) {
         it->lefts[i] = some_of(q->unseen, count(hands[1]));
         it->weights[i] = below(16) ? 1 + below(5) : 1000000 - below(2);
     }
+    it->vector = below(16) ? below(3) : random64() >> below(64);
     it->allowed = SOUND;
 }
 
@@ -196,12 +197,12 @@ static uint8_t *guarded(size_t size) {
 }
 
 static uint8_t *question_end, *lefts_end, *weights_end, *out_end, untouched[AREA];
-static const size_t sizes[CALLS] = {sizeof(alphamu_choice), sizeof(alphamu_worth), sizeof(uint64_t)};
+static const size_t sizes[CALLS] = {sizeof(alphamu_choice), sizeof(alphamu_worth), sizeof(uint64_t), sizeof(alphamu_node)};
 static size_t written;
 
 static void *placed(uint8_t *end, const void *from, size_t size) { return memcpy(end - size, from, size); }
 
-/* Asks one of the three calls with this much room; the answer ends at out_end. */
+/* Asks one of the calls with this much room; the answer ends at out_end. */
 static uint32_t ask(const trial *it, uint32_t call, size_t room) {
     alphamu_question *q = placed(question_end, &it->q, sizeof it->q);
     uint64_t *lefts = placed(lefts_end, it->lefts, it->many * sizeof *it->lefts);
@@ -212,7 +213,8 @@ static uint32_t ask(const trial *it, uint32_t call, size_t room) {
     switch (call) {
         case CARD: return alphamu_bits_card(q, lefts, it->many, weights, it->weighed, out);
         case CARDS: return alphamu_bits_cards(q, lefts, it->many, weights, it->weighed, out, room, &written);
-        default: return alphamu_bits_front(q, lefts, it->many, weights, it->weighed, out, room, &written);
+        case FRONT: return alphamu_bits_front(q, lefts, it->many, weights, it->weighed, out, room, &written);
+        default: return alphamu_bits_strategy(q, lefts, it->many, weights, it->weighed, it->vector, out, room, &written);
     }
 }
 
@@ -234,10 +236,11 @@ static uint64_t weight_of(const trial *it, const uint64_t *vector) {
 
 static int ones_of(const uint64_t *vector) { return count(vector[0]) + count(vector[1]) + count(vector[2]) + count(vector[3]); }
 
-/* What a call names: the best weight, and the card that wins it. */
+/* What a call names: the best weight, and the card that wins it, how many vectors there are, and the code. */
 typedef struct {
     uint64_t weight;
-    uint32_t card;
+    uint32_t card, status;
+    size_t vectors;
 } best;
 
 /* What is wrong with an answer, or nothing. */
@@ -261,7 +264,7 @@ static const char *look_at_worths(const trial *it, const alphamu_worth *worth, b
 
 static const char *look_at_front(const trial *it, const uint64_t *vectors, best *names) {
     int last = 256;
-    names->weight = 0;
+    names->weight = 0, names->vectors = written / 4;
     for (size_t i = 0; i < written; i += 4) {
         uint64_t weight = weight_of(it, vectors + i);
         if (written % 4 || ones_of(vectors + i) > last) return "the vectors aren't in order";
@@ -272,12 +275,31 @@ static const char *look_at_front(const trial *it, const uint64_t *vectors, best 
     return 0;
 }
 
+/* Each node but the first is the reply of one other, in card order, and no card comes twice on the way to it. */
+static const char *look_at_strategy(const trial *it, const alphamu_node *nodes) {
+    static uint8_t reached[ROOM];
+    memset(reached, 0, sizeof reached);
+    if (nodes[0].card != ALPHAMU_NO_CARD) return "the first node has a card";
+    if (nodes[0].replies && !(legal(&it->q) >> alphamu_next_card(nodes, 0) & 1)) return "a card that isn't legal";
+    for (size_t i = 0; i < written; i++) {
+        size_t first = nodes[i].first_reply, many = nodes[i].replies;
+        if (many && (first >= written || many > written - first)) return "a reply that isn't there";
+        for (size_t k = first; k < first + many; k++) {
+            if (reached[k]++ || !k) return "a node that is reached twice";
+            if (nodes[k].card >= 52 || (k > first && nodes[k].card <= nodes[k - 1].card)) return "the replies aren't in order";
+            if (alphamu_after_card(nodes, i, nodes[k].card) != k) return "a card that leads to another node";
+        }
+    }
+    return memchr(reached + 1, 0, written - 1) ? "a node that isn't reached" : 0;
+}
+
 static const char *look(const trial *it, uint32_t call, const void *out, best *names) {
     if (!written) return "an empty answer";
     switch (call) {
         case CARD: return look_at_choice(it, out, names);
         case CARDS: return look_at_worths(it, out, names);
-        default: return look_at_front(it, out, names);
+        case FRONT: return look_at_front(it, out, names);
+        default: return look_at_strategy(it, out);
     }
 }
 
@@ -297,10 +319,10 @@ static int try_call(const trial *it, uint32_t call, best *names) {
     uint32_t status = ask(it, call, room);
     uint8_t *out = out_end - room * sizes[call];
     const char *wrong = 0;
-    calls++;
+    calls++, names->status = status;
     if (status > LAST || !(KNOWN >> status & 1)) return fault(it, call, status, "no such code"), 0;
     counts[status]++;
-    if (!(it->allowed >> status & 1))
+    if (!(it->allowed >> status & 1) || (status == ALPHAMU_NO_VECTOR && call != STRATEGY))
         wrong = "a code that doesn't fit";
     else if (!is_untouched(out_end - AREA, status ? out_end : out))
         wrong = "it wrote where it shouldn't";
@@ -322,13 +344,16 @@ int main(int argc, char **argv) {
     while (calls < wanted) {
         static trial it;
         make(&it);
-        best names[CALLS];
+        best names[CALLS] = {{0}};
         int done[CALLS];
         for (uint32_t call = 0; call < CALLS; call++) done[call] = try_call(&it, call, &names[call]);
         if (done[CARD] && done[CARDS] && (names[CARD].weight != names[CARDS].weight || names[CARD].card != names[CARDS].card))
             fault(&it, CARDS, 0, "another card than that of the first call");
         if (done[CARD] && done[FRONT] && names[CARD].weight != names[FRONT].weight)
             fault(&it, FRONT, 0, "another weight than that of the first call");
+        if (done[FRONT] && (names[STRATEGY].status == ALPHAMU_NO_VECTOR) != (it.vector >= names[FRONT].vectors) &&
+            names[STRATEGY].status != ALPHAMU_SPENT)
+            fault(&it, STRATEGY, names[STRATEGY].status, "not the code of whether the front has the vector");
     }
     printf("%" PRIu64 " calls:", calls);
     for (uint32_t status = 0; status <= LAST; status++)

@@ -63,10 +63,9 @@ static uint32_t ask_by_text(const question *it, uint8_t *out, size_t room, size_
     }
 }
 
-/* Nothing is said of the bytes that fill up a struct. */
-static void clear_padding(alphamu_worth *worths, size_t count) {
-    const size_t used = offsetof(alphamu_worth, double_dummy) + sizeof worths->double_dummy;
-    for (size_t i = 0; i < count; i++) memset((uint8_t *)&worths[i] + used, 0, sizeof *worths - used);
+/* Nothing is said of the bytes that fill up a struct, those from `used` on in each of `size`. */
+static void clear_padding(uint8_t *structs, size_t count, size_t size, size_t used) {
+    for (size_t i = 0; i < count; i++) memset(structs + i * size + used, 0, size - used);
 }
 
 static uint32_t ask_by_bits(const question *it, uint8_t *out, size_t room, size_t *used) {
@@ -82,7 +81,12 @@ static uint32_t ask_by_bits(const question *it, uint8_t *out, size_t room, size_
         case BITS_CARDS:
             size = sizeof(alphamu_worth);
             status = alphamu_bits_cards(q, lefts, many, weights, weighed, (alphamu_worth *)out, room / size, &written);
-            if (status == ALPHAMU_DONE) clear_padding((alphamu_worth *)out, written);
+            if (status == ALPHAMU_DONE) clear_padding(out, written, size, offsetof(alphamu_worth, double_dummy) + 4);
+            break;
+        case BITS_STRATEGY:
+            size = sizeof(alphamu_node);
+            status = alphamu_bits_strategy(q, lefts, many, weights, weighed, 0, (alphamu_node *)out, room / size, &written);
+            if (status == ALPHAMU_DONE) clear_padding(out, written, size, offsetof(alphamu_node, card) + 4);
             break;
         default:
             size = sizeof(uint64_t);

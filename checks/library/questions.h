@@ -5,7 +5,7 @@
 #include "alphamu.h"
 
 /* The calls, in the order of the header. */
-enum { REPORT, CARD, FUSION, LIST, CHECK, BITS_CARD, BITS_CARDS, BITS_FRONT };
+enum { REPORT, CARD, FUSION, LIST, CHECK, BITS_CARD, BITS_CARDS, BITS_FRONT, BITS_STRATEGY };
 
 typedef struct {
     const uint8_t *at;

@@ -1,14 +1,22 @@
 /* The front page's suit combination: K 10 2 in dummy opposite A Q 9 4 3, with an entry to each hand.
  *
  *     cc ending.c $(pkg-config --cflags --libs alphamu) -o ending
- *     ./ending                  by bits: what each card is worth, and the card to play
+ *     ./ending                  by bits: what each card is worth, the card to play, and how a strategy begins
  *     ./ending DEAL LAYOUTS     by text: the card to play, from two files
  */
 #include <alphamu.h>
 #include <stdio.h>
 #include <stdlib.h>
 
-enum { SPADES, HEARTS = 13, DIAMONDS = 26, ROOM = 1 << 20 };
+enum { SPADES, HEARTS = 13, DIAMONDS = 26, ROOM = 1 << 20, NODES = 1 << 16 };
+
+static const char *name(uint32_t card) {
+    static char found[4][3];
+    static int next;
+    char *it = found[next++ % 4];
+    it[0] = "SHDC"[card / 13], it[1] = "23456789TJQKA"[card % 13];
+    return it;
+}
 
 /* Cards of a suit by their ranks, as "KT2". */
 static uint64_t ranks(const char *letters, int suit) {
@@ -28,6 +36,22 @@ static uint64_t west(int layout, int *spades) {
     for (int i = 0; i < 7 - *spades; i++)
         hand |= (uint64_t)1 << ((i % 2 ? DIAMONDS : HEARTS) + 11 - i / 2);
     return hand;
+}
+
+/* Prints how the strategy for the front's first vector begins, if four cards of declarer's side are planned. */
+static uint32_t begin_strategy(alphamu_question question, const uint64_t *lefts, const uint32_t *weights) {
+    static alphamu_node nodes[NODES];
+    size_t written;
+    question.moves = 4;
+    uint32_t status = alphamu_bits_strategy(&question, lefts, 32, weights, 32, 0, nodes, NODES, &written);
+    if (status) return status;
+    size_t place = alphamu_after_card(nodes, 0, alphamu_next_card(nodes, 0));
+    printf("a strategy: play %s\n", name(nodes[place].card));
+    for (size_t i = 0; i < nodes[place].replies; i++) {
+        size_t reply = nodes[place].first_reply + i;
+        printf("on %s play %s\n", name(nodes[reply].card), name(alphamu_next_card(nodes, reply)));
+    }
+    return status;
 }
 
 static int by_bits(void) {
@@ -51,12 +75,13 @@ static int by_bits(void) {
     size_t written;
     uint32_t status = alphamu_bits_cards(&question, lefts, 32, weights, 32, worths, 13, &written);
     if (!status) status = alphamu_bits_card(&question, lefts, 32, weights, 32, &choice);
-    if (status) return fprintf(stderr, "refused: %u\n", status), (int)status;
-    for (size_t i = 0; i < written; i++)
-        printf("%c%c wins %u of %u; a simulation believes in %u\n", "SHDC"[worths[i].card / 13],
-            "23456789TJQKA"[worths[i].card % 13], worths[i].weight, total, worths[i].double_dummy);
-    printf("play %c%c\n", "SHDC"[choice.card / 13], "23456789TJQKA"[choice.card % 13]);
-    return 0;
+    for (size_t i = 0; !status && i < written; i++)
+        printf("%s wins %u of %u; a simulation believes in %u\n", name(worths[i].card), worths[i].weight, total,
+            worths[i].double_dummy);
+    if (!status) printf("play %s\n", name(choice.card));
+    if (!status) status = begin_strategy(question, lefts, weights);
+    if (status) fprintf(stderr, "refused: %u\n", status);
+    return (int)status;
 }
 
 /* The bytes of a file, with room for one more than the library takes. */

@@ -1,9 +1,10 @@
 #!/usr/bin/env python3
 """The front page's suit combination: K 10 2 in dummy opposite A Q 9 4 3, with an entry to each hand.
 
-    PYTHONPATH=bindings/python python3 examples/library/ending.py                 by bits: each card's worth, and the card to play
+    PYTHONPATH=bindings/python python3 examples/library/ending.py                 by bits: each card's worth, the card to play, a strategy
     PYTHONPATH=bindings/python python3 examples/library/ending.py DEAL LAYOUTS    by text: the card to play, from two files
 """
+import dataclasses
 import itertools
 import pathlib
 import sys
@@ -31,6 +32,16 @@ def by_bits():
     for it in question.worths(lefts, weights):
         print(f"{alphamu.card_name(it.card)} wins {it.weight} of {sum(weights)}; a simulation believes in {it.double_dummy}")
     print(f"play {alphamu.card_name(question.card(lefts, weights).card)}")
+    begin_strategy(dataclasses.replace(question, moves=4).strategy(lefts, weights))
+
+
+def begin_strategy(strategy):
+    """Prints how a strategy begins: its first card, and the card that answers each card of the next player."""
+    first = strategy.next_card()
+    place = strategy.after(0, first)
+    print(f"a strategy: play {alphamu.card_name(first)}")
+    for reply in strategy.nodes[place].replies:
+        print(f"on {alphamu.card_name(strategy.nodes[reply].card)} play {alphamu.card_name(strategy.next_card(reply))}")
 
 
 def by_text(deal, layouts):

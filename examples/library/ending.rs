@@ -1,9 +1,9 @@
 //! The front page's suit combination: K 10 2 in dummy opposite A Q 9 4 3, with an entry to each hand.
 //!
 //! As src/main.rs of a crate whose Cargo.toml has the dependency alphamu = { path = "bindings/rust" }:
-//!     cargo run                     by bits: what each card is worth, and the card to play
+//!     cargo run                     by bits: what each card is worth, the card to play, and how a strategy begins
 //!     cargo run -- DEAL LAYOUTS     by text: the card to play, from two files
-use alphamu::{card_name, card_number, cards, Question};
+use alphamu::{card_name, card_number, cards, Question, Strategy};
 use std::error::Error;
 
 /// In how many ways the other 21 cards of the defenders fill up West's hand, by the number of his spades.
@@ -32,7 +32,19 @@ fn by_bits() -> Result<(), Box<dyn Error>> {
         println!("{} wins {} of {total}; a simulation believes in {}", name(it.card)?, it.weight, it.double_dummy);
     }
     println!("play {}", name(question.card(&lefts, &weights)?.card)?);
+    begin_strategy(&Question { moves: 4, ..question }.strategy(&lefts, &weights, 0)?).ok_or("no card")?;
     Ok(())
+}
+
+/// Prints how a strategy begins: its first card, and the card that answers each card of the next player.
+fn begin_strategy(strategy: &Strategy) -> Option<()> {
+    let first = strategy.next_card(0)?;
+    println!("a strategy: play {}", card_name(first)?);
+    for reply in strategy.nodes[strategy.after(0, first)?].replies.clone() {
+        let (theirs, ours) = (strategy.nodes[reply].card?, strategy.next_card(reply)?);
+        println!("on {} play {}", card_name(theirs)?, card_name(ours)?);
+    }
+    Some(())
 }
 
 fn by_text(deal: &str, layouts: &str) -> Result<(), Box<dyn Error>> {

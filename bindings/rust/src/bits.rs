@@ -1,6 +1,7 @@
 //! Questions by bits: hands as sets of cards in, numbers out.
 use crate::error::{Error, DONE, NO_ROOM};
 use crate::{raw, Choice, NODES, NO_TRUMP};
+use std::ops::Range;
 
 /// A position in which declarer or dummy is to play.
 ///
@@ -60,6 +61,39 @@ pub struct Worth {
     pub vector: Vector,
 }
 
+/// A card that is played, and the places in the strategy of its replies, the nodes of the cards that can come next: none if the
+/// strategy stops after the card, one if declarer or dummy plays next, and otherwise one for each card that the defender may play.
+#[derive(Clone, Debug, PartialEq, Eq)]
+pub struct Node {
+    /// The card. The first node has none: it stands for what has been played already.
+    pub card: Option<u32>,
+    /// The places of its replies.
+    pub replies: Range<usize>,
+}
+
+/// A strategy of declarer's side. Play begins at place 0. At declarer's or dummy's turn play [`Strategy::next_card`], and after each
+/// card, whoever plays it, go on at [`Strategy::after`].
+#[derive(Clone, Debug, PartialEq, Eq)]
+pub struct Strategy {
+    /// The nodes, from the one that stands for what has been played already.
+    pub nodes: Vec<Node>,
+}
+
+impl Strategy {
+    /// The card to play at a place at which declarer or dummy is to play. None if the strategy has stopped: no moves are left, or
+    /// the result is decided.
+    pub fn next_card(&self, place: usize) -> Option<u32> {
+        let first = self.nodes.get(place)?.replies.clone().next()?;
+        self.nodes.get(first)?.card
+    }
+
+    /// The place to which a card leads. None if the strategy has no reply to it.
+    pub fn after(&self, place: usize, card: u32) -> Option<usize> {
+        let mut replies = self.nodes.get(place)?.replies.clone();
+        replies.find(|it| self.nodes.get(*it).is_some_and(|node| node.card == Some(card)))
+    }
+}
+
 fn done(status: u32) -> Result<(), Error> {
     if status == DONE {
         Ok(())
@@ -116,6 +150,20 @@ impl Question {
             raw::alphamu_bits_front(&question, lefts.as_ptr(), many, weights.as_ptr(), weighed, vectors, room, written)
         })?;
         Ok(words.chunks_exact(4).map(|it| Vector([it[0], it[1], it[2], it[3]])).collect())
+    }
+
+    /// The strategy for the vector at a place of the front, 0 for the first one. It makes the contract in exactly the layouts of the
+    /// vector, whatever the defenders do.
+    pub fn strategy(&self, lefts: &[u64], weights: &[u32], vector: usize) -> Result<Strategy, Error> {
+        let (question, many, weighed) = (self.raw()?, lefts.len(), weights.len());
+        let found = all(1024, |nodes, room, written| unsafe {
+            raw::alphamu_bits_strategy(&question, lefts.as_ptr(), many, weights.as_ptr(), weighed, vector, nodes, room, written)
+        })?;
+        let node = |it: raw::Node| Node {
+            card: (it.card < 52).then_some(it.card),
+            replies: it.first_reply..it.first_reply + it.replies,
+        };
+        Ok(Strategy { nodes: found.into_iter().map(node).collect() })
     }
 
     fn raw(&self) -> Result<raw::Question, Error> {

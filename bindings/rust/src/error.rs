@@ -49,6 +49,7 @@ fn line_of(status: u32) -> &'static str {
         44 => "a weight isn't 1 to 1,000,000",
         45 => "moves aren't 1 to 26",
         46 => "nodes are 0",
+        47 => "the front has fewer vectors",
         _ => "no answer",
     }
 }

@@ -24,7 +24,7 @@ mod error;
 mod raw;
 mod text;
 
-pub use bits::{Question, Vector, Worth};
+pub use bits::{Node, Question, Strategy, Vector, Worth};
 pub use cards::{card_name, card_number, cards, from_dds, hand, to_dds};
 pub use error::Error;
 pub use raw::Choice;

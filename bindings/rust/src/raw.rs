@@ -33,6 +33,14 @@ pub struct Worth {
     pub double_dummy: u32,
 }
 
+#[repr(C)]
+#[derive(Clone, Copy, Default)]
+pub struct Node {
+    pub first_reply: usize,
+    pub replies: usize,
+    pub card: u32,
+}
+
 extern "C" {
     pub fn alphamu_version() -> u32;
     pub fn alphamu_report(
@@ -63,5 +71,9 @@ extern "C" {
     pub fn alphamu_bits_front(
         question: *const Question, lefts: *const u64, lefts_length: usize, weights: *const u32, weights_length: usize,
         vectors: *mut u64, vectors_length: usize, written: *mut usize,
+    ) -> u32;
+    pub fn alphamu_bits_strategy(
+        question: *const Question, lefts: *const u64, lefts_length: usize, weights: *const u32, weights_length: usize,
+        vector: usize, nodes: *mut Node, nodes_length: usize, written: *mut usize,
     ) -> u32;
 }

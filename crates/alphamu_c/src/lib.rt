@@ -9,9 +9,11 @@ ghost use Rattle.library_text.specs.Answered.{IsAnswered};
 ghost use Rattle.bit_answers.specs.Answers.{AreFrontWords, AreWorths, HoldsAt, IsChoice};
 ghost use Rattle.bit_answers.specs.Delivery.{IsChosen, IsListed};
 ghost use Rattle.bit_answers.specs.Faults.{IsRefusedFor};
+ghost use Rattle.bit_answers.specs.Strategies.{IsNoStrategy, IsStrategy};
 
-use bit_answers::{Choice, Worth, card, cards, choose, deliver, front};
+use bit_answers::{Choice, Worth, card, cards, choose, deliver, front, strategy};
 use bit_questions::Question;
+use flat_plans::PlanNode;
 use library_text::{Request, answer};
 use std::alloc::Global;
 
@@ -181,4 +183,29 @@ pub extern "C" fn alphamu_bits_front(
         result vectors.old vectors.new written.new }
 {
     deliver(front(alloc, question, lefts, weights), vectors, written)
+}
+
+/// The strategy for the vector at a place of the front, from 0, as an array of nodes.
+/// The numbers are those of `alphamu_bits_cards`.
+#[unsafe(no_mangle)]
+pub extern "C" fn alphamu_bits_strategy(
+    alloc: Global,
+    question: &Question,
+    lefts: &[u64],
+    weights: &[u32],
+    vector: usize,
+    nodes: &mut [PlanNode],
+    written: &mut usize,
+) -> u32
+    ensures { IsListed
+        (λ all. HoldsAt question.now lefts.now
+        (λ n. IsStrategy n question.now.moves vector all))
+        (IsNoStrategy question.now lefts.now weights.now vector)
+        result nodes.old nodes.new written.new }
+{
+    deliver(
+        strategy(alloc, question, lefts, weights, vector),
+        nodes,
+        written,
+    )
 }

@@ -1,7 +1,6 @@
 -- The entries of plain sampling, in card order.
-use Rattle.std.proofs.Common.{◌≡◌, ℕ, ◌<◌, true, List, [], ◌∷◌, ◌++◌, ◌+◌, length, map, take, get_or, refl, sym, ap, ◌∙◌, subst, arith}
-use Rattle.std.specs.List.{AllZip}
-use Rattle.std.proofs.lemmas.List.{length-map, get_or_default, take_more}
+use Rattle.std.proofs.Common.{◌≡◌, ℕ, ◌<◌, true, List, length, map, get_or, sym, ap, ◌∙◌, arith}
+use Rattle.std.proofs.lemmas.List.{length-map, get_or_default}
 use Rattle.std.proofs.Math.ListN.{get_or-map}
 use Rattle.std.proofs.lemmas.List.Elements.{Contains-get_or}
 use Rattle.card_sets.specs.SetWords.{has_card}
@@ -36,14 +35,3 @@ module _ (n : NodeValue) (table : List CardVector) (place : ℕ) (entry : CardVe
 
   pub entry_vector : entry.vector ≡ made_after n entry.card
   entry_vector = ap (λ e. e.vector) entry_is ∙ ap (made_after n) (sym first_is)
-
--- one item more on both sides
-pub zip_next : {A B : Type 0} (R : A → B → Type 0) (xs : List A) (ys : List B) (place : ℕ) (x : A) (y : B) → place < length xs → x ≡ get_or xs place x → AllZip R (take place xs) ys → R x y → AllZip R (take (place + 1) xs) (ys ++ y ∷ [])
-zip_next {A = A} {B = B} R xs ys place x y inside same zipped is =
-    subst (λ taken. AllZip R taken (ys ++ y ∷ [])) (sym (take_more xs place x inside ∙ ap (λ e. take place xs ++ e ∷ []) (sym same))) (zipped_push (take place xs) ys zipped)
-  where
-    zipped_push : (us : List A) (vs : List B) → AllZip R us vs → AllZip R (us ++ x ∷ []) (vs ++ y ∷ [])
-    zipped_push [] [] none = (is, tt)
-    zipped_push (u ∷ us) (v ∷ vs) both = (both.0, zipped_push us vs both.1)
-    zipped_push [] (v ∷ vs) none = absurd none
-    zipped_push (u ∷ us) [] none = absurd none

@@ -14,6 +14,8 @@ pub enum BitFault {
     Question(QuestionFault),
     /// The tree after this card has more nodes than a search may enter.
     Spent(Card),
+    /// The front has no vector at the place of the one whose strategy is asked for.
+    NoVector,
 }
 
 impl BitFault {
@@ -24,6 +26,7 @@ impl BitFault {
         match self {
             BitFault::Question(fault) => fault.code(),
             BitFault::Spent(_) => 7,
+            BitFault::NoVector => 47,
         }
     }
 }

@@ -53,11 +53,18 @@ pub fn root_card(alloc: Global, asked: &Asked) -> Result<RootCard, RootFault>
     question.card(&Alone { gate: &OpenGate }, &mut pass)
 }
 
-/// The front.
-pub fn root_front(alloc: Global, asked: &Asked) -> Result<Front, RootFault>
-    requires { IsReady asked.now }
+/// The front, over a table and by a pass of it.
+pub fn front_over(
+    alloc: Global,
+    asked: &Asked,
+    table: &SharedTable,
+    pass: &mut Pass,
+) -> Result<Front, RootFault>
+    requires ready { IsReady asked.now }
+    requires pass { IsPassOf table.now pass.old }
     ensures front { IfOk result (IsFrontAt asked.now.node asked.now.moves) }
     ensures refused { IfErr result (IsSearchFault asked.now) }
+    ensures pass { IsPassOf table.now pass.new }
 {
     let options = Options {
         nodes: asked.nodes,
@@ -65,17 +72,28 @@ pub fn root_front(alloc: Global, asked: &Asked) -> Result<Front, RootFault>
         table: true,
         cuts: true,
     };
-    let (table, mut pass) = new_table(alloc)?;
     let question = Question {
         alloc,
         node: &asked.node,
         moves: asked.moves,
         weights: &asked.weights,
         options: &options,
-        table: &table,
+        table,
     };
-    let found = question.front(&Alone { gate: &OpenGate }, &mut pass)?;
-    Ok(found.front)
+    match question.front(&Alone { gate: &OpenGate }, pass) {
+        Ok(found) => Ok(found.front),
+        Err(fault) => Err(fault),
+    }
+}
+
+/// The front.
+pub fn root_front(alloc: Global, asked: &Asked) -> Result<Front, RootFault>
+    requires { IsReady asked.now }
+    ensures front { IfOk result (IsFrontAt asked.now.node asked.now.moves) }
+    ensures refused { IfErr result (IsSearchFault asked.now) }
+{
+    let (table, mut pass) = new_table(alloc)?;
+    front_over(alloc, asked, &table, &mut pass)
 }
 
 /// The front after a root card, whole, whatever the other cards win.

@@ -2,7 +2,8 @@ use Rattle.std.proofs.Common.{◌+◌, take, sym, ◌∙◌, subst}
 use Rattle.std.specs.List.{AllZip}
 use Rattle.trick_rules.specs.Nodes.{choices}
 use Rattle.bit_answers.specs.Answers.{IsWorth}
-use Rattle.bit_answers.proofs.Sampled.{within, entry_card, entry_choice, entry_vector, zip_next}
+use Rattle.flat_plans.proofs.Listed.{zip_next}
+use Rattle.bit_answers.proofs.Sampled.{within, entry_card, entry_choice, entry_vector}
 use Rattle.bit_answers.proofs.worths.worths.Goals as goal
 
 pub worth_at-requires-clause-card : goal.worth_at-requires-clause-card
