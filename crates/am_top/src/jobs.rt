@@ -1,10 +1,15 @@
 //! The work of each job, by what was read.
-ghost use Rattle.std.specs.Prelude.{◌≡◌, ◌≢◌, ◌<◌, ◌-◌, ◌^◌, true, false, length, map, IfOk, IfErr};
+ghost use Rattle.std.specs.Prelude.{◌≡◌, ◌≢◌, ◌≤◌, ◌<◌, ◌-◌, ◌^◌, true, false, length, map};
+ghost use Rattle.std.specs.Prelude.{IfOk, IfErr};
 ghost use Rattle.job_words.specs.Asks.{IsSearchWithinLimits};
 ghost use Rattle.am_answer.specs.Answers.{has_choice, listed_in, made_in, task_at, task_in};
 ghost use Rattle.am_answer.specs.Files.{AreWithin, IsJobWithin, is_match, is_match_job};
 ghost use Rattle.am_match.specs.Defences.{sitter};
 ghost use Rattle.am_answer.specs.Stages.{IsFileRefusal, IsTaskRefusal, IsTextFor, IsTextForAt};
+ghost use Rattle.shared_table.specs.Passes.{IsPassOf};
+ghost use Rattle.root_workers.specs.Rounds.{IsRound, IsKnownAt, HasSeenMore};
+ghost use Rattle.worker_pool.specs.Findings.{AreRight};
+ghost use Rattle.std.specs.Thread.{IsSync};
 
 use am_answer::{Inputs, Root, Status};
 use am_inputs::{read_deal, read_root};
@@ -21,9 +26,30 @@ use job_prove::prove_front;
 use job_search::{Made, name_card, solve, summarize};
 use job_words::{Ask, LayoutsJob, Search};
 use layout_maker::made_problem;
-use root_workers::{InThreads, searched_in_threads};
+use root_workers::{InThreads, RootWorker, Round, Searched, searched_in_threads};
+use shared_table::Pass;
 use std::alloc::Global;
 use std::thread::Threads;
+
+// The root cards that workers in threads search in a round. A crate can hand over a function of its
+// own, and none of another crate; `threads` says again what the bounds say, which it doesn't keep.
+fn search_round<R: Threads + Sync, G: Gate>(
+    rt: &R,
+    round: &Round,
+    gate: &G,
+    workers: &mut [RootWorker],
+    pass: &mut Pass,
+) -> Searched
+    requires threads { IsSync R.row × IsSync G.row }
+    requires round { IsRound round.now }
+    requires some { 1 ≤ length workers.old }
+    requires pass { IsPassOf round.now.table.now pass.old }
+    ensures right { IfOk result (λ findings. AreRight (IsKnownAt round.now) findings.items) }
+    ensures pass { IsPassOf round.now.table.now pass.new }
+    ensures grown { HasSeenMore pass.old pass.new }
+{
+    searched_in_threads(rt, round, gate, workers, pass)
+}
 
 // The text of a job at a root, or why there is none.
 #[tactic(auto, unfolding(am_answer::specs::Answers::task_at))]
@@ -51,7 +77,7 @@ fn text_at<R: Threads + Sync, G: Gate>(
     let crew = InThreads {
         rt,
         gate,
-        search: searched_in_threads,
+        search: search_round,
     };
     match job {
         LayoutsJob::Solve { moves, search } => solve(&crew, alloc, root, *moves, search),
@@ -112,7 +138,7 @@ fn solve_made<R: Threads + Sync, G: Gate>(
     let crew = InThreads {
         rt,
         gate,
-        search: searched_in_threads,
+        search: search_round,
     };
     summarize(&crew, alloc, &job, search)
 }

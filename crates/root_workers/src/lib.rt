@@ -21,7 +21,9 @@ mod shared_cards;
 mod worker_results;
 mod workers;
 
-pub use crew::{Alone, InThreads, RootCrew, searched_in_threads};
+pub use crew::{Alone, InThreads, RootCrew, Searched, searched_in_threads};
 pub use question::Question;
 pub use reports::{CardReport, Outcome, Stored};
 pub use root::{Options, RootCard, RootFront, root_card, root_front};
+pub use rounds::Round;
+pub use workers::RootWorker;
