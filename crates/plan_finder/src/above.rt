@@ -12,6 +12,7 @@ ghost use Rattle.alphamu_core.specs.Judging.{makes_at};
 ghost use Rattle.plan_finder.specs.Above.{IsPartAbove, AreAbove};
 ghost use Rattle.plan_finder.specs.AboveSearches.{IsSameAbove};
 
+use crate::memo::AboveMemo;
 use crate::rules::PlanRules;
 use alphamu_core::{Budget, Found, SearchFault, cards_to_try, search, store_key, take_highest};
 use cut_rules::CutRules;
@@ -32,6 +33,7 @@ pub struct AboveSearch<'a, S> {
     pub alloc: Global,
     pub store: &'a mut S,
     pub solver: &'a mut Solver,
+    pub memo: &'a mut AboveMemo,
     pub budget: &'a mut Budget,
     pub rules: PlanRules,
 }
@@ -39,9 +41,9 @@ pub struct AboveSearch<'a, S> {
 /// The vectors of the front of a node with `moves` moves that dominate a target. The budget pays for
 /// each node that is entered.
 pub fn vectors_above<S: FrontStore>(
-    alloc: Global,
     store: &mut S,
     solver: &mut Solver,
+    memo: &mut AboveMemo,
     budget: &mut Budget,
     node: &Node,
     moves: u8,
@@ -57,15 +59,17 @@ pub fn vectors_above<S: FrontStore>(
     ensures nodes { budget.new.nodes ≡ budget.old.nodes }
     ensures grown { S.grown store.old store.new }
 {
+    let alloc = memo.alloc();
     let node = node.copy(alloc)?;
     let mut search = AboveSearch {
         alloc,
         store,
         solver,
+        memo,
         budget,
         rules,
     };
-    search.visit(node, moves, target)
+    search.visit(node, moves, target, false)
 }
 
 // The front of those vectors of a front that dominate the target.
@@ -151,9 +155,9 @@ fn is_complete(solver: &mut Solver, rules: CutRules, node: &Node, front: &Front)
 
 impl<S: FrontStore> AboveSearch<'_, S> {
     /// Enters a node, for which the budget pays, and finds the vectors of its front that dominate
-    /// the target.
+    /// the target. `made` says that double dummy is known to make each layout of the target.
     #[cycle(above)]
-    pub fn visit(&mut self, node: Node, moves: u8, target: &WinVector) -> VectorsAbove
+    pub fn visit(&mut self, node: Node, moves: u8, target: &WinVector, made: bool) -> VectorsAbove
         requires few_moves { moves ≤ most_moves }
         requires width { length target.now ≡ length node.lefts }
         ensures above { IfOk result (AreAbove node moves target.now) }
@@ -166,31 +170,35 @@ impl<S: FrontStore> AboveSearch<'_, S> {
         if self.rules.whole_fronts {
             return self.by_whole_front(&node, moves, target);
         }
-        if self.rules.cuts.bound && !makes_each(self.solver, &node, target) {
+        if let Some(found) = self.memo.look(&node, moves, target) {
             self.budget.enter()?;
-            return Ok(no_vectors(self.alloc, &node));
+            return Ok(found);
         }
-        self.go_on(node, moves, target)
+        let answer = self.find(&node, moves, target, made);
+        self.memo.offer(&node, moves, target, &answer);
+        answer
     }
 
-    // The same, but without asking double dummy. After a defender's card there is no need to ask,
-    // since a layout that was made is made still.
+    // The same, but without a look at what is kept. After a defender's card double dummy needn't be
+    // asked, since a layout that was made is made still.
     #[cycle(above)]
-    fn go_on(&mut self, node: Node, moves: u8, target: &WinVector) -> VectorsAbove
+    fn find(&mut self, node: &Node, moves: u8, target: &WinVector, made: bool) -> VectorsAbove
         requires few_moves { moves ≤ most_moves }
-        requires width { length target.now ≡ length node.lefts }
-        ensures above { IfOk result (AreAbove node moves target.now) }
-        ensures costs { Costs ⊥ (tree_size bridge node moves) self.old.budget.now.left
+        requires width { length target.now ≡ length node.now.lefts }
+        ensures above { IfOk result (AreAbove node.now moves target.now) }
+        ensures costs { Costs ⊥ (tree_size bridge node.now moves) self.old.budget.now.left
             self.new.budget.now.left result }
         ensures same { IsSameAbove S.grown self.old self.new }
-        ensures same_store { self.new.store.ghost_name ≡ self.old.store.ghost_name }
-        ensures same_budget { self.new.budget.ghost_name ≡ self.old.budget.ghost_name }
     {
+        if !made && self.rules.cuts.bound && !makes_each(self.solver, node, target) {
+            self.budget.enter()?;
+            return Ok(no_vectors(self.alloc, node));
+        }
         if node.stops(moves) || node.width() == 1 || target.count() == 0 {
-            return self.by_whole_front(&node, moves, target);
+            return self.by_whole_front(node, moves, target);
         }
         self.budget.enter()?;
-        self.open(&node, moves, target)
+        self.open(node, moves, target)
     }
 
     // Searches the front and takes its vectors above the target.
@@ -272,7 +280,7 @@ impl<S: FrontStore> AboveSearch<'_, S> {
         let mut cards = cards_to_try(node, self.rules.cuts);
         'cards: while let Some(card) = take_highest(&mut cards) {
             let (child, _) = node.child(self.alloc, card)?;
-            let won = self.visit(child, moves - 1, target)?;
+            let won = self.visit(child, moves - 1, target, false)?;
             front.union(&won)?;
             if is_complete(self.solver, self.rules.cuts, node, &front) {
                 return Ok(front);
@@ -299,7 +307,7 @@ impl<S: FrontStore> AboveSearch<'_, S> {
         'cards: while let Some(card) = cards.pop_first() {
             let (child, mask) = node.child(self.alloc, card)?;
             let part = target.restrict(mask);
-            let won = self.go_on(child, moves, &part)?;
+            let won = self.visit(child, moves, &part, true)?;
             if won.is_empty() {
                 return Ok(no_vectors(self.alloc, node));
             }

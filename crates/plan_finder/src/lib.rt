@@ -7,6 +7,7 @@ mod above;
 mod choice;
 mod digest;
 mod finder;
+mod memo;
 mod plan_lines;
 mod rules;
 mod searches;

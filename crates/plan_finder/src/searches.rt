@@ -9,6 +9,7 @@ ghost use Rattle.plan_finder.specs.Choices.{KeepsNone};
 ghost use Rattle.plan_finder.specs.PlanSearches.{IsSameSearch};
 
 use crate::above::vectors_above;
+use crate::memo::AboveMemo;
 use crate::rules::PlanRules;
 use alphamu_core::{Budget, Entered, SearchFault};
 use dd_solver::Solver;
@@ -24,6 +25,7 @@ pub struct PlanSearch<'a, S> {
     pub alloc: Global,
     pub store: &'a mut S,
     pub solver: &'a mut Solver,
+    pub memo: &'a mut AboveMemo,
     pub nodes: u64,
     pub rules: PlanRules,
 }
@@ -57,9 +59,9 @@ impl<S: FrontStore> PlanSearch<'_, S> {
     {
         let mut budget = Budget::new(self.nodes);
         let front = vectors_above(
-            self.alloc,
             self.store,
             self.solver,
+            self.memo,
             &mut budget,
             node,
             moves,

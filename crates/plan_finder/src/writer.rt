@@ -15,8 +15,10 @@ ghost use Rattle.std.specs.Prelude.{
 ghost use Rattle.plan_finder.specs.Written.{IsPlanWritten, StandsWritten, EndsWritten};
 
 use crate::digest::digest;
+use crate::memo::AboveMemo;
 use std::alloc::{AllocError, Global};
 use std::marker::Model;
+use std::mem;
 use trick_rules::Node;
 use win_vectors::WinVector;
 
@@ -59,6 +61,7 @@ impl WrittenPlan {
 pub struct PlanWriter {
     alloc: Global,
     whole_fronts: bool,
+    memo: AboveMemo,
     text: Vec<u8>,
     slots: Vec<Option<WrittenPlan>>,
 }
@@ -95,6 +98,7 @@ impl PlanWriter {
         PlanWriter {
             alloc,
             whole_fronts: false,
+            memo: AboveMemo::new(alloc),
             text: Vec::new(alloc),
             slots: Vec::new(alloc),
         }
@@ -109,6 +113,7 @@ impl PlanWriter {
         PlanWriter {
             alloc,
             whole_fronts: vectors <= MOST_NARROW,
+            memo: AboveMemo::new(alloc),
             text: Vec::new(alloc),
             slots: Vec::new(alloc),
         }
@@ -143,6 +148,20 @@ impl PlanWriter {
     /// Whether the plans are found by whole fronts.
     pub(crate) fn whole_fronts(&self) -> bool {
         self.whole_fronts
+    }
+
+    /// Takes the memo of the searches for plans out, which goes from one plan to the next.
+    pub(crate) fn take_memo(&mut self) -> AboveMemo
+        ensures { self.new ≡ self.old }
+    {
+        mem::replace(&mut self.memo, AboveMemo::new(self.alloc))
+    }
+
+    /// Puts it back.
+    pub(crate) fn put_memo(&mut self, memo: AboveMemo)
+        ensures { self.new ≡ self.old }
+    {
+        self.memo = memo;
     }
 
     // The place of the plan for a vector of a node with `moves` moves, if it is remembered.

@@ -47,14 +47,18 @@ impl PlanWriter {
             → IsPlanSpentAt node.now moves target.now nodes card }
         ensures grown { S.grown store.old store.new }
     {
+        let mut memo = self.take_memo();
         let mut search = PlanSearch {
             alloc: self.alloc(),
             store,
             solver,
+            memo: &mut memo,
             nodes,
             rules: PlanRules::new(cuts, self.whole_fronts()),
         };
-        search.write_root(self, node, moves, target)
+        let most = search.write_root(self, node, moves, target);
+        self.put_memo(memo);
+        most
     }
 }
 

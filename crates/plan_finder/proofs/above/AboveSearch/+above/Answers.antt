@@ -1,4 +1,4 @@
-use Rattle.std.proofs.Common.{◌∙◌, ◌-◌, length, refl, sym, ap, subst, arith}
+use Rattle.std.proofs.Common.{◌∙◌, ◌-◌, length, refl, sym, ap, subst, arith, rules}
 use Rattle.win_vectors.specs.Fronts.{Vector}
 use Rattle.trick_rules.specs.Nodes.{NodeValue}
 use Rattle.alphamu_core.proofs.Taken.{taken_first}
@@ -143,8 +143,8 @@ pub at_defender-restrict-part-requires-clause-not_empty : goal.at_defender-restr
 at_defender-restrict-part-requires-clause-not_empty g t c =
     some_bits c.args.node.now c.args.moves c.args.target.now c.cards.invariant.so (taken_first _ _ _ c.in-Some.ensures.value) c.in_ok-child.ensures.node c.in_ok-child.mask c.in_ok-child.ensures.mask c.requires.width c.width.ensures.a_node
 
-pub at_defender-go_on-requires : goal.at_defender-go_on-requires
-at_defender-go_on-requires g t c κs within =
+pub at_defender-visit-requires : goal.at_defender-visit-requires
+at_defender-visit-requires g t c κs within =
     let taken = taken_first _ _ _ c.in-Some.ensures.value in
     let less = fewer_cards _ _ _ c.width.ensures.a_node (theirs_next c.args.node.now c.args.moves c.cards.invariant.so.so taken) c.in_ok-child.ensures.node in (
       omega arith,
@@ -227,15 +227,23 @@ pub visit-returns-in_err-enter-clause-costs : goal.visit-returns-in_err-enter-cl
 visit-returns-in_err-enter-clause-costs g t c =
     costs_none ⊥ (tree_size bridge c.args.node c.args.moves) c.args.self.now.budget.now.left c.enter.new.self.left c.from_residual.result c.in_err-enter.field-0.0 c.from_residual.ensures.1 (tree_size-positive c.args.node c.args.moves) c.in_err-enter.ensures.spent.0 c.in_err-enter.ensures.spent.1
 
-pub go_on-returns-in_err-enter-clause-costs : goal.go_on-returns-in_err-enter-clause-costs
-go_on-returns-in_err-enter-clause-costs g t c =
-    costs_none ⊥ (tree_size bridge c.args.node c.args.moves) c.args.self.now.budget.now.left c.enter.new.self.left c.from_residual.result c.in_err-enter.field-0.0 c.from_residual.ensures.1 (tree_size-positive c.args.node c.args.moves) c.in_err-enter.ensures.spent.0 c.in_err-enter.ensures.spent.1
+pub visit-returns-in-Some-clause-costs : goal.visit-returns-in-Some-clause-costs
+visit-returns-in-Some-clause-costs g t c =
+    costs_one ⊥ (tree_size bridge c.args.node c.args.moves) c.args.self.now.budget.now.left c.enter.new.self.left c.in-Some.found (λ each. absurd each) (tree_size-positive c.args.node c.args.moves) c.in_ok-enter.ensures.paid
 
-pub visit-returns-then-not-makes_each-clause-above : goal.visit-returns-then-not-makes_each-clause-above
-visit-returns-then-not-makes_each-clause-above g t c =
-    let lost = lost_keeps_none c.args.node c.args.moves c.args.target.now c.makes_each.ensures.a_node (c.makes_each.ensures.lost c.if-not-makes_each.true) in
-    nothing_above c.args.target.now c.args.node c.args.moves c.no_vectors.result c.makes_each.ensures.a_node lost c.no_vectors.ensures.empty c.no_vectors.ensures.width
+pub find-returns-in_err-enter-clause-costs : goal.find-returns-in_err-enter-clause-costs
+find-returns-in_err-enter-clause-costs g t c =
+    costs_none ⊥ (tree_size bridge c.args.node.now c.args.moves) c.args.self.now.budget.now.left c.enter.new.self.left c.from_residual.result c.in_err-enter.field-0.0 c.from_residual.ensures.1 (tree_size-positive c.args.node.now c.args.moves) c.in_err-enter.ensures.spent.0 c.in_err-enter.ensures.spent.1
 
-pub visit-returns-then-not-makes_each-clause-costs : goal.visit-returns-then-not-makes_each-clause-costs
-visit-returns-then-not-makes_each-clause-costs g t c =
-    costs_one ⊥ (tree_size bridge c.args.node c.args.moves) c.args.self.now.budget.now.left c.enter.new.self.left c.no_vectors.result (λ each. absurd each) (tree_size-positive c.args.node c.args.moves) c.in_ok-enter.ensures.paid
+pub find-returns-in_err-enter-2-clause-costs : goal.find-returns-in_err-enter-2-clause-costs
+find-returns-in_err-enter-2-clause-costs g t c =
+    costs_none ⊥ (tree_size bridge c.args.node.now c.args.moves) c.args.self.now.budget.now.left c.enter-2.new.self.left c.from_residual-in_err-enter-2.result c.in_err-enter-2.field-0.0 c.from_residual-in_err-enter-2.ensures.1 (tree_size-positive c.args.node.now c.args.moves) (search (c.in_err-enter-2.ensures, rules)) c.in_err-enter-2.ensures.spent.1
+
+pub find-returns-then-not-makes_each-clause-above : goal.find-returns-then-not-makes_each-clause-above
+find-returns-then-not-makes_each-clause-above g t c =
+    let lost = lost_keeps_none c.args.node.now c.args.moves c.args.target.now c.makes_each.ensures.a_node (c.makes_each.ensures.lost c.if-not-makes_each.true) in
+    nothing_above c.args.target.now c.args.node.now c.args.moves c.no_vectors.result c.makes_each.ensures.a_node lost c.no_vectors.ensures.empty c.no_vectors.ensures.width
+
+pub find-returns-then-not-makes_each-clause-costs : goal.find-returns-then-not-makes_each-clause-costs
+find-returns-then-not-makes_each-clause-costs g t c =
+    costs_one ⊥ (tree_size bridge c.args.node.now c.args.moves) c.args.self.now.budget.now.left c.enter.new.self.left c.no_vectors.result (λ each. absurd each) (tree_size-positive c.args.node.now c.args.moves) c.in_ok-enter.ensures.paid

@@ -9,8 +9,8 @@ use Rattle.plan_finder.proofs.above.AboveSearch.+above.Given as goal
 abbrev pub decreases-visit : goal.decreases-visit
 decreases-visit g l = 4 * cards_left l.node.position + 3
 
-abbrev pub decreases-go_on : goal.decreases-go_on
-decreases-go_on g l = 4 * cards_left l.node.position + 2
+abbrev pub decreases-find : goal.decreases-find
+decreases-find g l = 4 * cards_left l.node.now.position + 2
 
 abbrev pub decreases-open : goal.decreases-open
 decreases-open g l = 4 * cards_left l.node.now.position + 1

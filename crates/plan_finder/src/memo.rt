@@ -1,0 +1,163 @@
+//! What searches above targets have found already.
+ghost use Rattle.std.specs.Prelude.{◌≡◌, IsTrue, IfOk, IfSome};
+ghost use Rattle.plan_finder.specs.Above.{AreAbove};
+
+use crate::above::VectorsAbove;
+use crate::digest::digest;
+use pareto_fronts::Front;
+use std::alloc::{AllocError, Global};
+use std::marker::Model;
+use trick_rules::Node;
+use win_vectors::WinVector;
+
+/// How many finds are kept at first, and how many once there have been more.
+const FEW_SLOTS: usize = 256;
+
+const MOST_SLOTS: usize = 65_536;
+
+/// The most vectors of a find that is kept.
+const MOST_KEPT_VECTORS: usize = 2048;
+
+/// A node, a number of moves, a target, and the vectors of the node's front that dominate it.
+#[derive(Drop)]
+pub struct KeptAbove {
+    node: Node,
+    moves: u8,
+    target: WinVector,
+    front: Front,
+}
+
+impl Model for KeptAbove {
+    ghost use Rattle.plan_finder.specs.Above.{KeptAboveValue, AreAbove};
+
+    ghost Value = { KeptAboveValue };
+
+    ghost view = { λ kept. record {
+      node = kept.node;
+      moves = kept.moves;
+      target = kept.target;
+      front = kept.front;
+    } };
+
+    ghost invariant = { λ kept. AreAbove kept.node kept.moves kept.target kept.front };
+}
+
+impl KeptAbove {
+    fn new(node: Node, moves: u8, target: WinVector, front: Front) -> KeptAbove
+        requires { AreAbove node moves target front }
+    {
+        KeptAbove {
+            node,
+            moves,
+            target,
+            front,
+        }
+    }
+
+    fn front(&self) -> &Front
+        ensures { AreAbove self.now.node self.now.moves self.now.target result.now }
+    {
+        &self.front
+    }
+
+    // Whether it is of this node, these moves and this target.
+    fn is_of(&self, node: &Node, moves: u8, target: &WinVector) -> bool
+        ensures node { IsTrue result → self.now.node ≡ node.now }
+        ensures moves { IsTrue result → self.now.moves ≡ moves }
+        ensures target { IsTrue result → self.now.target ≡ target.now }
+    {
+        self.moves == moves && self.target.equals(*target) && self.node.equals(node)
+    }
+}
+
+/// What searches above targets have found, each in a slot that depends on its node, its moves and
+/// its target.
+#[derive(Drop)]
+pub struct AboveMemo {
+    alloc: Global,
+    slots: Vec<Option<KeptAbove>>,
+    kept: usize,
+}
+
+impl AboveMemo {
+    /// Nothing kept yet. It takes no memory.
+    pub fn new(alloc: Global) -> AboveMemo {
+        AboveMemo {
+            alloc,
+            slots: Vec::new(alloc),
+            kept: 0,
+        }
+    }
+
+    pub fn alloc(&self) -> Global {
+        self.alloc
+    }
+
+    /// The vectors above the target that were found for the node with `moves` moves, if they are
+    /// kept and an allocation doesn't fail.
+    pub fn look(&self, node: &Node, moves: u8, target: &WinVector) -> Option<Front>
+        ensures { IfSome result (AreAbove node.now moves target.now) }
+    {
+        if self.slots.is_empty() {
+            return None;
+        }
+        let place = (digest(node, moves, target) % self.slots.len() as u64) as usize;
+        match &self.slots[place] {
+            Some(kept) if kept.is_of(node, moves, target) => kept.front().copy().ok(),
+            _ => None,
+        }
+    }
+
+    /// Offers what a search above a target answers: it is kept if it isn't too wide and an
+    /// allocation doesn't fail.
+    pub fn offer(&mut self, node: &Node, moves: u8, target: &WinVector, answer: &VectorsAbove)
+        requires { IfOk answer.now (AreAbove node.now moves target.now) }
+    {
+        if let Ok(found) = answer {
+            let _ = self.keep(node, moves, target, found);
+        }
+    }
+
+    // Keeps what was found above a target instead of what was in its slot, if it isn't too wide.
+    fn keep(
+        &mut self,
+        node: &Node,
+        moves: u8,
+        target: &WinVector,
+        found: &Front,
+    ) -> Result<(), AllocError>
+        requires { AreAbove node.now moves target.now found.now }
+    {
+        if found.len() > MOST_KEPT_VECTORS {
+            return Ok(());
+        }
+        self.make_slots()?;
+        let kept = KeptAbove::new(node.copy(self.alloc)?, moves, *target, found.copy()?);
+        if !self.slots.is_empty() {
+            let place = digest(node, moves, target) % self.slots.len() as u64;
+            self.slots[place as usize] = Some(kept);
+            self.kept = self.kept.saturating_add(1);
+        }
+        Ok(())
+    }
+
+    // Takes the memory of the slots, if it isn't taken: of more, once many finds were kept.
+    fn make_slots(&mut self) -> Result<(), AllocError> {
+        if self.slots.is_empty() {
+            self.slots = free_slots(self.alloc, FEW_SLOTS)?;
+        }
+        if self.slots.len() < MOST_SLOTS && self.kept > FEW_SLOTS {
+            self.slots = free_slots(self.alloc, MOST_SLOTS)?;
+        }
+        Ok(())
+    }
+}
+
+// This many slots with nothing in them.
+fn free_slots(alloc: Global, count: usize) -> Result<Vec<Option<KeptAbove>>, AllocError> {
+    let mut slots = Vec::with_capacity(alloc, count)?;
+    for _ in 0..count {
+        slots.push(None)?;
+    }
+    Ok(slots)
+}
