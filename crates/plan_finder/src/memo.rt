@@ -16,7 +16,7 @@ const FEW_SLOTS: usize = 256;
 const MOST_SLOTS: usize = 65_536;
 
 /// The most vectors of a find that is kept.
-const MOST_KEPT_VECTORS: usize = 2048;
+const MOST_KEPT_VECTORS: usize = 256;
 
 /// A node, a number of moves, a target, and the vectors of the node's front that dominate it.
 #[derive(Drop)]
