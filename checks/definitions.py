@@ -192,7 +192,7 @@ class Crate:
         self.items = {path: list(members_of(text, 0, len(text))) for path, text in self.texts.items()}
         self.open = {path for path in paths if self.is_open(path)}
         self.passed_on = {word for path in paths for item, _ in self.items[path] if item.public and item.kind == "use"
-                          for word in re.findall(NAME, item.head)}
+                          for word in re.findall(rf"\b{NAME}\b(?!\s*::)", item.head)}
         types = [(path, item) for path in paths for item, _ in self.items[path] if item.kind in ("struct", "enum")]
         self.types = {item.name for _, item in types}
         self.seen_types = {item.name for path, item in types if self.is_seen(path, item)}
