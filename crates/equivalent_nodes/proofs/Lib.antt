@@ -1,3 +1,4 @@
 mod MovedUp
 mod Closing
 mod Relative
+mod Hands

@@ -1,11 +1,12 @@
 //! Relative ranks (DDS: relRanks): between two tricks the cards in play stand at the highest places
 //! of their suits.
 ghost use Rattle.std.specs.Prelude.{◌≡◌, [], map, IfOk};
+ghost use Rattle.card_sets.specs.Raised.{with_raised};
 ghost use Rattle.trick_rules.specs.Positions.{IsSound};
 ghost use Rattle.trick_rules.specs.Nodes.{IsNode};
 ghost use Rattle.equivalent_nodes.specs.Ranks.{gaps_of as gaps_at, with_gaps_closed as closed_up, with_gaps_closed_in, with_gaps_closed_at, in_relative_ranks as relative_node, AreEquivalent};
 
-use card_sets::CardSet;
+use card_sets::{Card, CardSet};
 use double_dummy::cards_in_play;
 use std::alloc::{AllocError, Global};
 use trick_rules::{Node, Position};
@@ -29,15 +30,32 @@ fn with_gaps_closed(gaps: CardSet, cards: CardSet) -> CardSet
     raised
 }
 
+// Closes a gap in each of these hands.
+fn close_gap(hands: &mut [CardSet], gap: Card)
+    ensures { hands.new ≡ map (with_raised gap) hands.old }
+{
+    for hand in hands.iter_mut() {
+        *hand = hand.raised_to(gap);
+    }
+}
+
+// Closes these gaps in each of the hands, the lowest first.
+fn close_gaps(hands: &mut [CardSet], gaps: CardSet)
+    ensures { hands.new ≡ map (closed_up gaps) hands.old }
+{
+    let mut rest = gaps;
+    while let Some(gap) = rest.pop_first() {
+        close_gap(hands, gap);
+    }
+}
+
 // Left's hands, one a layout, after these gaps are closed.
 fn lefts_of(alloc: Global, gaps: CardSet, node: &Node) -> Result<Vec<CardSet>, AllocError>
     ensures lefts { IfOk result (λ lefts. lefts.items ≡ map (closed_up gaps) node.now.lefts) }
     ensures a_node { IsNode node.now }
 {
-    let mut lefts = Vec::with_capacity(alloc, usize::from(node.width()))?;
-    for left in node.lefts() {
-        lefts.push(with_gaps_closed(gaps, *left))?;
-    }
+    let mut lefts = Vec::from_slice(alloc, node.lefts())?;
+    close_gaps(lefts.as_mut_slice(), gaps);
     Ok(lefts)
 }
 
