@@ -4,7 +4,9 @@ ghost use Rattle.std.specs.Prelude.{◌≡◌, [], map, IfOk};
 ghost use Rattle.card_sets.specs.Raised.{with_raised};
 ghost use Rattle.trick_rules.specs.Positions.{IsSound};
 ghost use Rattle.trick_rules.specs.Nodes.{IsNode};
-ghost use Rattle.equivalent_nodes.specs.Ranks.{gaps_of as gaps_at, with_gaps_closed as closed_up, with_gaps_closed_in, with_gaps_closed_at, in_relative_ranks as relative_node, AreEquivalent};
+ghost use Rattle.equivalent_nodes.specs.Ranks.{gaps_of as gaps_at, with_gaps_closed as closed_up};
+ghost use Rattle.equivalent_nodes.specs.Ranks.{with_gaps_closed_in, with_gaps_closed_at};
+ghost use Rattle.equivalent_nodes.specs.Ranks.{in_relative_ranks as relative_node, AreEquivalent};
 
 use card_sets::{Card, CardSet};
 use double_dummy::cards_in_play;
