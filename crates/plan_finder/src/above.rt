@@ -227,7 +227,6 @@ impl<S: FrontStore> AboveSearch<'_, S> {
     }
 
     // The front that the store has for a node with `moves` moves, under its key.
-    #[tactic(auto, using(alphamu_core::proofs::StoreKeys::front_from_key))]
     fn known(&mut self, node: &Node, moves: u8) -> Result<Option<Front>, AllocError>
         ensures front { IfOk result (λ front. IfSome front (IsFrontAt node.now moves)) }
         ensures unpaid { self.new.budget.now.left ≡ self.old.budget.now.left }
