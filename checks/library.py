@@ -176,7 +176,7 @@ def shown():
 
 def strategy_shown(trial, suit):
     """How the strategy for the first vector of a report begins, as the examples print it."""
-    plans = library_bits.plans_of(trial.alphamu.report(*(suit.with_suffix(it).read_bytes() for it in (".pbn", ".lay")), 4))
+    plans = library_bits.plans_of(trial.alphamu.report(*(suit.with_suffix(it).read_bytes() for it in (".pbn", ".lay")), 6))
     [(card, replies)] = plans[max(plans, key=lambda it: (it.count("1"), it))]
     return "".join([f"a strategy: play {card}\n", *(f"on {theirs} play {plan[0][0]}\n" for theirs, plan in replies)])
 

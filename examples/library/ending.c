@@ -38,11 +38,11 @@ static uint64_t west(int layout, int *spades) {
     return hand;
 }
 
-/* Prints how the strategy for the front's first vector begins, if four cards of declarer's side are planned. */
+/* Prints how the strategy for the front's first vector begins, if six cards of declarer's side are planned. */
 static uint32_t begin_strategy(alphamu_question question, const uint64_t *lefts, const uint32_t *weights) {
     static alphamu_node nodes[NODES];
     size_t written;
-    question.moves = 4;
+    question.moves = 6;
     uint32_t status = alphamu_bits_strategy(&question, lefts, 32, weights, 32, 0, nodes, NODES, &written);
     if (status) return status;
     size_t place = alphamu_after_card(nodes, 0, alphamu_next_card(nodes, 0));

@@ -32,7 +32,7 @@ def by_bits():
     for it in question.worths(lefts, weights):
         print(f"{alphamu.card_name(it.card)} wins {it.weight} of {sum(weights)}; a simulation believes in {it.double_dummy}")
     print(f"play {alphamu.card_name(question.card(lefts, weights).card)}")
-    begin_strategy(dataclasses.replace(question, moves=4).strategy(lefts, weights))
+    begin_strategy(dataclasses.replace(question, moves=6).strategy(lefts, weights))
 
 
 def begin_strategy(strategy):

@@ -32,7 +32,7 @@ fn by_bits() -> Result<(), Box<dyn Error>> {
         println!("{} wins {} of {total}; a simulation believes in {}", name(it.card)?, it.weight, it.double_dummy);
     }
     println!("play {}", name(question.card(&lefts, &weights)?.card)?);
-    begin_strategy(&Question { moves: 4, ..question }.strategy(&lefts, &weights, 0)?).ok_or("no card")?;
+    begin_strategy(&Question { moves: 6, ..question }.strategy(&lefts, &weights, 0)?).ok_or("no card")?;
     Ok(())
 }
 
