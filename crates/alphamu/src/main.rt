@@ -6,14 +6,13 @@
 //! `am_top::run`.
 #![tactic(auto)]
 
-ghost use Rattle.std.specs.Prelude.{◌≡◌, IfOk, length};
-
 use am_line::refuse;
 use am_match::{Defender, HighCard, LowCard};
-use am_outside::{FileShelf, OpenGate, StdSink};
+use am_outside::{FileShelf, OpenGate, Shelf, Sink, StdSink};
 use am_top::{Status, run};
 use std::alloc::{AllocError, Global};
 use std::process::ExitCode;
+use std::thread::Threads;
 use std::{env, io};
 
 // The exit status if the system gives no list of words, for example because one isn't text.
@@ -25,29 +24,30 @@ fn words_given(rt: &HostRuntime) -> io::Result<Vec<String>> {
     Ok(all.skip(1).collect::<Vec<String>>(rt.alloc())?)
 }
 
-// The table: two defenders who play low, and a third, in reserve, who plays high.
-fn defenders(alloc: Global) -> Result<Vec<Box<dyn Defender>>, AllocError>
-    ensures { IfOk result (λ table. length table.items ≡ 3) }
-{
+// Runs the words at a table of two defenders who play low and a third, in reserve, who plays high.
+fn run_at_table<R: Threads + Sync, S: Shelf, O: Sink, E: Sink>(
+    rt: &R,
+    alloc: Global,
+    words: &[String],
+    shelf: &mut S,
+    out: &mut O,
+    err: &mut E,
+) -> Result<Status, AllocError> {
     let mut table: Vec<Box<dyn Defender>> = Vec::new(alloc);
     table.push(Box::new(alloc, LowCard::new())?)?;
     table.push(Box::new(alloc, LowCard::new())?)?;
     table.push(Box::new(alloc, HighCard::new())?)?;
-    Ok(table)
+    Ok(run(rt, alloc, words, shelf, out, err, &OpenGate, &mut table))
 }
 
 /// Runs the words that the system gives, and ends with the status's code.
 fn main(rt: HostRuntime) -> ExitCode {
-    let alloc = rt.alloc();
     let mut shelf = FileShelf::new(&rt);
     let mut out = StdSink::new(rt.stdout());
     let mut err = StdSink::new(rt.stderr());
-    let gate = &OpenGate;
     let status = match words_given(&rt) {
-        Ok(words) => match defenders(alloc) {
-            Ok(mut table) => run(
-                &rt, alloc, &words, &mut shelf, &mut out, &mut err, gate, &mut table,
-            ),
+        Ok(words) => match run_at_table(&rt, rt.alloc(), &words, &mut shelf, &mut out, &mut err) {
+            Ok(status) => status,
             Err(_) => refuse(Status::Memory, &mut err),
         },
         Err(error) if error.kind() == io::ErrorKind::OutOfMemory => {
