@@ -50,33 +50,82 @@ fn put_all(alloc: Global, table: &SharedTable, mut pass: Pass, node: &Node) -> P
     pass
 }
 
-// This many threads put all entries: half of them beside the other half, down to one.
-fn put_beside<R: Threads + Sync>(
+// Two threads put all entries.
+fn put_by_two<R: Threads>(
     rt: &R,
     alloc: Global,
     table: &SharedTable,
     mut pass: Pass,
     node: &Node,
-    threads: u32,
 ) -> Pass
     requires { IsPassOf table.now pass }
     ensures { IsPassOf table.now result }
 {
-    if threads <= 1 {
-        return put_all(alloc, table, pass, node);
-    }
-    let half = threads / 2;
+    let other = table.split(&mut pass);
+    let (mut pass, other) = thread::join(
+        rt,
+        move || -> Pass
+            requires { IsPassOf table.now pass }
+            ensures { IsPassOf table.entry.now result }
+        { put_all(alloc, table, pass, node) },
+        move || -> Pass
+            requires { IsPassOf table.now other }
+            ensures { IsPassOf table.entry.now result }
+        { put_all(alloc, table, other, node) },
+    );
+    table.join(&mut pass, other);
+    pass
+}
+
+// Four threads put all entries.
+fn put_by_four<R: Threads + Sync>(
+    rt: &R,
+    alloc: Global,
+    table: &SharedTable,
+    mut pass: Pass,
+    node: &Node,
+) -> Pass
+    requires { IsPassOf table.now pass }
+    ensures { IsPassOf table.now result }
+{
     let other = table.split(&mut pass);
     let (mut pass, other) = thread::join(
         rt,
         move || -> Pass
             requires { IsSync R.row × IsPassOf table.now pass }
             ensures { IsPassOf table.entry.now result }
-        { put_beside(rt, alloc, table, pass, node, half) },
+        { put_by_two(rt, alloc, table, pass, node) },
         move || -> Pass
             requires { IsSync R.row × IsPassOf table.now other }
             ensures { IsPassOf table.entry.now result }
-        { put_beside(rt, alloc, table, other, node, half) },
+        { put_by_two(rt, alloc, table, other, node) },
+    );
+    table.join(&mut pass, other);
+    pass
+}
+
+// Eight threads put all entries.
+fn put_by_eight<R: Threads + Sync>(
+    rt: &R,
+    alloc: Global,
+    table: &SharedTable,
+    mut pass: Pass,
+    node: &Node,
+) -> Pass
+    requires { IsPassOf table.now pass }
+    ensures { IsPassOf table.now result }
+{
+    let other = table.split(&mut pass);
+    let (mut pass, other) = thread::join(
+        rt,
+        move || -> Pass
+            requires { IsSync R.row × IsPassOf table.now pass }
+            ensures { IsPassOf table.entry.now result }
+        { put_by_four(rt, alloc, table, pass, node) },
+        move || -> Pass
+            requires { IsSync R.row × IsPassOf table.now other }
+            ensures { IsPassOf table.entry.now result }
+        { put_by_four(rt, alloc, table, other, node) },
     );
     table.join(&mut pass, other);
     pass
@@ -113,18 +162,22 @@ fn entries_of(closed: &ClosedTable) -> usize {
     total
 }
 
-// Fails if a table with this many shards hasn't each entry once, after this many threads have put
-// all of them.
+// Fails if a table with this many shards hasn't each entry once, after two threads have put all of
+// them, or eight have.
 fn assert_kept_once<R: Threads + Abort + Sync>(
     rt: &R,
     alloc: Global,
     shards: u32,
-    threads: u32,
+    eight: bool,
 ) -> Result<(), Fail> {
     assert!(rt; 1 <= shards && shards <= 64);
     let node = after_two(rt, alloc)?;
     let (table, pass) = SharedTable::new(alloc, shards, 64)?;
-    let pass = put_beside(rt, alloc, &table, pass, &node, threads);
+    let pass = if eight {
+        put_by_eight(rt, alloc, &table, pass, &node)
+    } else {
+        put_by_two(rt, alloc, &table, pass, &node)
+    };
     let mut pass = put_all(alloc, &table, pass, &node);
     assert_eq!(rt; found(alloc, &table, &mut pass, &node)?, 8);
     assert_eq!(rt; entries_of(&table.close(&mut pass)?), 8);
@@ -133,22 +186,22 @@ fn assert_kept_once<R: Threads + Abort + Sync>(
 
 #[test]
 fn two_threads_on_one_shard(rt: HostRuntime) -> Result<(), Fail> {
-    assert_kept_once(&rt, rt.alloc(), 1, 2)
+    assert_kept_once(&rt, rt.alloc(), 1, false)
 }
 
 #[test]
 fn two_threads_on_many_shards(rt: HostRuntime) -> Result<(), Fail> {
-    assert_kept_once(&rt, rt.alloc(), 16, 2)
+    assert_kept_once(&rt, rt.alloc(), 16, false)
 }
 
 #[test]
 fn eight_threads_on_one_shard(rt: HostRuntime) -> Result<(), Fail> {
-    assert_kept_once(&rt, rt.alloc(), 1, 8)
+    assert_kept_once(&rt, rt.alloc(), 1, true)
 }
 
 #[test]
 fn eight_threads_on_many_shards(rt: HostRuntime) -> Result<(), Fail> {
-    assert_kept_once(&rt, rt.alloc(), 16, 8)
+    assert_kept_once(&rt, rt.alloc(), 16, true)
 }
 
 // Draws until there is no number left.
