@@ -243,7 +243,8 @@ def records(trial, most):
 
 
 def deep(trial):
-    """Questions with all moves planned, which need the most stack, with the answers that they have in a thread with more of it."""
+    """Questions with all moves planned, which need the most stack, with the answers that they have in a thread with more of it. Their
+    strategies are left out: some take more memory than there is."""
     found = [tuple((TOP / "examples" / folder / it).read_bytes() for it in ("deal.pbn", "layouts.lay")) for folder in DEEP]
     deal, layouts = found[0]
     whole = FIRST_ROW.sub(b"SJ - - -\n*", deal), layouts
@@ -251,7 +252,7 @@ def deep(trial):
         asked = library_cases.Asked("deep", "card", files, 26, library_cases.NODES, 0, b"")
         text, status = trial.by_text(asked)
         yield library_bits.record_of(dataclasses.replace(asked, text=text, status=status))
-        yield from library_bits.Compared(trial.alphamu, asked, False).records()
+        yield from library_bits.Compared(trial.alphamu, asked, False).records(library_bits.CALLS[5:8])
 
 
 def in_threads(trial):

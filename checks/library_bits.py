@@ -133,11 +133,11 @@ class Compared:
             return playing.makes(*state, self.trump)
         return all(self.is_won(strategy, it, playing.after(*state, self.trump, seat, strategy.nodes[it].card)) for it in replies)
 
-    def records(self):
-        """The question in the four calls, each with the answer that it has now."""
+    def records(self, calls=CALLS[5:]):
+        """The question in these of the calls by bits, each with the answer that it has now."""
         given = self.question._given(self.lefts, self.weights)
         parts = [bytes(given[0]), bytes(given[1]), bytes(given[3])]
-        for call in CALLS[5:]:
+        for call in calls:
             yield record(call, 0, 0, parts, 0, self.answer(call, given))
 
     def answer(self, call, given):
