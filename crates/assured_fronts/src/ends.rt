@@ -1,4 +1,4 @@
-//! What is assured where a line of play ends.
+//! What is assured at the end of a line of play.
 ghost use Rattle.std.specs.Prelude.{◌≡◌, ◌<◌, ◌&&◌, ◌||◌, true, false, [], get_or, length, map, IfOk};
 ghost use Rattle.trick_rules.specs.Play.{makes};
 ghost use Rattle.trick_rules.specs.Nodes.{states};
@@ -74,7 +74,7 @@ pub fn claimed(
 }
 
 #[tactic(auto, using(crate::proofs::Leaves::played_none))]
-/// What is assured where no moves are left: the layouts that are won if one of them is played for.
+/// What is assured if no moves are left: the layouts that are won if one of them is played for.
 pub fn open_stop(alloc: Global, solver: &mut Solver, node: &Node) -> Result<Front, AllocError>
     requires { claims_at node.now ≡ false }
     ensures { IfOk result (IsAssuredAt node.now 0) }
