@@ -1,4 +1,4 @@
-// Who hears where the workers are.
+// What hears of the root cards that workers take up.
 use card_sets::Card;
 
 /// Is told when a worker takes up a root card and when it is done with it. Several threads call it

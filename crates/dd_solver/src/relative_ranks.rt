@@ -1,4 +1,4 @@
-//! Relative ranks (DDS: relRanks): between two tricks the cards in play stand at the highest places
+//! Relative ranks (DDS: relRanks): between two tricks the cards in play are the highest
 //! of their suits. The gaps that the last trick left are closed, the lowest first.
 ghost use Rattle.std.specs.Prelude.{◌≡◌, ℕ, Bool, true, false};
 ghost use Rattle.card_sets.specs.SetWords.{has_card, IsCardSet};

@@ -1,4 +1,4 @@
-//! Relative ranks (DDS: relRanks): between two tricks the cards in play stand at the highest places
+//! Relative ranks (DDS: relRanks): between two tricks the cards in play are the highest
 //! of their suits.
 ghost use Rattle.std.specs.Prelude.{◌≡◌, [], map, IfOk};
 ghost use Rattle.card_sets.specs.Raised.{with_raised};
@@ -91,7 +91,7 @@ fn with_all_closed(alloc: Global, node: &Node) -> Result<Node, AllocError>
 }
 
 /// The node in relative ranks, which has the same front with each number of moves. Between two
-/// tricks no gap is left in a suit: the cards in play stand at its highest places. A node whose
+/// tricks no gap is left in a suit: the cards in play are its highest. A node whose
 /// trick is under way stays as it is.
 pub fn in_relative_ranks(alloc: Global, node: &Node) -> Result<Node, AllocError>
     ensures value { IfOk result (λ there. there ≡ relative_node node.now) }
