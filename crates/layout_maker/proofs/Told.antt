@@ -284,6 +284,21 @@ told_on b next so = ap (λ x. cond x next None) so
 told_off : (b : Bool) (next : Option MayHold) → b ≡ false → cond b next None ≡ None
 told_off b next not_so = ap (λ x. cond x next None) not_so
 
+-- a defender's card: what the hands are known to hold before it and after it agree where it was hidden, and nothing fits where it wasn't
+tells_hidden : (n : ℕ) (s : State) (play : Played) (plays : List Played) (may next : MayHold) (hand unseen : List ℕ)
+    → told s.position may (play ∷ plays) ≡ cond (has_card s.position.unseen play.card) (told (after_card s.position play.card) next plays) None
+    → (Holds may hand unseen → cause_of s play ≡ None → Holds next hand unseen)
+    → (has_card s.position.unseen play.card ≡ true → Holds next hand unseen → Holds may hand unseen × (cause_of s play ≡ None))
+    → (has_card s.position.unseen play.card ≡ false → cause_of s play ≡ None → ⊥)
+    → Tells (n + 1) (after s play.card) plays next hand unseen (told (after_card s.position play.card) next plays)
+    → Tells n s (play ∷ plays) may hand unseen (told s.position may (play ∷ plays))
+tells_hidden n s play plays may next hand unseen is on back shown rest =
+    let more = told (after_card s.position play.card) next plays in
+    elim (cases_Bool (has_card s.position.unseen play.card)) as (λ _. Tells n s (play ∷ plays) may hand unseen (told s.position may (play ∷ plays))) [
+      | inl so ↦ subst (Tells n s (play ∷ plays) may hand unseen) (sym (is ∙ told_on (has_card s.position.unseen play.card) more so)) (tells_step n s play plays may next hand unseen more on (back so) rest)
+      | inr not_so ↦ subst (Tells n s (play ∷ plays) may hand unseen) (sym (is ∙ told_off (has_card s.position.unseen play.card) more not_so)) (not_hidden n s play plays may hand unseen (shown not_so))
+    ]
+
 tells_at : (n : ℕ) (s : State) (seat : Seat) (card : ℕ) (plays : List Played) (may : MayHold) (hand unseen : List ℕ) → LeftOf hand unseen s.left s.position.unseen
     → ((next : MayHold) → Tells (n + 1) (after s card) plays next hand unseen (told (after_card s.position card) next plays))
     → Tells n s (record { seat = seat; card = card } ∷ plays) may hand unseen (told s.position may (record { seat = seat; card = card } ∷ plays))
@@ -294,37 +309,20 @@ tells_at n s Dummy card plays may hand unseen now rest =
     subst (Tells n s (record { seat = Dummy; card = card } ∷ plays) may hand unseen) (told-after s.position card may plays)
     (tells_step n s (record { seat = Dummy; card = card }) plays may may hand unseen (told (after_card s.position card) may plays) (λ holds none. holds) (λ holds. (holds, refl)) (rest may))
 tells_at n s Left card plays may hand unseen now rest =
-    let play : Played = record { seat = Left; card = card } in
     let next = narrowed Left s.position.trick.cards s.position.unseen card may in
-    let more = after_plays s.position.trump (next_trick s.position.trump s.position.trick card) (take_out card s.position.unseen) next plays in
-    elim (cases_Bool (has_card s.position.unseen card)) as (λ _. Tells n s (play ∷ plays) may hand unseen (told s.position may (play ∷ plays))) [
-      | inl so ↦
-          subst (Tells n s (play ∷ plays) may hand unseen) (told-after s.position card next plays ∙ sym (told_on (has_card s.position.unseen card) more so))
-          (tells_step n s play plays may next hand unseen (told (after_card s.position card) next plays)
-          (λ holds none. left_holds s.position.trick.cards hand unseen s.left s.position.unseen card may now holds (follows_if_none s.position.trick.cards s.left card none))
-          (λ holds. (let back = left_from s.position.trick.cards hand unseen s.left s.position.unseen card may now so holds in (back.0, none_if_follows s.position.trick.cards s.left card back.1)))
-          (rest next))
-      | inr not_so ↦
-          subst (Tells n s (play ∷ plays) may hand unseen) (sym (told_off (has_card s.position.unseen card) more not_so))
-          (not_hidden n s play plays may hand unseen
-          (λ none. both_ways (has_card s.position.unseen card) not_so ((and_parts (has_card hand card) (has_card s.position.unseen card) (sym (now.held_is card) ∙ (follows_if_none s.position.trick.cards s.left card none).0)).1)))
-    ]
+    tells_hidden n s (record { seat = Left; card = card }) plays may next hand unseen (ap (λ t. cond (has_card s.position.unseen card) t None) (sym (told-after s.position card next plays)))
+    (λ holds none. left_holds s.position.trick.cards hand unseen s.left s.position.unseen card may now holds (follows_if_none s.position.trick.cards s.left card none))
+    (λ so holds. (let back = left_from s.position.trick.cards hand unseen s.left s.position.unseen card may now so holds in (back.0, none_if_follows s.position.trick.cards s.left card back.1)))
+    (λ not_so none. both_ways (has_card s.position.unseen card) not_so ((and_parts (has_card hand card) (has_card s.position.unseen card) (sym (now.held_is card) ∙ (follows_if_none s.position.trick.cards s.left card none).0)).1))
+    (rest next)
 tells_at n s Right card plays may hand unseen now rest =
-    let play : Played = record { seat = Right; card = card } in
     let next = narrowed Right s.position.trick.cards s.position.unseen card may in
-    let more = after_plays s.position.trump (next_trick s.position.trump s.position.trick card) (take_out card s.position.unseen) next plays in
-    elim (cases_Bool (has_card s.position.unseen card)) as (λ _. Tells n s (play ∷ plays) may hand unseen (told s.position may (play ∷ plays))) [
-      | inl so ↦
-          subst (Tells n s (play ∷ plays) may hand unseen) (told-after s.position card next plays ∙ sym (told_on (has_card s.position.unseen card) more so))
-          (tells_step n s play plays may next hand unseen (told (after_card s.position card) next plays)
-          (λ holds none. right_holds s.position.trick.cards hand unseen s.left s.position.unseen card may now holds (follows_if_none s.position.trick.cards (rights s.left s.position.unseen) card none))
-          (λ holds. (let back = right_from s.position.trick.cards hand unseen s.left s.position.unseen card may now so holds in (back.0, none_if_follows s.position.trick.cards (rights s.left s.position.unseen) card back.1)))
-          (rest next))
-      | inr not_so ↦
-          subst (Tells n s (play ∷ plays) may hand unseen) (sym (told_off (has_card s.position.unseen card) more not_so))
-          (not_hidden n s play plays may hand unseen
-          (λ none. both_ways (has_card s.position.unseen card) not_so (right_hidden s.left s.position.unseen card (follows_if_none s.position.trick.cards (rights s.left s.position.unseen) card none).0)))
-    ]
+    let rest_is = rights s.left s.position.unseen in
+    tells_hidden n s (record { seat = Right; card = card }) plays may next hand unseen (ap (λ t. cond (has_card s.position.unseen card) t None) (sym (told-after s.position card next plays)))
+    (λ holds none. right_holds s.position.trick.cards hand unseen s.left s.position.unseen card may now holds (follows_if_none s.position.trick.cards rest_is card none))
+    (λ so holds. (let back = right_from s.position.trick.cards hand unseen s.left s.position.unseen card may now so holds in (back.0, none_if_follows s.position.trick.cards rest_is card back.1)))
+    (λ not_so none. both_ways (has_card s.position.unseen card) not_so (right_hidden s.left s.position.unseen card (follows_if_none s.position.trick.cards rest_is card none).0))
+    (rest next)
 
 tells : (n : ℕ) (s : State) (plays : List Played) (may : MayHold) (hand unseen : List ℕ) → LeftOf hand unseen s.left s.position.unseen → Tells n s plays may hand unseen (told s.position may plays)
 tells n s [] may hand unseen now = (λ (holds, none). holds, λ holds. (holds, refl))
