@@ -5,5 +5,7 @@
 #![tactic(auto)]
 
 mod plain;
+mod steps;
 
 pub use plain::plain_front;
+pub use steps::{front_of_no_card, moves_after, with_child};

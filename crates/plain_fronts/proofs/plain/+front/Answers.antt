@@ -1,72 +1,45 @@
-use Rattle.std.proofs.Common.{◌-◌, [], ◌∷◌, ◌++◌, sym, ap, subst, ◌∙◌, arith, rules}
-use Rattle.win_vectors.specs.Vectors.{ones_of}
-use Rattle.win_vectors.specs.Fronts.{IsReduced}
-use Rattle.plain_fronts.proofs.CardByCard.{falls, our_width, their_width, declarer_turn, declarer_end, defender_start, defender_turn, defender_end}
+use Rattle.std.proofs.Common.{[], ◌∷◌, ◌++◌, sym, ap, ◌∙◌, append_assoc, arith}
+use Rattle.plain_fronts.proofs.CardByCard.{falls, child_fits, over_no_card, over_one_more, over_all}
 use Rattle.plain_fronts.proofs.plain.+front.Goals as goal
 
-pub front_at_declarer-plain_front-requires : goal.front_at_declarer-plain_front-requires
-front_at_declarer-plain_front-requires t c =
-    let so_far = c.cards.invariant.so_far in
-    let are = so_far.1 ∙ ap (λ cards. so_far.0 ++ cards) c.in-Some.ensures.value in
-    (omega (arith, falls c.args.node.now c.in_ok-child.child so_far.0 c.pop_first.new.self c.in-Some.card c.width.ensures.a_node are c.in_ok-child.ensures.node), tt)
-
-pub front_at_declarer-union-requires : goal.front_at_declarer-union-requires
-front_at_declarer-union-requires t c =
-    let so_far = c.cards.invariant.so_far in
-    let are = so_far.1 ∙ ap (λ cards. so_far.0 ++ cards) c.in-Some.ensures.value in
-    c.in_ok-won.ensures.width ∙ our_width c.args.node.now c.in_ok-child.child so_far.0 c.pop_first.new.self c.in-Some.card c.requires.ours are c.in_ok-child.ensures.node ∙ sym c.cards.invariant.width
-
-pub front_at_declarer-cards-preserved : goal.front_at_declarer-cards-preserved
-front_at_declarer-cards-preserved t c =
-    let so_far = c.cards.invariant.so_far in
-    let are = so_far.1 ∙ ap (λ cards. so_far.0 ++ cards) c.in-Some.ensures.value in
-    record {
-      width = c.in_ok-union.ensures.width ∙ c.cards.invariant.width;
-      so_far = declarer_turn c.args.node.now c.in_ok-child.child (c.args.moves - 1) so_far.0 c.pop_first.new.self c.in-Some.card c.cards.front.vectors c.in_ok-won.won.vectors c.union.new.self.vectors are so_far.2 c.in_ok-child.ensures.node c.in_ok-won.ensures.front c.in_ok-union.ensures.ok;
-    }
-
-pub front_at_declarer-returns : goal.front_at_declarer-returns
-front_at_declarer-returns t c =
-    let so_far = c.cards.invariant.so_far in
-    record {
-      width = c.cards.invariant.width;
-      front = declarer_end c.args.node.now c.args.moves so_far.0 c.cards.cards c.cards.front.vectors c.width.ensures.a_node c.requires.goes_on c.requires.ours so_far.1 (search rules) so_far.2;
-    }
-
-pub front_at_defender-cards-init : goal.front_at_defender-cards-init
-front_at_defender-cards-init t c = record {
-  width = c.in_ok-insert.ensures.width ∙ c.new-front.ensures.width ∙ c.width.ensures.value;
-  so_far = (
-    [],
-    sym c.choices-cards.ensures,
-    defender_start c.args.node.now c.args.moves c.width-2.result c.insert.new.self.vectors c.width-2.ensures.value
-        (subst (λ v. IsReduced (v ∷ []) c.insert.new.self.vectors) c.all.ensures (subst (λ old. IsReduced (c.all.result ∷ old) c.insert.new.self.vectors) c.new-front.ensures.empty c.in_ok-insert.ensures.ok)),
-  );
+pub front_over_cards-cards-init : goal.front_over_cards-cards-init
+front_over_cards-cards-init t c = record {
+  width = c.in_ok-front.ensures.width;
+  so_far = ([], sym c.choices-cards.ensures, over_no_card c.args.node.now c.moves_after-left.result c.in_ok-front.front.vectors c.in_ok-front.ensures.ours c.in_ok-front.ensures.theirs);
 }
 
-pub front_at_defender-plain_front-requires : goal.front_at_defender-plain_front-requires
-front_at_defender-plain_front-requires t c =
+pub front_over_cards-plain_front-requires : goal.front_over_cards-plain_front-requires
+front_over_cards-plain_front-requires t c =
     let so_far = c.cards.invariant.so_far in
     let are = so_far.1 ∙ ap (λ cards. so_far.0 ++ cards) c.in-Some.ensures.value in
-    (omega (arith, falls c.args.node.now c.in_ok-child.child so_far.0 c.pop_first.new.self c.in-Some.card c.width.ensures.a_node are c.in_ok-child.ensures.node), tt)
+    (omega (arith, falls c.args.node.now c.in_ok-child.child so_far.0 c.pop_first.new.self c.in-Some.card c.front_of_no_card.ensures.a_node are c.in_ok-child.ensures.node), tt)
 
-pub front_at_defender-joined_front-requires-clause-child_width : goal.front_at_defender-joined_front-requires-clause-child_width
-front_at_defender-joined_front-requires-clause-child_width t c =
-    c.in_ok-won.ensures.width ∙ their_width c.args.node.now c.in_ok-child.child c.in-Some.card c.in_ok-child.ensures.node ∙ ap ones_of (sym c.in_ok-child.ensures.mask)
+pub front_over_cards-with_child-requires : goal.front_over_cards-with_child-requires
+front_over_cards-with_child-requires t c =
+    let so_far = c.cards.invariant.so_far in
+    let are = so_far.1 ∙ ap (λ cards. so_far.0 ++ cards) c.in-Some.ensures.value in
+    let fits = child_fits c.args.node.now c.in_ok-child.child so_far.0 c.pop_first.new.self c.in-Some.card c.in_ok-child.mask c.cards.front.width c.in_ok-won.won.width
+    are c.in_ok-child.ensures.node c.in_ok-child.ensures.mask c.cards.invariant.width c.in_ok-won.ensures.width in
+    record { mask_width = fits.mask_width; child_width = fits.child_width; ours = fits.ours }
 
-pub front_at_defender-cards-preserved : goal.front_at_defender-cards-preserved
-front_at_defender-cards-preserved t c =
+pub front_over_cards-cards-preserved : goal.front_over_cards-cards-preserved
+front_over_cards-cards-preserved t c =
     let so_far = c.cards.invariant.so_far in
     let are = so_far.1 ∙ ap (λ cards. so_far.0 ++ cards) c.in-Some.ensures.value in
     record {
-      width = c.in_ok-front.ensures.width ∙ c.cards.invariant.width;
-      so_far = defender_turn c.args.node.now c.in_ok-child.child c.args.moves so_far.0 c.pop_first.new.self c.in-Some.card c.in_ok-child.mask c.cards.front.vectors c.in_ok-won.won.vectors c.in_ok-front.front.vectors c.width.ensures.a_node are so_far.2 c.in_ok-child.ensures.node c.in_ok-child.ensures.mask c.in_ok-won.ensures.front c.in_ok-front.ensures.reduced;
+      width = c.in_ok-front-2.ensures.width ∙ c.cards.invariant.width;
+      so_far = (
+        so_far.0 ++ c.in-Some.card ∷ [],
+        are ∙ sym (append_assoc so_far.0 (c.in-Some.card ∷ []) c.pop_first.new.self),
+        over_one_more c.args.node.now c.in_ok-child.child c.moves_after-left.result so_far.0 c.pop_first.new.self c.in-Some.card c.in_ok-child.mask c.cards.front.vectors c.in_ok-won.won.vectors c.in_ok-front-2.front.vectors
+            c.front_of_no_card.ensures.a_node are so_far.2 c.in_ok-child.ensures.node c.in_ok-child.ensures.mask c.in_ok-won.ensures.front c.in_ok-front-2.ensures.ours c.in_ok-front-2.ensures.theirs,
+      );
     }
 
-pub front_at_defender-returns : goal.front_at_defender-returns
-front_at_defender-returns t c =
+pub front_over_cards-returns : goal.front_over_cards-returns
+front_over_cards-returns t c =
     let so_far = c.cards.invariant.so_far in
     record {
       width = c.cards.invariant.width;
-      front = defender_end c.args.node.now c.args.moves so_far.0 c.cards.cards c.cards.front.vectors c.width.ensures.a_node c.requires.goes_on c.requires.theirs so_far.1 (search rules) so_far.2;
+      front = over_all c.args.node.now c.args.moves c.moves_after-left.result so_far.0 c.cards.cards c.cards.front.vectors c.front_of_no_card.ensures.a_node c.requires c.moves_after-left.ensures.ours c.moves_after-left.ensures.theirs so_far.1 c.in_default.ensures.value.0 so_far.2;
     }
