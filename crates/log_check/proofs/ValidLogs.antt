@@ -114,23 +114,6 @@ behind n moves m path card line is total cited =
     subst (λ k. IsBelow bridge (child (node_after n path) card) k line.vectors) same
     (subst (λ q. IsBelow bridge q line.moves line.vectors) (ap (λ p. node_after n p) is ∙ node_after-more n path card) cited.below)
 
-union_below : (n : NodeValue) (moves : ℕ) (line : LogLine) (cited : List LogLine) → IsNode (node_after n line.path)
-    → line.moves + our_cards n line.path ≡ moves → ((l : LogLine) → Contains cited l → IsCited n moves l)
-    → IsUnion (node_after n line.path) line cited → IsBelow bridge (node_after n line.path) line.moves line.vectors
-union_below n moves line cited sound total each union =
-    let q = node_after n line.path in
-    let more = more_moves q line.moves union.goes_on in
-    subst (λ m. IsBelow bridge q m line.vectors) more.1
-    (cuts.at_declarer q more.0 line.vectors sound more.2 union.ours (λ card mem.
-    let at = Contains-of_map (λ (l : LogLine). l.path) cited (line.path ++ card ∷ [])
-    (subst (λ (ps : List (List ℕ)). Contains ps (line.path ++ card ∷ [])) (sym union.behind)
-    (Contains-map (λ c. line.path ++ c ∷ []) (choices q) card mem)) in
-    let count = our_turn-ours q union.ours in
-    let enough = more.1 in
-    cuts.wider (child q card) more.0 at.0.vectors line.vectors
-    (behind n moves more.0 line.path card at.0 at.2 (omega arith) (each at.0 at.1))
-    (union.covered at.0 at.1)))
-
 zip_below : (n : NodeValue) (moves m : ℕ) (path cards : List ℕ) (cited : List LogLine)
     → is_declarers (to_play (node_after n path).position) ≡ false
     → m + our_cards n path ≡ moves → ((l : LogLine) → Contains cited l → IsCited n moves l)
@@ -146,26 +129,39 @@ zip_below n moves m path (card ∷ cards) (l ∷ cited) theirs total each are =
       zip_below n moves m path cards cited theirs total (λ k mem. each k (Contains-there l cited k mem)) tails,
     )
 
-below_by_join : (n : NodeValue) (moves : ℕ) (line : LogLine) (cited : List LogLine) → IsNode (node_after n line.path)
-    → line.moves + our_cards n line.path ≡ moves → ((l : LogLine) → Contains cited l → IsCited n moves l)
-    → IsJoin (node_after n line.path) line cited → IsBelow bridge (node_after n line.path) line.moves line.vectors
-below_by_join n moves line cited sound total each join =
-    let q = node_after n line.path in
-    let more = more_moves q line.moves join.goes_on in
-    let total_of : suc more.0 + our_cards n line.path ≡ moves = ap (λ k. k + our_cards n line.path) more.1 ∙ total in
-    subst (λ m. IsBelow bridge q m line.vectors) more.1
-    (join_below q more.0 join.cards (map (λ (l : LogLine). l.vectors) cited) line.vectors sound more.2 join.theirs
-    (λ card mem. All-at (Contains (choices q)) join.cards join.are_choices card mem)
-    (zip_below n moves (suc more.0) line.path join.cards cited join.theirs total_of each join.behind) join.covered)
+module _ (n : NodeValue) (moves : ℕ) (line : LogLine) (cited : List LogLine) (sound : IsNode (node_after n line.path)) (total : line.moves + our_cards n line.path ≡ moves)
+    (each : (l : LogLine) → Contains cited l → IsCited n moves l) where
+  union_below : IsUnion (node_after n line.path) line cited → IsBelow bridge (node_after n line.path) line.moves line.vectors
+  union_below union =
+      let q = node_after n line.path in
+      let more = more_moves q line.moves union.goes_on in
+      subst (λ m. IsBelow bridge q m line.vectors) more.1
+      (cuts.at_declarer q more.0 line.vectors sound more.2 union.ours (λ card mem.
+      let at = Contains-of_map (λ (l : LogLine). l.path) cited (line.path ++ card ∷ [])
+      (subst (λ (ps : List (List ℕ)). Contains ps (line.path ++ card ∷ [])) (sym union.behind)
+      (Contains-map (λ c. line.path ++ c ∷ []) (choices q) card mem)) in
+      let count = our_turn-ours q union.ours in
+      let enough = more.1 in
+      cuts.wider (child q card) more.0 at.0.vectors line.vectors
+      (behind n moves more.0 line.path card at.0 at.2 (omega arith) (each at.0 at.1))
+      (union.covered at.0 at.1)))
+
+  below_by_join : IsJoin (node_after n line.path) line cited → IsBelow bridge (node_after n line.path) line.moves line.vectors
+  below_by_join join =
+      let q = node_after n line.path in
+      let more = more_moves q line.moves join.goes_on in
+      let total_of : suc more.0 + our_cards n line.path ≡ moves = ap (λ k. k + our_cards n line.path) more.1 ∙ total in
+      subst (λ m. IsBelow bridge q m line.vectors) more.1
+      (join_below q more.0 join.cards (map (λ (l : LogLine). l.vectors) cited) line.vectors sound more.2 join.theirs
+      (λ card mem. All-at (Contains (choices q)) join.cards join.are_choices card mem)
+      (zip_below n moves (suc more.0) line.path join.cards cited join.theirs total_of each join.behind) join.covered)
+
+  by_rule : (rule : Rule) → KeepsRule rule (node_after n line.path) line cited → IsBelow bridge (node_after n line.path) line.moves line.vectors
+  by_rule Leaf rule = leaf_below (node_after n line.path) line.moves line sound rule
+  by_rule Union rule = union_below rule
+  by_rule Join rule = below_by_join rule
 
 -- ---- line by line
-
-by_rule : (n : NodeValue) (moves : ℕ) (rule : Rule) (line : LogLine) (cited : List LogLine) → IsNode (node_after n line.path)
-    → line.moves + our_cards n line.path ≡ moves → ((l : LogLine) → Contains cited l → IsCited n moves l)
-    → KeepsRule rule (node_after n line.path) line cited → IsBelow bridge (node_after n line.path) line.moves line.vectors
-by_rule n moves Leaf line cited sound total each rule = leaf_below (node_after n line.path) line.moves line sound rule
-by_rule n moves Union line cited sound total each rule = union_below n moves line cited sound total each rule
-by_rule n moves Join line cited sound total each rule = below_by_join n moves line cited sound total each rule
 
 within : (n : NodeValue) (moves : ℕ) (lines : List LogLine) → IsNode n → AreSound n moves lines
     → (bound place : ℕ) (line : LogLine) → place < bound → slice_get lines place ≡ Some line
@@ -173,7 +169,7 @@ within : (n : NodeValue) (moves : ℕ) (lines : List LogLine) → IsNode n → A
 within n moves lines sound are zero place line low is = absurd (omega arith)
 within n moves lines sound are (suc bound) place line low is =
     let s = are place line is in
-    by_rule n moves line.rule line (cited_lines (take place lines) line.from) (node_after-is_node n line.path sound s.path) s.moves_left
+    by_rule n moves line (cited_lines (take place lines) line.from) (node_after-is_node n line.path sound s.path) s.moves_left
     (λ l mem.
     let at = cited_place (take place lines) line.from l mem in
     let there = slice_get-take lines place at.0 l at.1 in
@@ -181,7 +177,7 @@ within n moves lines sound are (suc bound) place line low is =
     record {
       moves_left = (are at.0 l there.1).moves_left;
       below = within n moves lines sound are bound at.0 l (omega arith) there.1;
-    }) s.rule
+    }) line.rule s.rule
 
 pub sound_line_covers : (n : NodeValue) (moves : ℕ) (lines : List LogLine) (place : ℕ) (line : LogLine) → IsNode n
     → AreSound n moves lines → slice_get lines place ≡ Some line → IsBelow bridge (node_after n line.path) line.moves line.vectors
