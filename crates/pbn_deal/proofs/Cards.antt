@@ -2,6 +2,7 @@
 use Rattle.std.proofs.Common.{◌≡◌, ℕ, ◌<◌, ◌≤◌, Bool, true, false, ◌||◌, List, [], ◌∷◌, ◌++◌, refl, sym, ap, ap₂, ◌∙◌, arith, inl, inr}
 use Rattle.std.specs.Prelude.{◌==◌}
 use Rattle.std.specs.List.{list_any}
+use Rattle.std.proofs.Math.Bool.{or_assoc, or_comm}
 use Rattle.std.proofs.lemmas.Bool.{cases_lt, ne_eqb}
 use Rattle.std.proofs.lemmas.List.Folds.{list_any-append}
 use Rattle.card_sets.specs.SetWords.{has_card, cards_where, IsCardSet}
@@ -30,10 +31,6 @@ Adds-with set card a_set below c =
       | inl within ↦ has_card-cards_where (λ c. has_card set c || (c == card)) c within ∙ ap (λ b. has_card set c || b) (eqb_comm c card ∙ or_false (card == c))
       | inr past ↦ has_card-cards_where_past (λ c. has_card set c || (c == card)) c past ∙ sym (ap₂ (λ a b. a || b) (past_52 set c a_set past) (sym (or_false (card == c)) ∙ ne_eqb card c (λ same. absurd (omega arith))))
     ]
-
-or_assoc : (a b c : Bool) → ((a || b) || c) ≡ (a || (b || c))
-or_assoc true b c = refl
-or_assoc false b c = refl
 
 pub Adds-more : (first second third xs ys : List ℕ) → Adds first second xs → Adds second third ys → Adds first third (xs ++ ys)
 Adds-more first second third xs ys one two c =
@@ -67,13 +64,10 @@ meets-cons : (x : ℕ) (xs ys : List ℕ) → meets (x ∷ xs) ys ≡ (has_card 
 meets-cons x xs ys = list_any-or (λ y. x == y) (has_card xs) ys ∙ ap (λ b. b || meets xs ys) (list_any-same (λ y. x == y) (λ y. y == x) ys (λ y. eqb_comm x y))
 
 repeat_step : (a b r s m : Bool) → ((a || b) || ((r || s) || m)) ≡ (((a || r) || s) || (b || m))
-repeat_step true b r s m = refl
-repeat_step false true true s m = refl
-repeat_step false true false true m = refl
-repeat_step false true false false m = refl
-repeat_step false false true s m = refl
-repeat_step false false false true m = refl
-repeat_step false false false false m = refl
+repeat_step a b r s m = ap (λ x. (a || b) || x) (or_assoc r s m) ∙ or_swap a b r (s || m) ∙ ap (λ x. (a || r) || x) aside ∙ sym (or_assoc (a || r) s (b || m))
+  where
+    aside : (b || (s || m)) ≡ (s || (b || m))
+    aside = sym (or_assoc b s m) ∙ ap (λ x. x || m) (or_comm b s) ∙ or_assoc s b m
 
 pub has_repeat-append : (xs ys : List ℕ) → has_repeat (xs ++ ys) ≡ ((has_repeat xs || has_repeat ys) || meets xs ys)
 has_repeat-append [] ys = or_false (has_repeat ys) ∙ ap (λ b. has_repeat ys || b) (sym (none_meet ys)) where
@@ -86,15 +80,7 @@ has_repeat-append (x ∷ xs) ys =
     ∙ ap (λ b. ((has_card xs x || has_repeat xs) || has_repeat ys) || b) (sym (meets-cons x xs ys))
 
 repeats_step : (a b r s m : Bool) → ((a || b) || ((r || s) || m)) ≡ ((a || r) || ((b || m) || s))
-repeats_step true b r s m = refl
-repeats_step false true true s m = refl
-repeats_step false true false true m = refl
-repeats_step false true false false m = refl
-repeats_step false false true s m = refl
-repeats_step false false false true true = refl
-repeats_step false false false true false = refl
-repeats_step false false false false true = refl
-repeats_step false false false false false = refl
+repeats_step a b r s m = repeat_step a b r s m ∙ or_assoc (a || r) s (b || m) ∙ ap (λ x. (a || r) || x) (or_comm s (b || m))
 
 -- a list that is read in two parts repeats a card where one of the parts does, the second after the first was seen
 pub repeats-append : (seen more xs ys : List ℕ) → Adds seen more xs → repeats seen (xs ++ ys) ≡ (repeats seen xs || repeats more ys)
