@@ -1,5 +1,7 @@
 -- Double dummy's results, layout by layout.
-use Rattle.std.proofs.Common.{◌≡◌, ℕ, suc, ◌+◌, ◌-◌, ◌<◌, ◌≤◌, Bool, false, List, [], ◌∷◌, ◌++◌, map, take, set, replicate, length, get_or, refl, sym, ap, subst, ◌∙◌, arith, append_assoc, append-nil, length-append}
+use Rattle.std.proofs.Common.{◌≡◌, ℕ, suc, ◌+◌, ◌-◌, ◌<◌, ◌≤◌, Bool, false, List, [], ◌∷◌, ◌++◌, map, take, set, replicate, length, get_or, refl, sym, ap, ap₂, subst, ◌∙◌, arith, append_assoc, append-nil, length-append}
+use Rattle.std.specs.Prelude.{Some, slice_get}
+use Rattle.std.proofs.lemmas.Option.{get_or_from_slice_get}
 use Rattle.std.proofs.lemmas.List.{length-map, length-take, length-replicate, take_all, map_more}
 use Rattle.trick_rules.specs.Positions.{PositionValue}
 use Rattle.trick_rules.specs.Play.{makes}
@@ -33,6 +35,12 @@ results_upto-more p xs i x low is =
     subst (λ n. set (first ++ replicate n false) i (p x) ≡ results_upto p xs (i + 1)) (sym left)
     (subst (λ n. set (first ++ false ∷ rest) n (p x) ≡ results_upto p xs (i + 1)) (length_first p xs i (omega arith))
     (set-between first rest false (p x) ∙ sym (append_assoc first (p x ∷ []) rest) ∙ ap (λ bits. bits ++ rest) (sym here)))
+
+-- one more result is set
+pub one_more_result : (p : List ℕ → Bool) (xs : List (List ℕ)) (i : ℕ) (x : List ℕ) (bit : Bool) (made next : List Bool) → i < length xs → slice_get xs i ≡ Some x
+    → made ≡ results_upto p xs i → bit ≡ p x → next ≡ set made i bit → next ≡ results_upto p xs (i + 1)
+one_more_result p xs i x bit made next low at so_far right is =
+    is ∙ ap₂ (λ (bits : List Bool) (b : Bool). set bits i b) so_far right ∙ results_upto-more p xs i x low (sym (get_or_from_slice_get xs i x x at))
 
 pub results_upto-all : (t : PositionValue) (xs : List (List ℕ)) (i : ℕ) → length xs ≤ i → results_upto (λ left. makes (record { position = t; left = left })) xs i ≡ map (λ s. makes s) (map (λ left. record { position = t; left = left }) xs)
 results_upto-all t xs i all =
