@@ -50,14 +50,7 @@ kept_then n p q first then = record { node = then.node; none = then.none; equiva
 -- ---- one gap
 
 abbrev pub node_closed : ℕ → NodeValue → NodeValue
-node_closed gap n = record {
-  position = record n.position {
-    declarer = with_raised gap n.position.declarer;
-    dummy = with_raised gap n.position.dummy;
-    unseen = with_raised gap n.position.unseen;
-  };
-  lefts = map (with_raised gap) n.lefts;
-}
+node_closed gap n = record { position = (with_gap_closed gap (state_of n.position [])).position; lefts = map (with_raised gap) n.lefts }
 
 same_nodes : (a b : NodeValue) → a.position ≡ b.position → a.lefts ≡ b.lefts → a ≡ b
 same_nodes a b e f = λ i. record { position = e i; lefts = f i }

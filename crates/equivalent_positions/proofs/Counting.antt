@@ -1,5 +1,6 @@
 -- Cards that count: sets that are closed up, a trick that is settled, hands that are alike between tricks.
 use Rattle.std.proofs.Common.{◌≡◌, ◌≢◌, ℕ, ◌+◌, ◌<◌, ◌≤◌, Bool, true, false, not, ◌&&◌, ◌||◌, ltb, List, [], length, filter, get_or, All, AllPairs, refl, sym, ap, ap₂, subst, ◌∙◌, inl, inr, arith}
+use Rattle.std.proofs.Math.Bool.{and-true, and-false}
 use Rattle.std.proofs.lemmas.Bool.{false≢true, or_cases, or_left, or_right, and_parts, not-true, ltb-false, le-ltb}
 use Rattle.std.proofs.lemmas.List.Filters.{length-filter_both}
 use Rattle.card_sets.specs.declared.card.Suit.{Suit}
@@ -73,17 +74,9 @@ rights_of s ok suit =
     let b = ap (length {A = ℕ}) rights in
     omega arith
   where
-    none : (a : Bool) → (a && false) ≡ false
-    none true = refl
-    none false = refl
-
-    all_of : (a : Bool) → (a && true) ≡ a
-    all_of true = refl
-    all_of false = refl
-
     agree : (c : ℕ) (b : Bool) → has_card s.left c ≡ b → ((has_card s.position.unseen c && same_suit (suit_of c) suit) && b) ≡ (b && same_suit (suit_of c) suit)
-    agree c true e = all_of (has_card s.position.unseen c && same_suit (suit_of c) suit) ∙ ap (λ b. b && same_suit (suit_of c) suit) (ok.fits.part c e)
-    agree c false e = none (has_card s.position.unseen c && same_suit (suit_of c) suit)
+    agree c true e = and-true (has_card s.position.unseen c && same_suit (suit_of c) suit) ∙ ap (λ b. b && same_suit (suit_of c) suit) (ok.fits.part c e)
+    agree c false e = and-false (has_card s.position.unseen c && same_suit (suit_of c) suit)
 
 pub like_hands_make_alike_states : (counting : List ℕ) (s t : State) → IsState s → IsState t → s.position.trick ≡ t.position.trick → s.position.trump ≡ t.position.trump → s.position.need ≡ t.position.need
     → IsLikeHand counting s.position.declarer t.position.declarer → IsLikeHand counting s.position.dummy t.position.dummy
