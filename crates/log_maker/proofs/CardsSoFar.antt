@@ -1,6 +1,6 @@
 -- The lines and the front of a node whose cards are taken one after another.
 use Rattle.std.proofs.Common.{◌≡◌, ◌+◌, ◌<◌, ◌∙◌, ℕ, List, [], ◌∷◌, ◌++◌, length, sum_by, sym, ap, subst, append-nil, arith}
-use Rattle.win_vectors.specs.Fronts.{Vector, IsFrontOf}
+use Rattle.win_vectors.specs.Fronts.{Vector}
 use Rattle.pareto_fronts.specs.FrontValue.{FrontValue}
 use Rattle.trick_rules.specs.Nodes.{NodeValue, IsNode, choices, child}
 use Rattle.strategy_games.specs.Plans.{tree_size}
@@ -15,16 +15,16 @@ use Rattle.log_maker.proofs.FrontsSoFar.{cards_more}
 use Rattle.log_maker.proofs.Growing.{AreWritten, written_more, written_size, sum_so_far}
 
 -- these cards are left; the front is of the others, each with so many moves after it, and the log has grown by their lines
-pub record CardsSoFar (wins : List ℕ → Vector → Type 0) (n : NodeValue) (moves : ℕ) (path : List ℕ) (before : WrittenLog)
+pub record CardsSoFar (is_front : List ℕ → List Vector → Type 0) (n : NodeValue) (moves : ℕ) (path : List ℕ) (before : WrittenLog)
     (cards : List ℕ) (front : FrontValue) (numbers : List ℕ) (after : WrittenLog) : Type 0 where
   pub earlier : List ℕ
   pub are : choices n ≡ earlier ++ cards
   pub width : front.width ≡ length n.lefts
-  pub best : IsFrontOf (wins earlier) front.vectors
+  pub best : is_front earlier front.vectors
   pub written : AreWritten n moves path before earlier numbers after
 
-module _ {wins : List ℕ → Vector → Type 0} {n : NodeValue} {moves : ℕ} {path : List ℕ} {before mid : WrittenLog} {cards : List ℕ} {front : FrontValue} {numbers : List ℕ}
-    (so : CardsSoFar wins n moves path before cards front numbers mid) where
+module _ {is_front : List ℕ → List Vector → Type 0} {n : NodeValue} {moves : ℕ} {path : List ℕ} {before mid : WrittenLog} {cards : List ℕ} {front : FrontValue} {numbers : List ℕ}
+    (so : CardsSoFar is_front n moves path before cards front numbers mid) where
   -- the next card is one of the choices
   pub with_next : {card : ℕ} {rest : List ℕ} → cards ≡ card ∷ rest → choices n ≡ so.earlier ++ card ∷ rest
   with_next next = so.are ∙ ap (λ cs. so.earlier ++ cs) next
@@ -39,9 +39,9 @@ module _ {wins : List ℕ → Vector → Type 0} {n : NodeValue} {moves : ℕ} {
 
   -- it is taken
   pub one_more : {card number : ℕ} {rest behind more_numbers : List ℕ} {kept : NodeValue} {wider : FrontValue} {after : WrittenLog} → cards ≡ card ∷ rest
-      → wider.width ≡ front.width → IsFrontOf (wins (so.earlier ++ card ∷ [])) wider.vectors
+      → wider.width ≡ front.width → is_front (so.earlier ++ card ∷ []) wider.vectors
       → HasGrown kept moves behind mid after → kept ≡ child n card → behind ≡ path ++ card ∷ [] → number ≡ after.count → more_numbers ≡ numbers ++ number ∷ []
-      → CardsSoFar wins n moves path before rest wider more_numbers after
+      → CardsSoFar is_front n moves path before rest wider more_numbers after
   one_more {card} {number} {rest} {behind} {more_numbers} {kept} {wider} {after} next same_width best grown kept_is behind_is number_is numbers_are = record {
     earlier = so.earlier ++ card ∷ [];
     are = cards_more (choices n) so.earlier rest card (with_next next);

@@ -10,3 +10,4 @@ pub mod FrontsSoFar
 pub mod CardsSoFar
 pub mod SameWriter
 pub mod RootLogs
+pub mod InnerNodes

@@ -1,7 +1,7 @@
 -- The log of a root, card by card.
 use Rattle.std.proofs.Common.{◌≡◌, ◌≤◌, ◌<◌, ◌+◌, ◌-◌, ◌*◌, ◌∙◌, ℕ, zero, suc, true, List, [], ◌∷◌, ◌++◌, length, Contains, refl, sym, ap, subst, ⊎_elim, arith}
 use Rattle.std.proofs.lemmas.List.{length-append, length_push}
-use Rattle.win_vectors.specs.Fronts.{Vector, IsReduced}
+use Rattle.win_vectors.specs.Fronts.{Vector, IsFrontOf, IsReduced}
 use Rattle.pareto_fronts.specs.FrontValue.{FrontValue}
 use Rattle.trick_rules.specs.Positions.{to_play}
 use Rattle.trick_rules.specs.Play.{is_declarers}
@@ -21,7 +21,8 @@ use Rattle.log_maker.specs.LogsFor.{line_of, IsLogFrom, IsLogTextFor}
 use Rattle.log_maker.specs.Steps.{HasGrown}
 use Rattle.log_maker.proofs.LogSizes.{lines-counted}
 use Rattle.log_maker.proofs.Growing.{AreWritten, written_none, grown_leaf}
-use Rattle.log_maker.proofs.FrontsSoFar.{cards_more, member, more_ours}
+use Rattle.plain_fronts.proofs.CardByCard.{member}
+use Rattle.log_maker.proofs.FrontsSoFar.{cards_more, more_ours}
 use Rattle.log_maker.proofs.CardsSoFar.{CardsSoFar, with_next, written_next}
 use Rattle.log_maker.proofs.RootCards.{few_choices}
 
@@ -96,7 +97,7 @@ root_spent n moves nodes earlier rest card other are fit spent =
 
 -- the root cards so far: none of their trees is too large, and each has added no more lines than a root card may
 pub record RootSoFar (n : NodeValue) (moves nodes : ℕ) (cards : List ℕ) (front : FrontValue) (numbers : List ℕ) (log : WrittenLog) : Type 0 where
-  pub so : CardsSoFar (WinsByCard bridge n (moves - 1)) n (moves - 1) [] begun cards front numbers log
+  pub so : CardsSoFar (λ earlier vectors. IsFrontOf (WinsByCard bridge n (moves - 1) earlier) vectors) n (moves - 1) [] begun cards front numbers log
   pub short : log.count ≤ 268435456 * length so.earlier
   pub fit : (c : ℕ) → Contains so.earlier c → tree_size bridge (child n c) (moves - 1) ≤ nodes
 

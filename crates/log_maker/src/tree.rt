@@ -13,12 +13,11 @@ use crate::lines::{line_with, path_after, results};
 use crate::tree_writer::TreeWriter;
 use alphamu_core::SearchFault;
 use dd_solver::Solver;
-use front_join::joined_front;
 use log_check::{LineList, LogLine, Rule};
 use pareto_fronts::Front;
+use plain_fronts::{front_of_no_card, moves_after, with_child};
 use std::alloc::{AllocError, Global};
 use trick_rules::{CardLine, Node};
-use win_vectors::WinVector;
 
 impl TreeWriter<'_> {
     /// Writes the lines of a node with `moves` moves, which the path leads to, at the end of the
@@ -41,10 +40,8 @@ impl TreeWriter<'_> {
     {
         if node.stops(moves) {
             self.write_leaf(node, moves, path)
-        } else if node.is_ours() {
-            self.write_union(node, moves, path)
         } else {
-            self.write_join(node, moves, path)
+            self.write_inner(node, moves, path)
         }
     }
 
@@ -61,57 +58,43 @@ impl TreeWriter<'_> {
         Ok(front)
     }
 
-    // At declarer's side: the lines after each card, with a move less, and then a union of them.
+    // Where strategies go on: the lines after each card, and then the line that follows from the
+    // last of each.
     #[cycle(tree)]
-    fn write_union(&mut self, node: &Node, moves: u8, path: CardLine) -> Result<Front, SearchFault>
+    fn write_inner(&mut self, node: &Node, moves: u8, path: CardLine) -> Result<Front, SearchFault>
         requires goes_on { stops node.now moves ≡ false }
-        requires ours { is_declarers (to_play node.now.position) ≡ true }
         requires path { length path + cards_left node.now.position ≤ 52 }
         requires limit { self.old.limit ≤ most_lines }
         ensures written { IfOk result (IsWritten node.now moves path self.old self.new) }
         ensures spent { IsErrOf result SearchFault.Spent → IsTooLong node.now moves self.old }
         ensures same { IsSameWriter self.old self.new }
     {
-        let mut front = Front::new(self.alloc, node.width());
-        let mut from = LineList::new(self.alloc);
-        let mut cards = node.choices();
-        'cards: while let Some(card) = cards.pop_first() {
-            let (child, _) = node.child(self.alloc, card)?;
-            let behind = path_after(&path, card);
-            let won = self.write_node(&child, moves - 1, behind)?;
-            front.union(&won)?;
-            from.push(self.log.len())?;
-        }
-        let line = line_with(self.alloc, Rule::Union, path, moves, from, &front)?;
-        self.push(&line)?;
-        Ok(front)
-    }
-
-    // At a defender: the lines after each card, with the same moves, and then a join of them.
-    #[cycle(tree)]
-    fn write_join(&mut self, node: &Node, moves: u8, path: CardLine) -> Result<Front, SearchFault>
-        requires goes_on { stops node.now moves ≡ false }
-        requires theirs { is_declarers (to_play node.now.position) ≡ false }
-        requires path { length path + cards_left node.now.position ≤ 52 }
-        requires limit { self.old.limit ≤ most_lines }
-        ensures written { IfOk result (IsWritten node.now moves path self.old self.new) }
-        ensures spent { IsErrOf result SearchFault.Spent → IsTooLong node.now moves self.old }
-        ensures same { IsSameWriter self.old self.new }
-    {
-        let mut front = Front::new(self.alloc, node.width());
-        front.insert(WinVector::all(node.width()))?;
+        let left = moves_after(node, moves);
+        let mut front = front_of_no_card(self.alloc, node)?;
         let mut from = LineList::new(self.alloc);
         let mut cards = node.choices();
         'cards: while let Some(card) = cards.pop_first() {
             let (child, mask) = node.child(self.alloc, card)?;
             let behind = path_after(&path, card);
-            let won = self.write_node(&child, moves, behind)?;
-            front = joined_front(self.alloc, &front, &won, mask)?;
+            let won = self.write_node(&child, left, behind)?;
+            front = with_child(self.alloc, node, front, &won, mask)?;
             from.push(self.log.len())?;
         }
-        let line = line_with(self.alloc, Rule::Join, path, moves, from, &front)?;
+        let line = line_with(self.alloc, inner_rule(node), path, moves, from, &front)?;
         self.push(&line)?;
         Ok(front)
+    }
+}
+
+// The rule of a line where strategies go on.
+fn inner_rule(node: &Node) -> Rule
+    ensures ours { is_declarers (to_play node.now.position) ≡ true → result ≡ Rule.Union }
+    ensures theirs { is_declarers (to_play node.now.position) ≡ false → result ≡ Rule.Join }
+{
+    if node.is_ours() {
+        Rule::Union
+    } else {
+        Rule::Join
     }
 }
 

@@ -4,6 +4,7 @@ use Rattle.std.proofs.lemmas.Bool.{false≢true, cases_Bool}
 use Rattle.card_sets.specs.SetWords.{has_card}
 use Rattle.win_vectors.specs.Vectors.{ones_of}
 use Rattle.win_vectors.specs.Fronts.{Vector, IsFrontOf, IsReduced, meets, spreads}
+use Rattle.pareto_fronts.specs.FrontValue.{FrontValue}
 use Rattle.trick_rules.specs.Positions.{to_play}
 use Rattle.trick_rules.specs.Play.{is_declarers, decided, cards_left, makes}
 use Rattle.trick_rules.specs.Nodes.{NodeValue, IsNode, states, stops, choices, child, child_mask}
@@ -121,6 +122,16 @@ over_one_more n kept m earlier rest card mask front won next sound are so_far is
       theirs = λ t. steps.more_replies n m earlier card front won next sound (member (choices n) earlier rest card are) (so_far.theirs t) child_front
           (subst (λ bits. IsReduced (meets front (spreads bits won)) next) (mask_is ∙ sym (mask-bridge n card)) (join t));
     }
+
+-- these cards are left, and the front is over the others
+pub record CardsLeft (n : NodeValue) (m : ℕ) (cards : List ℕ) (front : FrontValue) : Type 0 where
+  pub earlier : List ℕ
+  pub are : choices n ≡ earlier ++ cards
+  pub width : front.width ≡ length n.lefts
+  pub so_far : IsFrontOver n m earlier front.vectors
+
+pub next_is : {n : NodeValue} {m card : ℕ} {cards rest : List ℕ} {front : FrontValue} (left : CardsLeft n m cards front) → cards ≡ card ∷ rest → choices n ≡ left.earlier ++ card ∷ rest
+next_is left next = left.are ∙ ap (λ cards. left.earlier ++ cards) next
 
 pub over_all : (n : NodeValue) (moves m : ℕ) (earlier rest : List ℕ) (front : List Vector) → IsNode n → stops n moves ≡ false
     → (is_declarers (to_play n.position) ≡ true → m ≡ moves - 1) → (is_declarers (to_play n.position) ≡ false → m ≡ moves)

@@ -11,9 +11,8 @@ use Rattle.log_check.specs.declared.lines.Rule.TheVariants.{Union}
 use Rattle.log_maker.specs.LogsFor.{line_of}
 use Rattle.log_maker.specs.LogsFor.IsLogFrom.{at_declarer}
 use Rattle.log_texts.specs.Written.{WrittenLog, begun}
-use Rattle.plain_fronts.proofs.CardByCard.{our_width, declarer_end}
+use Rattle.plain_fronts.proofs.CardByCard.{member, our_width, declarer_end}
 use Rattle.log_maker.proofs.Faults.{passed_on}
-use Rattle.log_maker.proofs.FrontsSoFar.{member}
 use Rattle.log_maker.proofs.CardsSoFar.{with_next, grown_by}
 use Rattle.log_maker.proofs.RootLogs.{RootSoFar, text_from_grown, written_at_start, root_room, root_end, root_more, root_spent}
 use Rattle.log_maker.proofs.root.log_by_cards.Goals as goal

@@ -1,7 +1,6 @@
-use Rattle.std.proofs.Common.{◌≡◌, ◌+◌, ◌*◌, ℕ, List, ◌++◌, length}
+use Rattle.std.proofs.Common.{◌+◌, ◌*◌, length}
 use Rattle.trick_rules.specs.Play.{cards_left}
-use Rattle.trick_rules.specs.Nodes.{choices}
-use Rattle.plain_fronts.proofs.CardByCard.{IsFrontOver}
+use Rattle.plain_fronts.proofs.CardByCard.{CardsLeft}
 use Rattle.plain_fronts.proofs.plain.+front.Given as goal
 
 abbrev pub decreases-plain_front : goal.decreases-plain_front
@@ -11,10 +10,7 @@ abbrev pub decreases-front_over_cards : goal.decreases-front_over_cards
 decreases-front_over_cards l = 2 * cards_left l.node.now.position
 
 abbrev pub invariant-front_over_cards-cards : goal.invariant-front_over_cards-cards
-invariant-front_over_cards-cards l = record {
-  width : l.front.width ≡ length l.node.lefts;
-  so_far : (earlier : List ℕ) × (choices l.node ≡ earlier ++ l.cards) × IsFrontOver l.node l.left earlier l.front.vectors;
-}
+invariant-front_over_cards-cards l = CardsLeft l.node l.left l.cards l.front
 
 abbrev pub decreases-front_over_cards-cards : goal.decreases-front_over_cards-cards
 decreases-front_over_cards-cards l = length l.cards
