@@ -26,12 +26,13 @@ pub length-cards_of : (rs : List Reply) → length (cards_of (replies_of rs)) �
 length-cards_of [] = refl
 length-cards_of (r ∷ rs) = ap (λ n. suc n) (length-cards_of rs)
 
+-- a list from one of its items on
+pub drop_next : {X : Type 0} (xs : List X) (i : ℕ) (x : X) → i < length xs → x ≡ get_or xs i x → drop i xs ≡ x ∷ drop (i + 1) xs
+drop_next xs i x low is =
+    let next : suc i ≡ i + 1 = omega arith in
+    drop-cons xs i x low ∙ ap (λ y. y ∷ drop (suc i) xs) (sym is) ∙ ap (λ k. x ∷ drop k xs) next
+
 -- the replies from the next one on
 pub replies_of-drop : (replies : List Reply) (i : ℕ) (r : Reply) → i < length replies → r ≡ get_or replies i r
     → replies_of (drop i replies) ≡ games.Reply r.card (plan_of r.plan) (replies_of (drop (i + 1) replies))
-replies_of-drop replies i r low is =
-    let next : drop i replies ≡ r ∷ drop (i + 1) replies = drop-cons replies i r low ∙ ap (λ x. x ∷ drop (suc i) replies) (sym is) ∙ ap (λ j. r ∷ drop j replies) one_more in
-    ap replies_of next
-  where
-    one_more : suc i ≡ i + 1
-    one_more = omega arith
+replies_of-drop replies i r low is = ap replies_of (drop_next replies i r low is)
