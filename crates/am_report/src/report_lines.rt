@@ -1,7 +1,7 @@
 //! What the lines of a report say.
-ghost use Rattle.std.specs.Prelude.{◌≡◌, ◌==◌, ◌≤◌, ◌<◌, ◌+◌, length, map, IfSome};
+ghost use Rattle.std.specs.Prelude.{◌≡◌, ◌==◌, ◌≤◌, ◌<◌, ◌+◌, length, map, Some, None, IfSome};
 ghost use Rattle.std.specs.List.{position_or_len};
-ghost use Rattle.byte_text.specs.Lines.{said_at};
+ghost use Rattle.byte_text.specs.Lines.{line_at, said_at};
 ghost use Rattle.layout_list.specs.Lines.{most_listed};
 ghost use Rattle.am_report.specs.ReportLines.{ends_bits, front_said, moves_said};
 ghost use Rattle.am_report.specs.ReportLines.{weight_said, bits_said, vector_said};
@@ -107,15 +107,26 @@ fn read_card_line(version: Version, text: &[u8]) -> Option<(Card, u32)>
     read_weighed_card(version, text_after(text, b"card ")?)
 }
 
+// The line that begins at a place, without its end, and the place after it.
+fn line_and_next(bytes: &[u8], at: usize) -> Option<(&[u8], usize)>
+    requires { at ≤ length bytes.now }
+    ensures none { result ≡ None → line_at bytes.now at ≡ None }
+    ensures line { IfSome result (λ read. line_at bytes.now at ≡ Some read.0.now) }
+    ensures next { IfSome result (λ read. read.1 ≡ at + length read.0.now + 1) }
+    ensures within { IfSome result (λ read. read.1 ≤ length bytes.now) }
+{
+    let line = line_at(bytes, at)?;
+    Some((line, at + line.len() + 1))
+}
+
 // The number of vectors in the line that begins at a place, and the place after it.
 pub(crate) fn front_at(bytes: &[u8], at: usize) -> Option<(u32, usize)>
     requires { at ≤ length bytes.now }
     ensures value { result ≡ said_at front_said bytes.now at }
     ensures within { IfSome result (λ said. said.1 ≤ length bytes.now) }
 {
-    let text = line_at(bytes, at)?;
-    let vectors = read_front(text)?;
-    Some((vectors, at + text.len() + 1))
+    let (line, next) = line_and_next(bytes, at)?;
+    Some((read_front(line)?, next))
 }
 
 // The same of a vector with its weight.
@@ -128,9 +139,8 @@ pub(crate) fn vector_at(
     ensures value { result ≡ said_at (vector_said version) bytes.now at }
     ensures within { IfSome result (λ said. said.1 ≤ length bytes.now) }
 {
-    let text = line_at(bytes, at)?;
-    let vector = read_vector(version, text)?;
-    Some((vector, at + text.len() + 1))
+    let (line, next) = line_and_next(bytes, at)?;
+    Some((read_vector(version, line)?, next))
 }
 
 // The same of the card to play, and its weight.
@@ -139,7 +149,6 @@ pub(crate) fn card_at(version: Version, bytes: &[u8], at: usize) -> Option<((Car
     ensures value { result ≡ said_at (card_said version) bytes.now at }
     ensures within { IfSome result (λ said. said.1 ≤ length bytes.now) }
 {
-    let text = line_at(bytes, at)?;
-    let card = read_card_line(version, text)?;
-    Some((card, at + text.len() + 1))
+    let (line, next) = line_and_next(bytes, at)?;
+    Some((read_card_line(version, line)?, next))
 }
