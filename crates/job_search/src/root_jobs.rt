@@ -15,6 +15,7 @@ use alphamu_core::RootFault;
 use am_answer::{Root, Status};
 use am_report::{Entry, card_text};
 use byte_text::Text;
+use dd_solver::Solver;
 use job_words::Search;
 use pareto_fronts::Front;
 use root_answers::{chosen_plan, options_of, report_text, reported, table_of, written_root};
@@ -87,7 +88,12 @@ pub fn name_card<C: RootCrew>(
 }
 
 // The first vector of a front in report order, with the plan for it.
-fn first_entry(question: &Question, pass: Pass, front: &Front) -> Result<Entry, RootFault>
+fn first_entry(
+    question: &Question,
+    solver: &mut Solver,
+    pass: Pass,
+    front: &Front,
+) -> Result<Entry, RootFault>
     requires question { IsQuestion question.now }
     requires pass { IsPassOf question.now.table.now pass }
     requires front { IsFrontAt question.now.node.now question.now.moves front.now }
@@ -106,7 +112,7 @@ fn first_entry(question: &Question, pass: Pass, front: &Front) -> Result<Entry, 
     let vector = vectors[0];
     Ok(Entry {
         vector,
-        plan: chosen_plan(question, pass, &vector)?,
+        plan: chosen_plan(question, solver, pass, &vector)?,
     })
 }
 
@@ -143,6 +149,8 @@ pub fn first_strategy<C: RootCrew>(
         options: &options,
         table: &table,
     };
-    let found = question.front(crew, &mut pass)?;
-    Ok(first_entry(&question, pass, &found.front)?)
+    let mut workers = question.workers()?;
+    let found = question.front_by(crew, &mut pass, &mut workers)?;
+    let solver = &mut workers[0].solver;
+    Ok(first_entry(&question, solver, pass, &found.front)?)
 }

@@ -19,6 +19,7 @@ use win_vectors::WinVector;
 // The plan for a vector, over a store.
 fn chosen<S: FrontStore>(
     store: &mut S,
+    solver: &mut Solver,
     question: &Question,
     vector: &WinVector,
 ) -> Result<Plan, RootFault>
@@ -28,11 +29,10 @@ fn chosen<S: FrontStore>(
         question.now.node.now question.now.moves vector.now) }
     ensures spent { NamesSpent question.now result }
 {
-    let mut solver = Solver::new(question.alloc);
     let found = plan_for(
         question.alloc,
         store,
-        &mut solver,
+        solver,
         question.node,
         question.moves,
         vector,
@@ -43,11 +43,12 @@ fn chosen<S: FrontStore>(
 }
 
 /// The plan that is chosen for a vector of the node's front. It is found over the table, if the
-/// options say so, by the last pass of a search.
+/// options say so, by the last pass of a search. What the solver has solved changes nothing.
 ///
 /// `Spent` names a root card whose tree has more nodes than a search may enter.
 pub fn chosen_plan(
     question: &Question,
+    solver: &mut Solver,
     mut pass: Pass,
     vector: &WinVector,
 ) -> Result<Plan, RootFault>
@@ -60,8 +61,8 @@ pub fn chosen_plan(
 {
     if question.options.table {
         let mut store = SharedStore::new(question.table, &mut pass);
-        chosen(&mut store, question, vector)
+        chosen(&mut store, solver, question, vector)
     } else {
-        chosen(&mut NoStore, question, vector)
+        chosen(&mut NoStore, solver, question, vector)
     }
 }

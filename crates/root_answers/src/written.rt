@@ -37,6 +37,7 @@ pub struct WrittenAnswer {
 // once, and its lines copied.
 fn written<S: FrontStore>(
     store: &mut S,
+    solver: &mut Solver,
     question: &Question,
     vectors: &[WinVector],
 ) -> Result<Text, RootFault>
@@ -47,14 +48,13 @@ fn written<S: FrontStore>(
         question.now.weights.now question.now.moves vectors.now [] lines) }
     ensures spent { NamesSpent question.now result }
 {
-    let mut solver = Solver::new(question.alloc);
     let mut out = PlanWriter::for_front(question.alloc, vectors.len());
     for vector in vectors {
         let line = vector_text(question.alloc, question.weights, *vector)?;
         out.push(line.bytes())?;
         out.push_plan(
             store,
-            &mut solver,
+            solver,
             question.node,
             question.moves,
             vector,
@@ -70,6 +70,7 @@ fn written<S: FrontStore>(
 // table, if the options say so, by a pass that ends with them.
 fn written_over(
     question: &Question,
+    solver: &mut Solver,
     pass: &mut Pass,
     vectors: &[WinVector],
 ) -> Result<Text, RootFault>
@@ -86,15 +87,16 @@ fn written_over(
     if question.options.table {
         let mut own = question.table.split(pass);
         let mut store = SharedStore::new(question.table, &mut own);
-        written(&mut store, question, vectors)
+        written(&mut store, solver, question, vectors)
     } else {
-        written(&mut NoStore, question, vectors)
+        written(&mut NoStore, solver, question, vectors)
     }
 }
 
 // The answer of a root, by what was found at it. Only a plan may be spent.
 fn written_by(
     question: &Question,
+    solver: &mut Solver,
     pass: &mut Pass,
     found: &RootFront,
 ) -> Result<WrittenAnswer, RootFault>
@@ -118,7 +120,7 @@ fn written_by(
         question.weights,
         &found.front,
     )?;
-    let lines = written_over(question, pass, &vectors)?;
+    let lines = written_over(question, solver, pass, &vectors)?;
     Ok(WrittenAnswer {
         lines,
         vectors: vectors.len(),
@@ -132,8 +134,9 @@ fn written_by(
 /// best weight is kept; and that weight, by a weight for each of the node's layouts. The crew, the
 /// gate, the table and the cuts change none of them.
 ///
-/// The front is found as `root_front` finds it, and the plans after it, over the same table; their
-/// lines are written as they are found. A crew in threads joins them, so it may wait.
+/// The front is found as `root_front` finds it, and the plans after it, over the same table and by
+/// the solver of the first worker; their lines are written as they are found. A crew in threads
+/// joins them, so it may wait.
 ///
 /// `Spent` names a root card whose tree has more nodes than a search may enter; with neither table
 /// nor cuts the first such card. If there is one, no answer comes then.
@@ -154,6 +157,7 @@ pub fn written_root<C: RootCrew>(
     ensures pass { IsPassOf question.now.table.now pass.new }
     ensures grown { HasSeenMore pass.old pass.new }
 {
-    let found = question.front(crew, pass)?;
-    written_by(question, pass, &found)
+    let mut workers = question.workers()?;
+    let found = question.front_by(crew, pass, &mut workers)?;
+    written_by(question, &mut workers[0].solver, pass, &found)
 }

@@ -1,4 +1,4 @@
-//! Rounds with a move more each, by as many workers as are asked for.
+//! Rounds with a move more each.
 ghost use Rattle.std.specs.Prelude.{◌≡◌, ◌≢◌, ◌≤◌, ◌-◌, ⊤, true, IfOk, IfSome, length};
 ghost use Rattle.front_table.specs.Proven.{IsFrontAt};
 ghost use Rattle.alphamu_core.specs.Costs.{IsWithin};
@@ -12,7 +12,7 @@ use crate::question::Question;
 use crate::rounds::{Round, RoundFront};
 use crate::searches::double_dummy;
 use crate::shared_cards::next_shared_cards;
-use crate::workers::{RootWorker, workers_for};
+use crate::workers::RootWorker;
 use alphamu_core::{Entered, RootFault};
 use card_sets::CardSet;
 use cut_rules::{CutRules, Stop};
@@ -152,23 +152,23 @@ fn whole_round<C: RootCrew>(
     run_round(crew, &round, workers, pass)
 }
 
-/// All rounds, with cuts or the only one without, by as many workers as the options ask for.
+/// All rounds, with cuts or the only one without, by these workers.
 pub fn rounds<C: RootCrew>(
     crew: &C,
     question: &Question,
     pass: &mut Pass,
+    workers: &mut [RootWorker],
     stop: Stop,
 ) -> Result<RoundFront, RootFault>
     requires ready { C.ready crew.now }
     requires question { IsQuestion question.now }
     requires pass { IsPassOf question.now.table.now pass.old }
+    requires some { 1 ≤ length workers.old }
     requires stop { stop ≢ Stop.Never }
     ensures answer { IsAnswer question.now (stop ≢ Stop.SameWeight) result }
     ensures pass { IsPassOf question.now.table.now pass.new }
     ensures grown { HasSeenMore pass.old pass.new }
 {
-    let mut workers = workers_for(question.alloc, question.options, question.node)?;
-    let workers = workers.as_mut_slice();
     if question.options.cuts {
         cut_rounds(crew, question, pass, workers, stop)
     } else {

@@ -16,13 +16,14 @@ use crate::crew::{InThreads, RootCrew, searched_in_threads};
 use crate::deepening::rounds;
 use crate::question::Question;
 use crate::reports::{CardReport, reports};
+use crate::workers::{RootWorker, workers_for};
 use alphamu_core::{Entered, RootFault};
 use am_outside::Gate;
 use card_sets::Card;
 use cut_rules::Stop;
 use pareto_fronts::Front;
 use shared_table::{Pass, SharedTable};
-use std::alloc::Global;
+use std::alloc::{AllocError, Global};
 use std::thread::Threads;
 use trick_rules::Node;
 use win_vectors::Weights;
@@ -177,6 +178,14 @@ pub fn root_card<R: Threads + Sync, G: Gate>(
 }
 
 impl Question<'_> {
+    /// The workers that the options ask for, or as many as there are root cards, but at least one.
+    /// None of them has solved anything.
+    pub fn workers(&self) -> Result<Vec<RootWorker>, AllocError>
+        ensures { IfOk result (λ workers. 1 ≤ length workers.items) }
+    {
+        workers_for(self.alloc, self.options, self.node)
+    }
+
     /// What `root_front` finds, with a crew that searches root cards beforehand.
     pub fn front<C: RootCrew>(&self, crew: &C, pass: &mut Pass) -> Result<RootFront, RootFault>
         requires ready { C.ready crew.now }
@@ -199,7 +208,39 @@ impl Question<'_> {
         ensures pass { IsPassOf self.now.table.now pass.new }
         ensures grown { HasSeenMore pass.old pass.new }
     {
-        let found = rounds(crew, self, pass, Stop::SameFront)?;
+        let mut workers = self.workers()?;
+        self.front_by(crew, pass, &mut workers)
+    }
+
+    /// What `front` finds, by workers who may have solved something before. What they have solved
+    /// changes no answer, and they keep what they solve now.
+    pub fn front_by<C: RootCrew>(
+        &self,
+        crew: &C,
+        pass: &mut Pass,
+        workers: &mut [RootWorker],
+    ) -> Result<RootFront, RootFault>
+        requires ready { C.ready crew.now }
+        requires question { IsQuestion self.now }
+        requires pass { IsPassOf self.now.table.now pass.old }
+        requires some { 1 ≤ length workers.old }
+        ensures front { IfOk result (λ root. IsFrontAt self.now.node.now self.now.moves
+            root.front) }
+        ensures card { IfOk result (λ root. IsNamedByWeight bridge self.now.weights.now
+            self.now.node.now self.now.moves root.card) }
+        ensures weight { IfOk result (λ root. IsBestWeight bridge self.now.weights.now
+            self.now.node.now self.now.moves root.weight) }
+        ensures cards { IfOk result (λ root. AreReports (course_of self.now.node.now
+            self.now.moves self.now.options.now self.now.table.now pass.old pass.new)
+            root.cards.items) }
+        ensures within { IfOk result (λ root. IsWithin self.now.options.now.nodes root.most) }
+        ensures fits { FitsIfPlain self.now result }
+        ensures spent { NamesSpent self.now result }
+        ensures first_spent { NamesFirstSpent self.now result }
+        ensures pass { IsPassOf self.now.table.now pass.new }
+        ensures grown { HasSeenMore pass.old pass.new }
+    {
+        let found = rounds(crew, self, pass, workers, Stop::SameFront)?;
         let cards = reports(self, pass, &found.founds)?;
         Ok(RootFront {
             front: found.front,
@@ -227,7 +268,8 @@ impl Question<'_> {
         ensures pass { IsPassOf self.now.table.now pass.new }
         ensures grown { HasSeenMore pass.old pass.new }
     {
-        let found = rounds(crew, self, pass, Stop::SameWeight)?;
+        let mut workers = self.workers()?;
+        let found = rounds(crew, self, pass, &mut workers, Stop::SameWeight)?;
         Ok(RootCard {
             card: found.card,
             weight: found.weight,

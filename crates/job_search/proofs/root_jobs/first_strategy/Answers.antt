@@ -1,10 +1,7 @@
 use Rattle.std.proofs.Common.{Err, ap}
 use Rattle.am_answer.specs.Tasks.{Match}
-use Rattle.job_search.proofs.Spent.{workers_as, refused_first, refused_later}
+use Rattle.job_search.proofs.Spent.{refused_first, refused_later}
 use Rattle.job_search.proofs.root_jobs.first_strategy.Goals as goal
-
-pub front-requires-clause-workers : goal.front-requires-clause-workers
-front-requires-clause-workers g c = λ κs outlives. workers_as c.options_of-options.result c.args.search.now c.options_of-options.ensures c.requires.limits
 
 pub returns-in_err-found-clause-refused : goal.returns-in_err-found-clause-refused
 returns-in_err-found-clause-refused g c = λ playing.

@@ -1,6 +1,6 @@
 use Rattle.root_workers.proofs.Seen.{seen_more}
 use Rattle.root_workers.proofs.Causes.{reports_earlier}
-use Rattle.root_workers.proofs.question.Question.front.Goals as goal
+use Rattle.root_workers.proofs.question.Question.front_by.Goals as goal
 
 pub returns-in_err-cards-clause-grown : goal.returns-in_err-cards-clause-grown
 returns-in_err-cards-clause-grown g c = seen_more c.args.pass.now c.rounds.new.pass c.reports.new.pass c.rounds.ensures.grown c.reports.ensures.grown
