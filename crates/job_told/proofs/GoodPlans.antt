@@ -23,9 +23,8 @@ use Rattle.job_words.specs.declared.asks.LayoutsJob.TheVariants as jobs
 use Rattle.byte_text.specs.Lines.{line_of}
 use Rattle.byte_text.specs.Steps.{◌>>=◌}
 use Rattle.am_answer.specs.Judging.{plan_fault, entry_fault, or_later_plan, first_plan_fault, unless_plan_fault, judged, plans_in}
-use Rattle.told_plans.specs.Told.{Told}
-use Rattle.told_report.specs.ToldReport.{AreToldOf, AreWords}
-use Rattle.job_told.specs.ToldJob.{AreToldAt, IsToldReport}
+use Rattle.told_report.specs.ToldReport.{AreWords}
+use Rattle.job_told.specs.ToldJob.{IsToldReport}
 
 -- a strategy of the right width
 pub record IsGood (node : NodeValue) (moves : ℕ) (read : ReadEntryValue) : Type 0 where
@@ -105,13 +104,11 @@ good_widths node weights moves [] weighed good k d below = absurd (omega (arith,
 good_widths node weights moves (read ∷ entries) weighed good zero d below = weighed ∙ sym good.0.width
 good_widths node weights moves (read ∷ entries) weighed good (suc k) d below = good_widths node weights moves entries weighed good.1 k d (le_of_suc-le-suc below)
 
--- so each told plan is that strategy again at the root
-pub told_at : (node : NodeValue) (moves : ℕ) (entries : List ReadEntryValue) (tolds : List Told) → AreGood node moves entries → AreToldOf node entries tolds → AreToldAt node entries tolds
-told_at node moves (read ∷ entries) (told ∷ tolds) good are =
-    (record { is_told = are.0.is_told; lossless = are.0.lossless moves good.0.fits }, told_at node moves entries tolds good.1 are.1)
-told_at node moves (read ∷ entries) [] good are = are
-told_at node moves [] (told ∷ tolds) good are = are
-told_at node moves [] [] good are = tt
+-- and their plans are strategies
+pub good_plans : (node : NodeValue) (moves : ℕ) (entries : List ReadEntryValue) → AreGood node moves entries → All (λ read. (moves : ℕ) × Fits bridge read.entry.plan node moves) entries
+good_plans node moves [] good k d below = absurd (omega (arith, below))
+good_plans node moves (read ∷ entries) good zero d below = (moves, good.0.fits)
+good_plans node moves (read ∷ entries) good (suc k) d below = good_plans node moves entries good.1 k d (le_of_suc-le-suc below)
 
 -- the words of a good report
 pub told_report : (root : Root) (bytes : List ℕ) (report : ReadReportValue) (words now : List ℕ) → report_read bytes ≡ Ok report → plans_in root bytes ≡ Ok (length report.entries)
@@ -121,6 +118,6 @@ told_report root bytes report words now read good are written = record {
   tolds = are.tolds;
   is_read = read;
   is_good = good;
-  are_told = told_at root.kept.node report.moves report.entries are.tolds (plans_good root bytes report (length report.entries) read good) are.are_told;
+  are_told = are.are_told;
   is_text = written ∙ ap (λ text. line_of (codes "alphamu words 1") ++ text) are.is_text;
 }

@@ -1,20 +1,20 @@
 -- The layouts behind a step, by the tests of its places.
-use Rattle.std.proofs.Common.{◌≡◌, ◌∙◌, ◌&&◌, ◌++◌, ◌-◌, ◌≤◌, ℕ, Bool, true, false, not, List, [], ◌∷◌, map, take, length, replicate, Contains, refl, sym, ap, subst, true≢false, append-nil, arith}
+use Rattle.std.proofs.Common.{◌≡◌, ◌∙◌, ◌++◌, ◌-◌, ◌≤◌, ℕ, Bool, true, false, not, List, [], ◌∷◌, map, take, length, replicate, Contains, refl, sym, ap, subst, true≢false, append-nil, arith}
 use Rattle.std.specs.Prelude.{◌↔◌}
 use Rattle.std.proofs.lemmas.Bool.{and_parts, and_from, false_from_ne_true, true_from_ne_false, not_from_false}
 use Rattle.std.proofs.lemmas.List.{take_all}
-use Rattle.win_vectors.specs.Fronts.{Vector}
 use Rattle.trick_rules.specs.Positions.{PositionValue, State}
 use Rattle.trick_rules.specs.Play.{after, makes}
-use Rattle.trick_rules.specs.Nodes.{NodeValue, states}
+use Rattle.trick_rules.specs.Nodes.{states}
 use Rattle.double_dummy.proofs.LayoutResults.{results_upto}
 use Rattle.strategy_games.specs.Plans.{Plan, Stop, Play, Hear, wins}
 use Rattle.strategy_games.proofs.Lists.{Contains-here, Contains-there}
 use Rattle.strategy_tree.specs.Bridge.{bridge}
 use Rattle.strategy_check.specs.Following.{CanFollow}
-use Rattle.told_layouts.specs.Places.{CanReach, IsWonFrom, GivesUp, IsGivenUpAt}
-use Rattle.told_layouts.specs.Looking.{somewhere, loses, gives_up}
+use Rattle.told_layouts.specs.Places.{CanReach, IsWonFrom, IsLostFrom, GivesUp, IsGivenUpAt}
+use Rattle.told_layouts.specs.Looking.{somewhere, loses, gives_up, is_won, step_layouts}
 use Rattle.told_layouts.specs.Behind.{AreThose}
+use Rattle.told_layouts.specs.Losing.{StepLayoutsAreBehind}
 use Rattle.told_layouts.proofs.Placed.{found_place, passes_somewhere}
 
 pub those : (f : State → Bool) (IsSo : State → Type 0) (layouts : List State) → ((s : State) → Contains layouts s → (f s ≡ true) ↔ IsSo s) → AreThose IsSo layouts (map f layouts)
@@ -22,7 +22,7 @@ those f IsSo [] each = tt
 those f IsSo (s ∷ layouts) each = (each s (Contains-here s layouts), those f IsSo layouts (λ t among. each t (Contains-there s layouts t among)))
 
 -- the results of all layouts
-upto_all : (f : State → Bool) (t : PositionValue) (lefts : List (List ℕ)) (i : ℕ) → length lefts ≤ i
+pub upto_all : (f : State → Bool) (t : PositionValue) (lefts : List (List ℕ)) (i : ℕ) → length lefts ≤ i
     → results_upto (λ left. f (record { position = t; left = left })) lefts i ≡ map f (map (λ left. record { position = t; left = left }) lefts)
 upto_all f t lefts i all =
     let none : length lefts - i ≡ 0 = omega arith in
@@ -32,10 +32,6 @@ upto_all f t lefts i all =
     go : (xs : List (List ℕ)) → map (λ left. f (record { position = t; left = left })) xs ≡ map f (map (λ left. record { position = t; left = left }) xs)
     go [] = refl
     go (x ∷ xs) = ap (λ bits. f (record { position = t; left = x }) ∷ bits) (go xs)
-
-pub those_upto : (f : State → Bool) (IsSo : State → Type 0) (n : NodeValue) (i : ℕ) (bits : Vector) → length n.lefts ≤ i
-    → bits ≡ results_upto (λ left. f (record { position = n.position; left = left })) n.lefts i → ((s : State) → Contains (states n) s → (f s ≡ true) ↔ IsSo s) → AreThose IsSo (states n) bits
-those_upto f IsSo n i bits all is each = subst (λ bits. AreThose IsSo (states n) bits) (sym (is ∙ upto_all f n.position n.lefts i all)) (those f IsSo (states n) each)
 
 not_true : (b : Bool) → not b ≡ true → b ≡ false
 not_true true h = absurd (true≢false (sym h))
@@ -51,7 +47,7 @@ gives_up-true (Play card rest) place = (
 gives_up-true (Hear rs) place = (λ h. true≢false (sym h), λ h. absurd h)
 
 module _ (sets : List (List ℕ)) (plan : Plan ℕ) (s : State) (follow : CanFollow plan s) where
-  pub reaches : (somewhere (λ rest place. true) sets plan s ≡ true) ↔ CanReach sets plan s
+  reaches : (somewhere (λ rest place. true) sets plan s ≡ true) ↔ CanReach sets plan s
   reaches = (
     λ h. let f = found_place (λ rest place. true) sets plan s follow h in (f.0, f.1, f.2),
     λ r. passes_somewhere (λ rest place. true) sets plan r.0 s r.1 r.2 refl,
@@ -68,7 +64,7 @@ module _ (sets : List (List ℕ)) (plan : Plan ℕ) (s : State) (follow : CanFol
       let f = found_place loses sets plan s follow h in
       true≢false (sym (won f.0 f.1 f.2) ∙ not_true (wins bridge f.0 f.1) f.3))
 
-  pub wins_from : ((somewhere (λ rest place. true) sets plan s && not (somewhere loses sets plan s)) ≡ true) ↔ (CanReach sets plan s × IsWonFrom sets plan s)
+  wins_from : (is_won sets plan s ≡ true) ↔ (CanReach sets plan s × IsWonFrom sets plan s)
   wins_from = (
     λ h.
         let parts = and_parts (somewhere (λ rest place. true) sets plan s) (not (somewhere loses sets plan s)) h in
@@ -76,8 +72,24 @@ module _ (sets : List (List ℕ)) (plan : Plan ℕ) (s : State) (follow : CanFol
     λ h. and_from (somewhere (λ rest place. true) sets plan s) (not (somewhere loses sets plan s)) (reaches.1 h.0) (not_from_false (somewhere loses sets plan s) (lost_nowhere h.1)),
   )
 
-  pub given_up_at : (somewhere gives_up sets plan s ≡ true) ↔ IsGivenUpAt sets plan s
+  lost_from : (somewhere loses sets plan s ≡ true) ↔ IsLostFrom sets plan s
+  lost_from = (
+    λ h. let f = found_place loses sets plan s follow h in (f.0, f.1, f.2, not_true (wins bridge f.0 f.1) f.3),
+    λ l. passes_somewhere loses sets plan l.0 s l.1 l.2 (not_from_false (wins bridge l.0 l.1) l.3),
+  )
+
+  given_up_at : (somewhere gives_up sets plan s ≡ true) ↔ IsGivenUpAt sets plan s
   given_up_at = (
     λ h. let f = found_place gives_up sets plan s follow h in (f.0, f.1, f.2, (gives_up-true f.0 f.1).0 f.3),
     λ g. passes_somewhere gives_up sets plan g.0 s g.1 g.2 ((gives_up-true g.0 g.1).1 g.3),
   )
+
+pub step_layouts_are_behind : StepLayoutsAreBehind
+unfolding step_layouts
+step_layouts_are_behind plan n moves sets sound fits =
+    let follow : (s : State) → Contains (states n) s → CanFollow plan s = λ s among. record { node = n; moves = moves; sound = sound; among = among; fits = fits } in
+    record {
+      won = those (λ s. is_won sets plan s) (λ s. CanReach sets plan s × IsWonFrom sets plan s) (states n) (λ s among. wins_from sets plan s (follow s among));
+      lost = those (λ s. somewhere loses sets plan s) (λ s. IsLostFrom sets plan s) (states n) (λ s among. lost_from sets plan s (follow s among));
+      given_up = those (λ s. somewhere gives_up sets plan s) (λ s. IsGivenUpAt sets plan s) (states n) (λ s among. given_up_at sets plan s (follow s among));
+    }

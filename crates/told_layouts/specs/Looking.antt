@@ -1,10 +1,12 @@
 -- The places of a step, looked at one after another.
-use Rattle.std.specs.Prelude.{ℕ, Bool, false, not, ◌&&◌, ◌||◌, List, [], ◌∷◌}
+use Rattle.std.specs.Prelude.{ℕ, Bool, true, false, not, ◌&&◌, ◌||◌, List, [], ◌∷◌, map}
 use Rattle.card_sets.specs.SetWords.{has_card}
 use Rattle.trick_rules.specs.Positions.{State}
 use Rattle.trick_rules.specs.Play.{legal_in, after, makes}
+use Rattle.trick_rules.specs.Nodes.{NodeValue, states}
 use Rattle.strategy_games.specs.Plans.{Plan, Replies, Stop, Play, Hear, NoReply, Reply, wins}
 use Rattle.strategy_tree.specs.Bridge.{bridge}
+use Rattle.told_layouts.specs.declared.steps.StepLayouts.{StepLayouts}
 
 abbrev mutual
   -- whether the test holds at a place of the step
@@ -29,3 +31,15 @@ abbrev pub gives_up : Plan ℕ → State → Bool
 gives_up Stop s = false
 gives_up (Play card rest) s = makes s && not (makes (after s card))
 gives_up (Hear replies) s = false
+
+-- whether the layout can reach the step and is won from there
+abbrev pub is_won : List (List ℕ) → Plan ℕ → State → Bool
+is_won sets plan s = somewhere (λ rest place. true) sets plan s && not (somewhere loses sets plan s)
+
+-- the layouts behind the step after these sets, looked at one after another
+unfoldable pub step_layouts : Plan ℕ → NodeValue → List (List ℕ) → StepLayouts
+step_layouts plan n sets = record {
+  won = map (λ s. is_won sets plan s) (states n);
+  lost = map (λ s. somewhere loses sets plan s) (states n);
+  given_up = map (λ s. somewhere gives_up sets plan s) (states n);
+}

@@ -6,9 +6,17 @@ use Rattle.trick_rules.specs.Nodes.{NodeValue, IsNode, states}
 use Rattle.strategy_games.specs.Plans.{Plan, Fits, wins}
 use Rattle.strategy_tree.specs.Bridge.{bridge}
 use Rattle.told_layouts.specs.Places.{IsGivenUpAt}
+use Rattle.told_layouts.specs.Looking.{step_layouts}
+use Rattle.told_layouts.specs.Behind.{AreBehind}
 
 -- of the layouts that double dummy makes, a strategy loses exactly those that its card gives up at some step
 abbrev pub LosesWhatItGivesUp : Type 0
 LosesWhatItGivesUp =
     (plan : Plan ℕ) (n : NodeValue) (moves : ℕ) (s : State) → IsNode n → Fits bridge plan n moves → Contains (states n) s → makes s ≡ true
     → (wins bridge plan s ≡ false) ↔ ((sets : List (List ℕ)) × IsGivenUpAt sets plan s)
+
+-- of every step of a strategy, those looked up are the layouts behind it
+abbrev pub StepLayoutsAreBehind : Type 0
+StepLayoutsAreBehind =
+    (plan : Plan ℕ) (n : NodeValue) (moves : ℕ) (sets : List (List ℕ)) → IsNode n → Fits bridge plan n moves
+    → AreBehind sets plan n (step_layouts plan n sets)

@@ -23,6 +23,10 @@ CanReach sets plan s = (rest : Plan ℕ) × (place : State) × IsPlace sets plan
 abbrev pub IsWonFrom : List (List ℕ) → Plan ℕ → State → Type 0
 IsWonFrom sets plan s = (rest : Plan ℕ) (place : State) → IsPlace sets plan s rest place → wins bridge rest place ≡ true
 
+-- it is lost from one of the places
+abbrev pub IsLostFrom : List (List ℕ) → Plan ℕ → State → Type 0
+IsLostFrom sets plan s = (rest : Plan ℕ) × (place : State) × IsPlace sets plan s rest place × (wins bridge rest place ≡ false)
+
 -- the plan plays a card before which double dummy makes, and after which it doesn't
 abbrev pub GivesUp : Plan ℕ → State → Type 0
 GivesUp Stop s = ⊥

@@ -4,7 +4,7 @@ ghost use Rattle.trick_rules.specs.Positions.{State};
 ghost use Rattle.strategy_games.specs.Plans.{Plan, wins};
 ghost use Rattle.strategy_tree.specs.Bridge.{bridge};
 ghost use Rattle.told_layouts.specs.Places.{CanReach, IsWonFrom};
-ghost use Rattle.told_layouts.specs.Losing.{LosesWhatItGivesUp};
+ghost use Rattle.told_layouts.specs.Losing.{LosesWhatItGivesUp, StepLayoutsAreBehind};
 
 /// Every layout reaches the first step of a plan, and is won from there exactly if the plan wins
 /// it.
@@ -21,4 +21,9 @@ pub fn the_first_step_has_the_vector()
 #[tactic(auto, using(crate::proofs::GivenUp::loses_what_it_gives_up))]
 pub fn a_strategy_loses_what_it_gives_up()
     ensures { LosesWhatItGivesUp }
+{}
+
+/// Of every step of a strategy, the layouts that are looked up are those behind it.
+pub fn step_layouts_are_behind()
+    ensures { StepLayoutsAreBehind }
 {}

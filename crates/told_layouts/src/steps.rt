@@ -4,6 +4,7 @@ ghost use Rattle.strategy_games.specs.Plans.{Fits};
 ghost use Rattle.strategy_tree.specs.Bridge.{bridge};
 ghost use Rattle.strategy_tree.specs.PlanMeaning.{plan_of};
 ghost use Rattle.told_layouts.specs.Behind.{AreBehind};
+ghost use Rattle.told_layouts.specs.Looking.{step_layouts};
 
 use crate::standing::standing_at;
 use card_sets::CardSet;
@@ -15,10 +16,10 @@ use win_vectors::WinVector;
 /// The layouts behind a step, each a bit a layout, in the order of the layouts.
 #[derive(Clone, Copy, Debug)]
 pub struct StepLayouts {
-    /// Those that can reach the step.
-    pub reached: WinVector,
-    /// Those of them that are won from every place that the step stands for.
+    /// Those that can reach the step and are won from every place that it stands for.
     pub won: WinVector,
+    /// Those that are lost from one of the places.
+    pub lost: WinVector,
     /// Those that the card that is played at the step gives up: at one of the places double dummy
     /// makes before the card and not after it.
     pub given_up: WinVector,
@@ -30,21 +31,22 @@ pub struct StepLayouts {
 /// The solver remembers what it finds, so one should be used for all steps.
 pub fn layouts_at(solver: &mut Solver, plan: &Plan, node: &Node, sets: &[CardSet]) -> StepLayouts
     requires { (moves : ℕ) × Fits bridge (plan_of plan.now) node.now moves }
-    ensures { AreBehind sets.now (plan_of plan.now) node.now result }
+    ensures value { result ≡ step_layouts (plan_of plan.now) node.now sets.now }
+    ensures behind { AreBehind sets.now (plan_of plan.now) node.now result }
 {
     let width = node.width();
-    let mut reached = WinVector::none(width);
-    let mut won = reached;
-    let mut given_up = reached;
+    let mut won = WinVector::none(width);
+    let mut lost = won;
+    let mut given_up = won;
     for place in 0..width {
         let standing = standing_at(solver, plan, node.position(), node.left(place), sets);
-        reached = reached.set(place, standing.reached);
         won = won.set(place, standing.is_won());
+        lost = lost.set(place, standing.lost);
         given_up = given_up.set(place, standing.given_up);
     }
     StepLayouts {
-        reached,
         won,
+        lost,
         given_up,
     }
 }

@@ -1,5 +1,7 @@
 //! The strategies of a report, one after another.
-ghost use Rattle.std.specs.Prelude.{◌≡◌, ◌++◌, All, length, IfOk, OnOk};
+ghost use Rattle.std.specs.Prelude.{◌≡◌, ◌++◌, ℕ, All, length, IfOk, OnOk};
+ghost use Rattle.strategy_games.specs.Plans.{Fits};
+ghost use Rattle.strategy_tree.specs.Bridge.{bridge};
 ghost use Rattle.told_plans.specs.Told.{Told};
 ghost use Rattle.told_report.specs.ToldReport.{strategy_text, IsToldOf, AreWords};
 
@@ -8,7 +10,7 @@ use byte_text::Text;
 use card_sets::Compass;
 use std::alloc::{AllocError, Global};
 use told_plans::ToldPlan;
-use told_words::told_words;
+use told_words::{Strategy, Writer};
 use trick_rules::Node;
 use win_vectors::Weights;
 
@@ -24,32 +26,36 @@ pub fn tell_strategies(
     node: &Node,
     entries: &[ReadEntry],
 ) -> Result<Text, AllocError>
-    requires { All (λ read. length weights.now ≡ length read.entry.vector) entries.now }
+    requires widths { All (λ read. length weights.now ≡ length read.entry.vector) entries.now }
+    requires fit { All (λ read. (moves : ℕ) × Fits bridge read.entry.plan node.now moves)
+        entries.now }
     ensures { IfOk result (AreWords declarer weights.now node.now entries.now) }
 {
-    let mut text = Text::new(alloc);
+    let mut writer = Writer::new(alloc);
     for read in entries {
-        push_strategy(alloc, &mut text, declarer, weights, node, read)?;
+        push_strategy(alloc, &mut writer, declarer, weights, node, read)?;
     }
-    Ok(text)
+    Ok(writer.finish())
 }
 
 // Appends one of them.
 fn push_strategy(
     alloc: Global,
-    out: &mut Text,
+    writer: &mut Writer,
     declarer: Compass,
     weights: &Weights,
     node: &Node,
     read: &ReadEntry,
 ) -> Result<(), AllocError>
-    requires { length weights.now ≡ length read.now.entry.vector }
+    requires width { length weights.now ≡ length read.now.entry.vector }
+    requires fits { (moves : ℕ) × Fits bridge read.now.entry.plan node.now moves }
     ensures { OnOk result ((told : Told) × IsToldOf node.now read.now told
-        × (out.new ≡ out.old ++ strategy_text declarer weights.now node.now read.now told)) }
+        × (writer.new
+        ≡ writer.old ++ strategy_text declarer weights.now node.now read.now told)) }
 {
     let line = vector_text(alloc, weights, read.entry.vector)?;
-    let told = ToldPlan::of(alloc, &read.entry.plan)?;
-    let words = told_words(alloc, declarer, &told, node)?;
-    out.push(line.bytes())?;
-    out.push(words.bytes())
+    let plan = &read.entry.plan;
+    let told = ToldPlan::of(alloc, plan)?;
+    writer.push(line.bytes())?;
+    writer.push_told(declarer, &Strategy { plan, node }, &told)
 }

@@ -7,10 +7,11 @@ use Rattle.told_plans.specs.Told.{ToldHear}
 use Rattle.told_plans.specs.declared.told.Branch.{Branch}
 use Rattle.told_plans.specs.ToldMeaning.{branches_of}
 use Rattle.told_words.specs.declared.phrases.Turn.{Turn}
-use Rattle.told_words.specs.declared.words.Line.{Line}
+use Rattle.told_words.specs.declared.lines.Line.{Line}
 use Rattle.told_words.specs.Turns.{played_so}
 use Rattle.told_words.specs.Phrases.{next_phrase, has_begun, phrases}
-use Rattle.told_words.specs.Words.{is_one, one_text, line_end, further_in, branch_lines, steps_text}
+use Rattle.told_words.specs.Steps.{StepValue}
+use Rattle.told_words.specs.Words.{Layouts, is_one, one_text, line_end, further_in, branch_lines, steps_text}
 
 -- one turn more
 pub turn_more : (declarer : Compass) (cards : List ℕ) (places : List NodeValue) (begun begun_now : Bool) (turns : List Turn) (i : ℕ) (turn : Turn) (out now whole own : List ℕ)
@@ -34,6 +35,7 @@ not_one [] other = refl
 not_one (b ∷ []) other = absurd (other refl)
 not_one (b ∷ d ∷ bs) other = refl
 
-pub several_lines : (bs : List Branch) (line : Line) (places : List NodeValue) → (length bs ≡ 1 → ⊥) → steps_text (ToldHear (branches_of bs)) line places ≡ line_end line ++ branch_lines (branches_of bs) (further_in line) places
-several_lines bs line places other =
-    ap (λ (b : Bool). cond b (one_text (branches_of bs) line places) (line_end line ++ branch_lines (branches_of bs) (further_in line) places)) (not_one bs other)
+pub several_lines : (layouts : Layouts) (bs : List Branch) (line : Line) (step : StepValue) → (length bs ≡ 1 → ⊥)
+    → steps_text layouts (ToldHear (branches_of bs)) line step ≡ line_end line ++ branch_lines layouts (branches_of bs) (further_in line) step
+several_lines layouts bs line step other =
+    ap (λ (b : Bool). cond b (one_text layouts (branches_of bs) line step) (line_end line ++ branch_lines layouts (branches_of bs) (further_in line) step)) (not_one bs other)

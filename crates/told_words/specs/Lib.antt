@@ -1,3 +1,5 @@
 pub mod Turns
 pub mod Phrases
+pub mod Numbers
+pub mod Steps
 pub mod Words

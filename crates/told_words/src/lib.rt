@@ -1,9 +1,14 @@
-//! Told plans in the words of bridge: one line a step, with its branches indented below it. It
-//! builds on told plans. A contract says that the text is the one that the definition gives.
+//! Told plans in the words of bridge: lines of steps, with the layouts that are made from there, and
+//! the lines of their branches indented below them. It builds on told plans and on the layouts
+//! behind their steps. A contract says that the text is the one that the definition gives.
 #![tactic(auto)]
 
+mod layouts;
+mod lines;
 mod phrases;
+mod steps;
 mod turns;
 mod words;
 
-pub use words::told_words;
+pub use steps::Strategy;
+pub use words::Writer;

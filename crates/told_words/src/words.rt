@@ -1,246 +1,273 @@
 //! A told plan in words.
-ghost use Rattle.std.specs.Prelude.{◌≡◌, ◌++◌, IfOk, OnOk};
+ghost use Rattle.std.specs.Prelude.{◌≡◌, ◌++◌, [], ℕ, codes, OnOk};
+ghost use Rattle.strategy_games.specs.Plans.{Fits};
+ghost use Rattle.strategy_tree.specs.Bridge.{bridge};
+ghost use Rattle.strategy_tree.specs.PlanMeaning.{plan_of};
+ghost use Rattle.told_plans.specs.Told.{ToldStop, ToldPlay, ToldHear};
 ghost use Rattle.told_plans.specs.ToldMeaning.{told_of, branches_of};
-ghost use Rattle.told_words.specs.Turns.{winner_at};
-ghost use Rattle.told_plans.specs.Told.{ToldStop, ToldHear};
-ghost use Rattle.told_words.specs.Words.{indent, before, line_end, going_on, further_in, winner_text, after_winner, condition, steps_text, next_text, move_text, branch_lines, told_text};
+ghost use Rattle.told_layouts.specs.Looking.{step_layouts};
+ghost use Rattle.told_words.specs.Numbers.{outcome_text, given_up_text};
+ghost use Rattle.told_words.specs.Phrases.{end_text};
+ghost use Rattle.told_words.specs.Words.{before, played_text, condition, steps_text, next_text, branch_lines, told_text};
 
-use crate::phrases::{push_end, push_seat, push_turn};
-use crate::turns::{after_cards, winner_at};
+use crate::layouts::{push_given_up, push_outcome};
+use crate::lines::{Line, push_before, push_indent, push_line_end, push_winner};
+use crate::phrases::{push_end, push_turn};
+use crate::steps::{Step, Strategy};
+use crate::turns::winner_at;
 use byte_text::Text;
-use card_sets::{CardSet, Compass, Seat};
+use card_sets::{Card, CardSet, Compass};
+use dd_solver::Solver;
 use std::alloc::{AllocError, Global};
+use std::marker::Model;
+use told_layouts::{StepLayouts, layouts_at};
 use told_plans::{Branch, ToldPlan};
-use trick_rules::Node;
 
-/// A line that is written.
-#[derive(Clone, Copy, Debug)]
-pub struct Line {
-    /// Declarer's place at the table.
-    pub declarer: Compass,
-    /// The steps of indentation.
-    pub depth: u8,
-    /// Whether words follow its colon by now.
-    pub begun: bool,
-}
-
-/// A told plan in words, from a node on, with declarer at this place of the table.
-pub fn told_words(
+/// A text under way, with the solver that is asked about its layouts.
+#[derive(Debug, Drop)]
+pub struct Writer {
     alloc: Global,
-    declarer: Compass,
-    told: &ToldPlan,
-    node: &Node,
-) -> Result<Text, AllocError>
-    ensures { IfOk result (λ text. text ≡ told_text declarer (told_of told.now) node.now) }
-{
-    let mut out = Text::from_bytes(alloc, b"Now:")?;
-    let mut places = Vec::new(alloc);
-    places.push(node.copy(alloc)?)?;
-    let line = Line {
-        declarer,
-        depth: 0,
-        begun: false,
-    };
-    push_steps(alloc, &mut out, line, told, &places)?;
-    Ok(out)
+    solver: Solver,
+    text: Text,
 }
 
-// Appends the rest of a line, and the lines below it.
-#[cycle(steps)]
-fn push_steps(
-    alloc: Global,
-    out: &mut Text,
-    line: Line,
-    told: &ToldPlan,
-    places: &[Node],
-) -> Result<(), AllocError>
-    ensures { OnOk result (out.new ≡ out.old ++ steps_text (told_of told.now) line places.now) }
-{
-    match told {
-        ToldPlan::Stop => push_stop(out, line, places),
-        ToldPlan::Play(card, rest) => {
-            push_move(alloc, out, line, CardSet::empty().with(*card), rest, places)
-        }
-        ToldPlan::Hear(branches) => push_hear(alloc, out, line, branches, places),
-    }
+impl Model for Writer {
+    ghost use Rattle.std.specs.Prelude.{List, ℕ};
+
+    ghost Value = { List ℕ };
+
+    ghost view = { λ writer. writer.text };
 }
 
-fn push_stop(out: &mut Text, line: Line, places: &[Node]) -> Result<(), AllocError>
-    ensures { OnOk result (out.new ≡ out.old ++ steps_text ToldStop line places.now) }
-{
-    push_before(out, line)?;
-    push_end(out, places)?;
-    out.push(b".\n")
-}
-
-// Appends who plays one of the cards, and what follows.
-#[cycle(steps)]
-fn push_move(
-    alloc: Global,
-    out: &mut Text,
-    line: Line,
-    cards: CardSet,
-    told: &ToldPlan,
-    places: &[Node],
-) -> Result<(), AllocError>
-    ensures { OnOk result (out.new ≡ out.old
-        ++ move_text (steps_text (told_of told.now)) line cards places.now) }
-{
-    push_before(out, line)?;
-    push_turn(out, line.declarer, cards, places)?;
-    let after = after_cards(alloc, cards, places)?;
-    push_next(alloc, out, line.going_on(), told, &after)
-}
-
-// Appends who won the trick, and what follows.
-#[cycle(steps)]
-fn push_next(
-    alloc: Global,
-    out: &mut Text,
-    line: Line,
-    told: &ToldPlan,
-    places: &[Node],
-) -> Result<(), AllocError>
-    ensures { OnOk result (out.new ≡ out.old
-        ++ next_text (steps_text (told_of told.now)) line places.now) }
-{
-    let winner = winner_at(places);
-    push_winner(out, line, winner)?;
-    push_steps(alloc, out, line.after_winner(winner), told, places)
-}
-
-// Appends what is told of a defender's cards.
-#[cycle(steps)]
-fn push_hear(
-    alloc: Global,
-    out: &mut Text,
-    line: Line,
-    branches: &[Branch],
-    places: &[Node],
-) -> Result<(), AllocError>
-    ensures { OnOk result (out.new ≡ out.old
-        ++ steps_text (ToldHear (branches_of branches.now)) line places.now) }
-{
-    if branches.len() != 1 {
-        push_line_end(out, line)?;
-        return push_branches(alloc, out, line.further_in(), branches, places);
-    }
-    push_move(
-        alloc,
-        out,
-        line,
-        branches[0].cards,
-        &branches[0].plan,
-        places,
-    )
-}
-
-// Appends a line for each branch, and the lines below it.
-#[cycle(steps)]
-fn push_branches(
-    alloc: Global,
-    out: &mut Text,
-    line: Line,
-    branches: &[Branch],
-    places: &[Node],
-) -> Result<(), AllocError>
-    ensures { OnOk result (out.new ≡ out.old
-        ++ branch_lines (branches_of branches.now) line places.now) }
-{
-    for branch in branches {
-        push_condition(out, line, branch.cards, places)?;
-        let after = after_cards(alloc, branch.cards, places)?;
-        push_next(alloc, out, line, &branch.plan, &after)?;
-    }
-    Ok(())
-}
-
-// Appends the front of a branch's line.
-fn push_condition(
-    out: &mut Text,
-    line: Line,
-    cards: CardSet,
-    places: &[Node],
-) -> Result<(), AllocError>
-    ensures { OnOk result (out.new ≡ out.old ++ condition line cards places.now) }
-{
-    push_indent(out, line.depth)?;
-    out.push(b"If ")?;
-    push_turn(out, line.declarer, cards, places)?;
-    out.push(b":")
-}
-
-fn push_indent(out: &mut Text, depth: u8) -> Result<(), AllocError>
-    ensures { OnOk result (out.new ≡ out.old ++ indent depth) }
-{
-    for _ in 0..depth {
-        out.push(b"  ")?;
-    }
-    Ok(())
-}
-
-fn push_before(out: &mut Text, line: Line) -> Result<(), AllocError>
-    ensures { OnOk result (out.new ≡ out.old ++ before line) }
-{
-    if line.begun {
-        out.push(b"; ")
-    } else {
-        out.push(b" ")
-    }
-}
-
-fn push_line_end(out: &mut Text, line: Line) -> Result<(), AllocError>
-    ensures { OnOk result (out.new ≡ out.old ++ line_end line) }
-{
-    if line.begun {
-        out.push(b".\n")
-    } else {
-        out.push(b"\n")
-    }
-}
-
-// Appends who won the trick, if it is known.
-fn push_winner(out: &mut Text, line: Line, winner: Option<Seat>) -> Result<(), AllocError>
-    ensures { OnOk result (out.new ≡ out.old ++ winner_text line winner) }
-{
-    let Some(seat) = winner else {
-        return Ok(());
-    };
-    push_before(out, line)?;
-    push_seat(out, line.declarer, seat)?;
-    out.push(b" wins the trick")
-}
-
-impl Line {
-    // The line with words on it.
-    fn going_on(self) -> Line
-        ensures { result ≡ going_on self }
+impl Writer {
+    /// A writer of a text that is empty so far.
+    pub fn new(alloc: Global) -> Writer
+        ensures { result ≡ [] }
     {
-        Line {
-            declarer: self.declarer,
-            depth: self.depth,
-            begun: true,
+        Writer {
+            alloc,
+            solver: Solver::new(alloc),
+            text: Text::new(alloc),
         }
     }
 
-    // The line after it was said who won the trick, if it is known.
-    fn after_winner(self, winner: Option<Seat>) -> Line
-        ensures { result ≡ after_winner self winner }
+    /// Appends these bytes.
+    pub fn push(&mut self, piece: &[u8]) -> Result<(), AllocError>
+        ensures { OnOk result (self.new ≡ self.old ++ piece.now) }
     {
-        match winner {
-            None => self,
-            Some(_) => self.going_on(),
-        }
+        self.text.push(piece)
     }
 
-    // A line one step further in.
-    fn further_in(self) -> Line
-        ensures { result ≡ further_in self }
+    /// The text that was written.
+    pub fn finish(self) -> Text
+        ensures { result ≡ self }
     {
-        Line {
-            declarer: self.declarer,
-            depth: self.depth.saturating_add(1),
+        let Writer {
+            alloc: _,
+            solver: _,
+            text,
+        } = self;
+        text
+    }
+
+    /// Appends a told plan in words, from the strategy's node on, with declarer at this place of
+    /// the table. The layouts are numbered from 1 in the node's order.
+    pub fn push_told(
+        &mut self,
+        declarer: Compass,
+        strategy: &Strategy,
+        told: &ToldPlan,
+    ) -> Result<(), AllocError>
+        requires { (moves : ℕ)
+            × Fits bridge (plan_of strategy.now.plan.now) strategy.now.node.now moves }
+        ensures { OnOk result (self.new ≡ self.old ++ told_text declarer
+            (step_layouts (plan_of strategy.now.plan.now) strategy.now.node.now)
+            (told_of told.now) strategy.now.node.now) }
+    {
+        let step = Step::first(self.alloc, strategy.node)?;
+        let line = Line {
+            declarer,
+            depth: 0,
             begun: false,
+        };
+        self.push(b"Now")?;
+        self.push_outcome_at(strategy, &step)?;
+        self.push(b":")?;
+        self.push_steps(strategy, line, told, &step)
+    }
+
+    // The layouts behind a step.
+    fn layouts(&mut self, strategy: &Strategy, step: &Step) -> StepLayouts
+        requires { (moves : ℕ)
+            × Fits bridge (plan_of strategy.now.plan.now) strategy.now.node.now moves }
+        ensures layouts { result
+            ≡ step_layouts (plan_of strategy.now.plan.now) strategy.now.node.now step.now.sets }
+        ensures same { self.new ≡ self.old }
+    {
+        layouts_at(&mut self.solver, strategy.plan, strategy.node, &step.sets)
+    }
+
+    // Appends which layouts are made from a step, and which fail.
+    fn push_outcome_at(&mut self, strategy: &Strategy, step: &Step) -> Result<(), AllocError>
+        requires { (moves : ℕ)
+            × Fits bridge (plan_of strategy.now.plan.now) strategy.now.node.now moves }
+        ensures { OnOk result (self.new ≡ self.old ++ outcome_text
+            (step_layouts (plan_of strategy.now.plan.now) strategy.now.node.now step.now.sets)) }
+    {
+        let layouts = self.layouts(strategy, step);
+        push_outcome(&mut self.text, self.alloc, layouts)
+    }
+
+    // Appends which layouts the card at a step gives up.
+    fn push_given_up_at(&mut self, strategy: &Strategy, step: &Step) -> Result<(), AllocError>
+        requires { (moves : ℕ)
+            × Fits bridge (plan_of strategy.now.plan.now) strategy.now.node.now moves }
+        ensures { OnOk result (self.new ≡ self.old ++ given_up_text
+            (step_layouts (plan_of strategy.now.plan.now) strategy.now.node.now step.now.sets)) }
+    {
+        let layouts = self.layouts(strategy, step);
+        push_given_up(&mut self.text, self.alloc, layouts)
+    }
+
+    // Appends the rest of a line, and the lines below it.
+    #[cycle(steps)]
+    fn push_steps(
+        &mut self,
+        strategy: &Strategy,
+        line: Line,
+        told: &ToldPlan,
+        step: &Step,
+    ) -> Result<(), AllocError>
+        requires { (moves : ℕ)
+            × Fits bridge (plan_of strategy.now.plan.now) strategy.now.node.now moves }
+        ensures { OnOk result (self.new ≡ self.old ++ steps_text
+            (step_layouts (plan_of strategy.now.plan.now) strategy.now.node.now)
+            (told_of told.now) line step.now) }
+    {
+        match told {
+            ToldPlan::Stop => self.push_stop(line, step),
+            ToldPlan::Play(card, rest) => self.push_play(strategy, line, *card, rest, step),
+            ToldPlan::Hear(branches) => self.push_hear(strategy, line, branches, step),
         }
+    }
+
+    // Appends how a plan stops.
+    fn push_stop(&mut self, line: Line, step: &Step) -> Result<(), AllocError>
+        ensures { OnOk result (self.new ≡ self.old ++ (before line ++ end_text step.now.places
+            ++ codes ".\n")) }
+    {
+        push_before(&mut self.text, line)?;
+        push_end(&mut self.text, &step.places)?;
+        self.push(b".\n")
+    }
+
+    // Appends who plays one of the cards.
+    fn push_played(&mut self, line: Line, cards: CardSet, step: &Step) -> Result<(), AllocError>
+        ensures { OnOk result (self.new ≡ self.old ++ played_text line cards step.now) }
+    {
+        push_before(&mut self.text, line)?;
+        push_turn(&mut self.text, line.declarer, cards, &step.places)
+    }
+
+    // Appends a card of declarer's side, what it gives up, and what follows.
+    #[cycle(steps)]
+    fn push_play(
+        &mut self,
+        strategy: &Strategy,
+        line: Line,
+        card: Card,
+        rest: &ToldPlan,
+        step: &Step,
+    ) -> Result<(), AllocError>
+        requires { (moves : ℕ)
+            × Fits bridge (plan_of strategy.now.plan.now) strategy.now.node.now moves }
+        ensures { OnOk result (self.new ≡ self.old ++ steps_text
+            (step_layouts (plan_of strategy.now.plan.now) strategy.now.node.now)
+            (ToldPlay card (told_of rest.now)) line step.now) }
+    {
+        let cards = CardSet::empty().with(card);
+        self.push_played(line, cards, step)?;
+        self.push_given_up_at(strategy, step)?;
+        let after = step.after(self.alloc, cards)?;
+        self.push_next(strategy, line.going_on(), rest, &after)
+    }
+
+    // Appends who won the trick, and what follows.
+    #[cycle(steps)]
+    fn push_next(
+        &mut self,
+        strategy: &Strategy,
+        line: Line,
+        told: &ToldPlan,
+        step: &Step,
+    ) -> Result<(), AllocError>
+        requires { (moves : ℕ)
+            × Fits bridge (plan_of strategy.now.plan.now) strategy.now.node.now moves }
+        ensures { OnOk result (self.new ≡ self.old ++ next_text (steps_text
+            (step_layouts (plan_of strategy.now.plan.now) strategy.now.node.now)
+            (told_of told.now)) line step.now) }
+    {
+        let winner = winner_at(&step.places);
+        push_winner(&mut self.text, line, winner)?;
+        self.push_steps(strategy, line.after_winner(winner), told, step)
+    }
+
+    // Appends what is told of a defender's cards.
+    #[cycle(steps)]
+    fn push_hear(
+        &mut self,
+        strategy: &Strategy,
+        line: Line,
+        branches: &[Branch],
+        step: &Step,
+    ) -> Result<(), AllocError>
+        requires { (moves : ℕ)
+            × Fits bridge (plan_of strategy.now.plan.now) strategy.now.node.now moves }
+        ensures { OnOk result (self.new ≡ self.old ++ steps_text
+            (step_layouts (plan_of strategy.now.plan.now) strategy.now.node.now)
+            (ToldHear (branches_of branches.now)) line step.now) }
+    {
+        if branches.len() != 1 {
+            push_line_end(&mut self.text, line)?;
+            return self.push_branches(strategy, line.further_in(), branches, step);
+        }
+        let cards = branches[0].cards;
+        self.push_played(line, cards, step)?;
+        let after = step.after(self.alloc, cards)?;
+        self.push_next(strategy, line.going_on(), &branches[0].plan, &after)
+    }
+
+    // Appends a line for each branch, and the lines below it.
+    #[cycle(steps)]
+    fn push_branches(
+        &mut self,
+        strategy: &Strategy,
+        line: Line,
+        branches: &[Branch],
+        step: &Step,
+    ) -> Result<(), AllocError>
+        requires { (moves : ℕ)
+            × Fits bridge (plan_of strategy.now.plan.now) strategy.now.node.now moves }
+        ensures { OnOk result (self.new ≡ self.old ++ branch_lines
+            (step_layouts (plan_of strategy.now.plan.now) strategy.now.node.now)
+            (branches_of branches.now) line step.now) }
+    {
+        for branch in branches {
+            let after = step.after(self.alloc, branch.cards)?;
+            self.push_condition(line, branch.cards, step)?;
+            self.push_outcome_at(strategy, &after)?;
+            self.push(b":")?;
+            self.push_next(strategy, line, &branch.plan, &after)?;
+        }
+        Ok(())
+    }
+
+    // Appends the front of a branch's line.
+    fn push_condition(&mut self, line: Line, cards: CardSet, step: &Step) -> Result<(), AllocError>
+        ensures { OnOk result (self.new ≡ self.old ++ condition line cards step.now) }
+    {
+        push_indent(&mut self.text, line.depth)?;
+        self.push(b"If ")?;
+        push_turn(&mut self.text, line.declarer, cards, &step.places)
     }
 }

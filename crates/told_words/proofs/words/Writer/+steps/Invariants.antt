@@ -1,14 +1,16 @@
 use Rattle.std.proofs.Common.{◌≡◌, ◌≤◌, ◌++◌, ◌+◌, ◌*◌, drop}
+use Rattle.strategy_tree.specs.PlanMeaning.{plan_of}
 use Rattle.told_plans.specs.ToldMeaning.{told_of, branches_of}
+use Rattle.told_layouts.specs.Looking.{step_layouts}
 use Rattle.told_words.specs.Words.{branch_lines}
 use Rattle.told_words.proofs.Sizes.{size, sizes}
-use Rattle.told_words.proofs.words.+steps.Given as goal
+use Rattle.told_words.proofs.words.Writer.+steps.Given as goal
 
 abbrev pub decreases-push_steps : goal.decreases-push_steps
 decreases-push_steps l = 4 * size (told_of l.told.now)
 
-abbrev pub decreases-push_move : goal.decreases-push_move
-decreases-push_move l = 4 * size (told_of l.told.now) + 2
+abbrev pub decreases-push_play : goal.decreases-push_play
+decreases-push_play l = 4 * size (told_of l.rest.now) + 2
 
 abbrev pub decreases-push_next : goal.decreases-push_next
 decreases-push_next l = 4 * size (told_of l.told.now) + 1
@@ -20,7 +22,9 @@ abbrev pub decreases-push_branches : goal.decreases-push_branches
 decreases-push_branches l = 4 * sizes (branches_of l.branches.now) + 2
 
 abbrev pub invariant-push_branches-loop-branch : goal.invariant-push_branches-loop-branch
-invariant-push_branches-loop-branch l = record {
-  so_far : l.out ++ branch_lines (branches_of (drop l.branch-index l.branches)) l.line l.places ≡ l.initial.out ++ branch_lines (branches_of l.branches) l.line l.places;
-  fewer : sizes (branches_of (drop l.branch-index l.branches)) ≤ sizes (branches_of l.branches);
-}
+invariant-push_branches-loop-branch l =
+    let layouts = step_layouts (plan_of l.strategy.plan.now) l.strategy.node.now in
+    record {
+      so_far : l.self ++ branch_lines layouts (branches_of (drop l.branch-index l.branches)) l.line l.step ≡ l.initial.self ++ branch_lines layouts (branches_of l.branches) l.line l.step;
+      fewer : sizes (branches_of (drop l.branch-index l.branches)) ≤ sizes (branches_of l.branches);
+    }
