@@ -1,3 +1,4 @@
 pub mod Sizes
 pub mod PlayedSets
 pub mod Telling
+pub mod Numbered

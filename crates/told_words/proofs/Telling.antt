@@ -3,15 +3,16 @@ use Rattle.std.proofs.Common.{◌≡◌, ◌∙◌, ◌<◌, ◌+◌, ◌++◌, 
 use Rattle.std.proofs.Math.Seq.{drop-cons}
 use Rattle.card_sets.specs.declared.seat.Compass.{Compass}
 use Rattle.trick_rules.specs.Nodes.{NodeValue}
-use Rattle.told_plans.specs.Told.{ToldHear}
+use Rattle.told_plans.specs.Told.{Told, and_card, ToldPlay, ToldHear}
 use Rattle.told_plans.specs.declared.told.Branch.{Branch}
 use Rattle.told_plans.specs.ToldMeaning.{branches_of}
 use Rattle.told_words.specs.declared.phrases.Turn.{Turn}
 use Rattle.told_words.specs.declared.lines.Line.{Line}
 use Rattle.told_words.specs.Turns.{played_so}
 use Rattle.told_words.specs.Phrases.{next_phrase, has_begun, phrases}
-use Rattle.told_words.specs.Steps.{StepValue}
-use Rattle.told_words.specs.Words.{Layouts, is_one, one_text, line_end, further_in, branch_lines, steps_text}
+use Rattle.told_words.specs.Steps.{StepValue, step_after}
+use Rattle.told_words.specs.Numbers.{given_up_text}
+use Rattle.told_words.specs.Words.{Layouts, next_text, played_text, going_on, is_one, one_text, line_end, further_in, branch_lines, steps_text}
 
 -- one turn more
 pub turn_more : (declarer : Compass) (cards : List ℕ) (places : List NodeValue) (begun begun_now : Bool) (turns : List Turn) (i : ℕ) (turn : Turn) (out now whole own : List ℕ)
@@ -39,3 +40,14 @@ pub several_lines : (layouts : Layouts) (bs : List Branch) (line : Line) (step :
     → steps_text layouts (ToldHear (branches_of bs)) line step ≡ line_end line ++ branch_lines layouts (branches_of bs) (further_in line) step
 several_lines layouts bs line step other =
     ap (λ (b : Bool). cond b (one_text layouts (branches_of bs) line step) (line_end line ++ branch_lines layouts (branches_of bs) (further_in line) step)) (not_one bs other)
+
+-- a card of declarer's side, what it gives up, and what follows
+pub play_whole : (layouts : Layouts) (card : ℕ) (rest : Told) (line going : Line) (step after : StepValue) (cards start played given : List ℕ) → cards ≡ and_card [] card
+    → played ≡ start ++ played_text line cards step → given ≡ played ++ given_up_text (layouts step.sets).given_up → going ≡ going_on line → after ≡ step_after cards step
+    → given ++ next_text (steps_text layouts rest) going after ≡ start ++ steps_text layouts (ToldPlay card rest) line step
+play_whole layouts card rest line going step after cards start played given is_card is_played is_given is_going is_after =
+    let follows = λ (l : Line) (s : StepValue). next_text (steps_text layouts rest) l s in
+    ap₂ (λ (l : Line) (s : StepValue). given ++ follows l s) is_going is_after
+    ∙ ap (λ text. text ++ follows (going_on line) (step_after cards step)) (is_given ∙ ap (λ text. text ++ given_up_text (layouts step.sets).given_up) is_played ∙ append_assoc start (played_text line cards step) (given_up_text (layouts step.sets).given_up))
+    ∙ append_assoc start (played_text line cards step ++ given_up_text (layouts step.sets).given_up) (follows (going_on line) (step_after cards step))
+    ∙ ap (λ cs. start ++ ((played_text line cs step ++ given_up_text (layouts step.sets).given_up) ++ follows (going_on line) (step_after cs step))) is_card

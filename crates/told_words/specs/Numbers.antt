@@ -1,9 +1,8 @@
 -- The layouts behind a step, by their numbers.
-use Rattle.std.specs.Prelude.{ℕ, zero, suc, ◌+◌, ◌-◌, ◌&&◌, not, Bool, true, false, List, [], ◌∷◌, ◌++◌, take, length, codes, if◌then◌else◌}
+use Rattle.std.specs.Prelude.{ℕ, zero, suc, ◌+◌, ◌-◌, ◌&&◌, not, Bool, false, List, [], ◌∷◌, ◌++◌, take, length, codes, if◌then◌else◌}
 use Rattle.std.specs.List.{list_any}
 use Rattle.std.specs.Fmt.{decimal}
 use Rattle.win_vectors.specs.Fronts.{Vector}
-use Rattle.told_layouts.specs.declared.steps.StepLayouts.{StepLayouts}
 
 -- the bit at a place, which is counted from 0
 abbrev pub has_place : Vector → ℕ → Bool
@@ -41,13 +40,13 @@ layouts_text bits = numbers_upto bits (length bits)
 abbrev pub some_text : List ℕ → Vector → List ℕ
 some_text words bits = if has_one bits then words ++ layouts_text bits else []
 
-abbrev pub between : StepLayouts → List ℕ
-between layouts = if has_one layouts.won && has_one layouts.lost then codes "; " else []
+abbrev pub between : Vector → Vector → List ℕ
+between won lost = if has_one won && has_one lost then codes "; " else []
 
--- which layouts are made from a step, and which fail, as " (made in 1, 3; fails in 2)"
-abbrev pub outcome_text : StepLayouts → List ℕ
-outcome_text layouts = codes " (" ++ some_text (codes "made in ") layouts.won ++ between layouts ++ some_text (codes "fails in ") layouts.lost ++ codes ")"
+-- in which layouts the contract is made, and in which it fails, as " (made in 1, 3; fails in 2)"
+abbrev pub outcome_text : Vector → Vector → List ℕ
+outcome_text won lost = codes " (" ++ some_text (codes "made in ") won ++ between won lost ++ some_text (codes "fails in ") lost ++ codes ")"
 
--- which layouts the card that is played at a step gives up, as ", giving up 8 to 10"
-abbrev pub given_up_text : StepLayouts → List ℕ
-given_up_text layouts = some_text (codes ", giving up ") layouts.given_up
+-- which layouts are given up, as ", giving up 8 to 10"
+abbrev pub given_up_text : Vector → List ℕ
+given_up_text given_up = some_text (codes ", giving up ") given_up

@@ -1,5 +1,5 @@
 -- A told plan in words: lines of steps, and the lines of their branches indented below them.
-use Rattle.std.specs.Prelude.{ℕ, zero, suc, ◌+◌, min, Bool, true, false, Option, None, Some, List, [], ◌∷◌, ◌++◌, codes, if◌then◌else◌}
+use Rattle.std.specs.Prelude.{ℕ, zero, suc, ◌+◌, min, Bool, true, false, Option, None, Some, List, [], ◌++◌, codes, if◌then◌else◌}
 use Rattle.card_sets.specs.declared.seat.Compass.{Compass}
 use Rattle.card_sets.specs.declared.seat.Seat.{Seat}
 use Rattle.trick_rules.specs.Nodes.{NodeValue}
@@ -65,14 +65,14 @@ condition line cards step = indent line.depth ++ codes "If " ++ turn_text line.d
 
 -- the end of a line's front: which layouts are made from there, and which fail
 abbrev pub front_end : Layouts → StepValue → List ℕ
-front_end layouts step = outcome_text (layouts step.sets) ++ codes ":"
+front_end layouts step = outcome_text (layouts step.sets).won (layouts step.sets).lost ++ codes ":"
 
 abbrev mutual
   -- the rest of a line, and the lines below it; a card of declarer's side with the layouts that it gives up
   pub steps_text : Layouts → Told → Line → StepValue → List ℕ
   steps_text layouts ToldStop line step = before line ++ end_text step.places ++ codes ".\n"
   steps_text layouts (ToldPlay card rest) line step =
-      played_text line (and_card [] card) step ++ given_up_text (layouts step.sets)
+      played_text line (and_card [] card) step ++ given_up_text (layouts step.sets).given_up
       ++ next_text (steps_text layouts rest) (going_on line) (step_after (and_card [] card) step)
   steps_text layouts (ToldHear branches) line step =
       if is_one branches then one_text layouts branches line step else line_end line ++ branch_lines layouts branches (further_in line) step

@@ -1,18 +1,19 @@
 //! The layouts behind a step, in words.
-ghost use Rattle.std.specs.Prelude.{◌≡◌, ◌++◌, ◌<◌, OnOk};
-ghost use Rattle.std.specs.List.{list_any};
+ghost use Rattle.std.specs.Prelude.{◌≡◌, ◌++◌, ◌<◌, ◌||◌, OnOk};
 ghost use Rattle.told_words.specs.Numbers.{has_layout, has_one, number_text, layouts_text, some_text, between, outcome_text, given_up_text};
 
 use byte_text::Text;
 use std::alloc::{AllocError, Global};
-use told_layouts::StepLayouts;
 use win_vectors::WinVector;
 
 // Whether the layout of this number, from 1, is one of these.
 fn has_layout(layouts: WinVector, number: u16) -> bool
     ensures { result ≡ has_layout layouts number }
 {
-    number > 0 && number <= layouts.width() && layouts.get(number - 1)
+    if number == 0 || number > layouts.width() {
+        return false;
+    }
+    layouts.get(number - 1)
 }
 
 // Whether there is one.
@@ -48,6 +49,12 @@ fn push_number(
     out.push_number(alloc, u64::from(number))
 }
 
+fn either(one: bool, other: bool) -> bool
+    ensures { result ≡ (one || other) }
+{
+    one || other
+}
+
 // Appends the numbers of these layouts.
 fn push_layouts(out: &mut Text, alloc: Global, layouts: WinVector) -> Result<(), AllocError>
     ensures { OnOk result (out.new ≡ out.old ++ layouts_text layouts) }
@@ -55,7 +62,8 @@ fn push_layouts(out: &mut Text, alloc: Global, layouts: WinVector) -> Result<(),
     let mut begun = false;
     for place in 0..layouts.width() {
         push_number(out, alloc, layouts, begun, place + 1)?;
-        begun = begun || layouts.get(place);
+        let here = layouts.get(place);
+        begun = either(begun, here);
     }
     Ok(())
 }
@@ -77,37 +85,34 @@ fn push_some(
 }
 
 // Appends what stands between the layouts that are made and those that fail.
-fn push_between(out: &mut Text, layouts: StepLayouts) -> Result<(), AllocError>
-    ensures { OnOk result (out.new ≡ out.old ++ between layouts) }
+fn push_between(out: &mut Text, won: WinVector, lost: WinVector) -> Result<(), AllocError>
+    ensures { OnOk result (out.new ≡ out.old ++ between won lost) }
 {
-    if has_one(layouts.won) && has_one(layouts.lost) {
+    if has_one(won) && has_one(lost) {
         return out.push(b"; ");
     }
     Ok(())
 }
 
-/// Appends which layouts are made from a step, and which fail.
+/// Appends in which layouts the contract is made from a step, and in which it fails.
 pub fn push_outcome(
     out: &mut Text,
     alloc: Global,
-    layouts: StepLayouts,
+    won: WinVector,
+    lost: WinVector,
 ) -> Result<(), AllocError>
-    ensures { OnOk result (out.new ≡ out.old ++ outcome_text layouts) }
+    ensures { OnOk result (out.new ≡ out.old ++ outcome_text won lost) }
 {
     out.push(b" (")?;
-    push_some(out, alloc, b"made in ", layouts.won)?;
-    push_between(out, layouts)?;
-    push_some(out, alloc, b"fails in ", layouts.lost)?;
+    push_some(out, alloc, b"made in ", won)?;
+    push_between(out, won, lost)?;
+    push_some(out, alloc, b"fails in ", lost)?;
     out.push(b")")
 }
 
-/// Appends which layouts the card that is played at a step gives up, if it gives any up.
-pub fn push_given_up(
-    out: &mut Text,
-    alloc: Global,
-    layouts: StepLayouts,
-) -> Result<(), AllocError>
+/// Appends which layouts are given up, if there are any.
+pub fn push_given_up(out: &mut Text, alloc: Global, layouts: WinVector) -> Result<(), AllocError>
     ensures { OnOk result (out.new ≡ out.old ++ given_up_text layouts) }
 {
-    push_some(out, alloc, b", giving up ", layouts.given_up)
+    push_some(out, alloc, b", giving up ", layouts)
 }

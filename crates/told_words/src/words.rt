@@ -6,9 +6,9 @@ ghost use Rattle.strategy_tree.specs.PlanMeaning.{plan_of};
 ghost use Rattle.told_plans.specs.Told.{ToldStop, ToldPlay, ToldHear};
 ghost use Rattle.told_plans.specs.ToldMeaning.{told_of, branches_of};
 ghost use Rattle.told_layouts.specs.Looking.{step_layouts};
-ghost use Rattle.told_words.specs.Numbers.{outcome_text, given_up_text};
+ghost use Rattle.told_words.specs.Numbers.{given_up_text};
 ghost use Rattle.told_words.specs.Phrases.{end_text};
-ghost use Rattle.told_words.specs.Words.{before, played_text, condition, steps_text, next_text, branch_lines, told_text};
+ghost use Rattle.told_words.specs.Words.{before, line_end, winner_text, played_text, condition, front_end, steps_text, next_text, branch_lines, told_text};
 
 use crate::layouts::{push_given_up, push_outcome};
 use crate::lines::{Line, push_before, push_indent, push_line_end, push_winner};
@@ -16,7 +16,7 @@ use crate::phrases::{push_end, push_turn};
 use crate::steps::{Step, Strategy};
 use crate::turns::winner_at;
 use byte_text::Text;
-use card_sets::{Card, CardSet, Compass};
+use card_sets::{Card, CardSet, Compass, Seat};
 use dd_solver::Solver;
 use std::alloc::{AllocError, Global};
 use std::marker::Model;
@@ -91,8 +91,7 @@ impl Writer {
             begun: false,
         };
         self.push(b"Now")?;
-        self.push_outcome_at(strategy, &step)?;
-        self.push(b":")?;
+        self.push_front_end(strategy, &step)?;
         self.push_steps(strategy, line, told, &step)
     }
 
@@ -107,15 +106,16 @@ impl Writer {
         layouts_at(&mut self.solver, strategy.plan, strategy.node, &step.sets)
     }
 
-    // Appends which layouts are made from a step, and which fail.
-    fn push_outcome_at(&mut self, strategy: &Strategy, step: &Step) -> Result<(), AllocError>
+    // Appends the end of a line's front.
+    fn push_front_end(&mut self, strategy: &Strategy, step: &Step) -> Result<(), AllocError>
         requires { (moves : ℕ)
             × Fits bridge (plan_of strategy.now.plan.now) strategy.now.node.now moves }
-        ensures { OnOk result (self.new ≡ self.old ++ outcome_text
-            (step_layouts (plan_of strategy.now.plan.now) strategy.now.node.now step.now.sets)) }
+        ensures { OnOk result (self.new ≡ self.old ++ front_end
+            (step_layouts (plan_of strategy.now.plan.now) strategy.now.node.now) step.now) }
     {
         let layouts = self.layouts(strategy, step);
-        push_outcome(&mut self.text, self.alloc, layouts)
+        push_outcome(&mut self.text, self.alloc, layouts.won, layouts.lost)?;
+        self.push(b":")
     }
 
     // Appends which layouts the card at a step gives up.
@@ -123,10 +123,11 @@ impl Writer {
         requires { (moves : ℕ)
             × Fits bridge (plan_of strategy.now.plan.now) strategy.now.node.now moves }
         ensures { OnOk result (self.new ≡ self.old ++ given_up_text
-            (step_layouts (plan_of strategy.now.plan.now) strategy.now.node.now step.now.sets)) }
+            (step_layouts (plan_of strategy.now.plan.now) strategy.now.node.now
+            step.now.sets).given_up) }
     {
         let layouts = self.layouts(strategy, step);
-        push_given_up(&mut self.text, self.alloc, layouts)
+        push_given_up(&mut self.text, self.alloc, layouts.given_up)
     }
 
     // Appends the rest of a line, and the lines below it.
@@ -169,6 +170,20 @@ impl Writer {
         push_turn(&mut self.text, line.declarer, cards, &step.places)
     }
 
+    // Appends who won the trick, if it is known.
+    fn push_winner(&mut self, line: Line, winner: Option<Seat>) -> Result<(), AllocError>
+        ensures { OnOk result (self.new ≡ self.old ++ winner_text line winner) }
+    {
+        push_winner(&mut self.text, line, winner)
+    }
+
+    // Appends the end of a line.
+    fn end_line(&mut self, line: Line) -> Result<(), AllocError>
+        ensures { OnOk result (self.new ≡ self.old ++ line_end line) }
+    {
+        push_line_end(&mut self.text, line)
+    }
+
     // Appends a card of declarer's side, what it gives up, and what follows.
     #[cycle(steps)]
     fn push_play(
@@ -208,7 +223,7 @@ impl Writer {
             (told_of told.now)) line step.now) }
     {
         let winner = winner_at(&step.places);
-        push_winner(&mut self.text, line, winner)?;
+        self.push_winner(line, winner)?;
         self.push_steps(strategy, line.after_winner(winner), told, step)
     }
 
@@ -228,7 +243,7 @@ impl Writer {
             (ToldHear (branches_of branches.now)) line step.now) }
     {
         if branches.len() != 1 {
-            push_line_end(&mut self.text, line)?;
+            self.end_line(line)?;
             return self.push_branches(strategy, line.further_in(), branches, step);
         }
         let cards = branches[0].cards;
@@ -255,8 +270,7 @@ impl Writer {
         for branch in branches {
             let after = step.after(self.alloc, branch.cards)?;
             self.push_condition(line, branch.cards, step)?;
-            self.push_outcome_at(strategy, &after)?;
-            self.push(b":")?;
+            self.push_front_end(strategy, &after)?;
             self.push_next(strategy, line, &branch.plan, &after)?;
         }
         Ok(())
