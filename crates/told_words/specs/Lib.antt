@@ -3,3 +3,4 @@ pub mod Phrases
 pub mod Numbers
 pub mod Steps
 pub mod Words
+pub mod Strategies

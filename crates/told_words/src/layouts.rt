@@ -1,5 +1,6 @@
 //! The layouts behind a step, in words.
-ghost use Rattle.std.specs.Prelude.{◌≡◌, ◌++◌, ◌<◌, ◌||◌, OnOk};
+ghost use Rattle.std.specs.Prelude.{◌≡◌, ◌++◌, ◌≤◌, OnOk};
+ghost use Rattle.win_vectors.specs.Vectors.{most_layouts};
 ghost use Rattle.told_words.specs.Numbers.{has_layout, has_one, number_text, layouts_text, some_text, between, outcome_text, given_up_text};
 
 use byte_text::Text;
@@ -31,7 +32,7 @@ fn push_number(
     begun: bool,
     number: u16,
 ) -> Result<(), AllocError>
-    requires { number < 1000 }
+    requires { number ≤ most_layouts }
     ensures { OnOk result (out.new ≡ out.old ++ number_text layouts begun number) }
 {
     if !has_layout(layouts, number) {
@@ -49,12 +50,6 @@ fn push_number(
     out.push_number(alloc, u64::from(number))
 }
 
-fn either(one: bool, other: bool) -> bool
-    ensures { result ≡ (one || other) }
-{
-    one || other
-}
-
 // Appends the numbers of these layouts.
 fn push_layouts(out: &mut Text, alloc: Global, layouts: WinVector) -> Result<(), AllocError>
     ensures { OnOk result (out.new ≡ out.old ++ layouts_text layouts) }
@@ -62,8 +57,7 @@ fn push_layouts(out: &mut Text, alloc: Global, layouts: WinVector) -> Result<(),
     let mut begun = false;
     for place in 0..layouts.width() {
         push_number(out, alloc, layouts, begun, place + 1)?;
-        let here = layouts.get(place);
-        begun = either(begun, here);
+        begun |= layouts.get(place);
     }
     Ok(())
 }

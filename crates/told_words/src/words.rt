@@ -1,11 +1,8 @@
 //! A told plan in words.
-ghost use Rattle.std.specs.Prelude.{◌≡◌, ◌++◌, [], ℕ, codes, OnOk};
-ghost use Rattle.strategy_games.specs.Plans.{Fits};
-ghost use Rattle.strategy_tree.specs.Bridge.{bridge};
-ghost use Rattle.strategy_tree.specs.PlanMeaning.{plan_of};
+ghost use Rattle.std.specs.Prelude.{◌≡◌, ◌++◌, [], codes, OnOk};
 ghost use Rattle.told_plans.specs.Told.{ToldStop, ToldPlay, ToldHear};
 ghost use Rattle.told_plans.specs.ToldMeaning.{told_of, branches_of};
-ghost use Rattle.told_layouts.specs.Looking.{step_layouts};
+ghost use Rattle.told_words.specs.Strategies.{IsStrategy, layouts_of};
 ghost use Rattle.told_words.specs.Numbers.{given_up_text};
 ghost use Rattle.told_words.specs.Phrases.{end_text};
 ghost use Rattle.told_words.specs.Words.{before, line_end, winner_text, played_text, condition, front_end, steps_text, next_text, branch_lines, told_text};
@@ -78,11 +75,9 @@ impl Writer {
         strategy: &Strategy,
         told: &ToldPlan,
     ) -> Result<(), AllocError>
-        requires { (moves : ℕ)
-            × Fits bridge (plan_of strategy.now.plan.now) strategy.now.node.now moves }
+        requires { IsStrategy strategy.now }
         ensures { OnOk result (self.new ≡ self.old ++ told_text declarer
-            (step_layouts (plan_of strategy.now.plan.now) strategy.now.node.now)
-            (told_of told.now) strategy.now.node.now) }
+            (layouts_of strategy.now) (told_of told.now) strategy.now.node.now) }
     {
         let step = Step::first(self.alloc, strategy.node)?;
         let line = Line {
@@ -97,10 +92,8 @@ impl Writer {
 
     // The layouts behind a step.
     fn layouts(&mut self, strategy: &Strategy, step: &Step) -> StepLayouts
-        requires { (moves : ℕ)
-            × Fits bridge (plan_of strategy.now.plan.now) strategy.now.node.now moves }
-        ensures layouts { result
-            ≡ step_layouts (plan_of strategy.now.plan.now) strategy.now.node.now step.now.sets }
+        requires { IsStrategy strategy.now }
+        ensures layouts { result ≡ layouts_of strategy.now step.now.sets }
         ensures same { self.new ≡ self.old }
     {
         layouts_at(&mut self.solver, strategy.plan, strategy.node, &step.sets)
@@ -108,10 +101,9 @@ impl Writer {
 
     // Appends the end of a line's front.
     fn push_front_end(&mut self, strategy: &Strategy, step: &Step) -> Result<(), AllocError>
-        requires { (moves : ℕ)
-            × Fits bridge (plan_of strategy.now.plan.now) strategy.now.node.now moves }
-        ensures { OnOk result (self.new ≡ self.old ++ front_end
-            (step_layouts (plan_of strategy.now.plan.now) strategy.now.node.now) step.now) }
+        requires { IsStrategy strategy.now }
+        ensures { OnOk result (self.new ≡ self.old
+            ++ front_end (layouts_of strategy.now) step.now) }
     {
         let layouts = self.layouts(strategy, step);
         push_outcome(&mut self.text, self.alloc, layouts.won, layouts.lost)?;
@@ -120,11 +112,9 @@ impl Writer {
 
     // Appends which layouts the card at a step gives up.
     fn push_given_up_at(&mut self, strategy: &Strategy, step: &Step) -> Result<(), AllocError>
-        requires { (moves : ℕ)
-            × Fits bridge (plan_of strategy.now.plan.now) strategy.now.node.now moves }
-        ensures { OnOk result (self.new ≡ self.old ++ given_up_text
-            (step_layouts (plan_of strategy.now.plan.now) strategy.now.node.now
-            step.now.sets).given_up) }
+        requires { IsStrategy strategy.now }
+        ensures { OnOk result (self.new ≡ self.old
+            ++ given_up_text (layouts_of strategy.now step.now.sets).given_up) }
     {
         let layouts = self.layouts(strategy, step);
         push_given_up(&mut self.text, self.alloc, layouts.given_up)
@@ -139,11 +129,9 @@ impl Writer {
         told: &ToldPlan,
         step: &Step,
     ) -> Result<(), AllocError>
-        requires { (moves : ℕ)
-            × Fits bridge (plan_of strategy.now.plan.now) strategy.now.node.now moves }
-        ensures { OnOk result (self.new ≡ self.old ++ steps_text
-            (step_layouts (plan_of strategy.now.plan.now) strategy.now.node.now)
-            (told_of told.now) line step.now) }
+        requires { IsStrategy strategy.now }
+        ensures { OnOk result (self.new ≡ self.old
+            ++ steps_text (layouts_of strategy.now) (told_of told.now) line step.now) }
     {
         match told {
             ToldPlan::Stop => self.push_stop(line, step),
@@ -194,11 +182,9 @@ impl Writer {
         rest: &ToldPlan,
         step: &Step,
     ) -> Result<(), AllocError>
-        requires { (moves : ℕ)
-            × Fits bridge (plan_of strategy.now.plan.now) strategy.now.node.now moves }
+        requires { IsStrategy strategy.now }
         ensures { OnOk result (self.new ≡ self.old ++ steps_text
-            (step_layouts (plan_of strategy.now.plan.now) strategy.now.node.now)
-            (ToldPlay card (told_of rest.now)) line step.now) }
+            (layouts_of strategy.now) (ToldPlay card (told_of rest.now)) line step.now) }
     {
         let cards = CardSet::empty().with(card);
         self.push_played(line, cards, step)?;
@@ -216,11 +202,9 @@ impl Writer {
         told: &ToldPlan,
         step: &Step,
     ) -> Result<(), AllocError>
-        requires { (moves : ℕ)
-            × Fits bridge (plan_of strategy.now.plan.now) strategy.now.node.now moves }
-        ensures { OnOk result (self.new ≡ self.old ++ next_text (steps_text
-            (step_layouts (plan_of strategy.now.plan.now) strategy.now.node.now)
-            (told_of told.now)) line step.now) }
+        requires { IsStrategy strategy.now }
+        ensures { OnOk result (self.new ≡ self.old ++ next_text
+            (steps_text (layouts_of strategy.now) (told_of told.now)) line step.now) }
     {
         let winner = winner_at(&step.places);
         self.push_winner(line, winner)?;
@@ -236,11 +220,9 @@ impl Writer {
         branches: &[Branch],
         step: &Step,
     ) -> Result<(), AllocError>
-        requires { (moves : ℕ)
-            × Fits bridge (plan_of strategy.now.plan.now) strategy.now.node.now moves }
+        requires { IsStrategy strategy.now }
         ensures { OnOk result (self.new ≡ self.old ++ steps_text
-            (step_layouts (plan_of strategy.now.plan.now) strategy.now.node.now)
-            (ToldHear (branches_of branches.now)) line step.now) }
+            (layouts_of strategy.now) (ToldHear (branches_of branches.now)) line step.now) }
     {
         if branches.len() != 1 {
             self.end_line(line)?;
@@ -261,11 +243,9 @@ impl Writer {
         branches: &[Branch],
         step: &Step,
     ) -> Result<(), AllocError>
-        requires { (moves : ℕ)
-            × Fits bridge (plan_of strategy.now.plan.now) strategy.now.node.now moves }
+        requires { IsStrategy strategy.now }
         ensures { OnOk result (self.new ≡ self.old ++ branch_lines
-            (step_layouts (plan_of strategy.now.plan.now) strategy.now.node.now)
-            (branches_of branches.now) line step.now) }
+            (layouts_of strategy.now) (branches_of branches.now) line step.now) }
     {
         for branch in branches {
             let after = step.after(self.alloc, branch.cards)?;

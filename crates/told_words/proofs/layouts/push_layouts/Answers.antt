@@ -1,4 +1,3 @@
-use Rattle.std.proofs.Common.{◌∙◌}
 use Rattle.told_words.proofs.Numbered.{begun_more, numbers_more}
 use Rattle.told_words.proofs.layouts.push_layouts.Goals as goal
 
@@ -8,5 +7,5 @@ loop-place-preserved c =
     let i = c.loop-place.place in
     record {
       so_far = numbers_more bits i c.loop-place.begun c.args.out.now c.loop-place.out c.push_number.new.out c.loop-place.invariant.begun c.loop-place.invariant.so_far c.in_ok-push_number.ensures;
-      begun = c.either-begun.ensures ∙ begun_more bits i c.get-here.result c.loop-place.begun c.get-here.ensures c.loop-place.invariant.begun;
+      begun = begun_more bits i c.get-begun.result c.loop-place.begun c.get-begun.ensures c.loop-place.invariant.begun;
     }

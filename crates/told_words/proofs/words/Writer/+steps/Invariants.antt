@@ -1,7 +1,6 @@
 use Rattle.std.proofs.Common.{◌≡◌, ◌≤◌, ◌++◌, ◌+◌, ◌*◌, drop}
-use Rattle.strategy_tree.specs.PlanMeaning.{plan_of}
 use Rattle.told_plans.specs.ToldMeaning.{told_of, branches_of}
-use Rattle.told_layouts.specs.Looking.{step_layouts}
+use Rattle.told_words.specs.Strategies.{layouts_of}
 use Rattle.told_words.specs.Words.{branch_lines}
 use Rattle.told_words.proofs.Sizes.{size, sizes}
 use Rattle.told_words.proofs.words.Writer.+steps.Given as goal
@@ -23,7 +22,7 @@ decreases-push_branches l = 4 * sizes (branches_of l.branches.now) + 2
 
 abbrev pub invariant-push_branches-loop-branch : goal.invariant-push_branches-loop-branch
 invariant-push_branches-loop-branch l =
-    let layouts = step_layouts (plan_of l.strategy.plan.now) l.strategy.node.now in
+    let layouts = layouts_of l.strategy in
     record {
       so_far : l.self ++ branch_lines layouts (branches_of (drop l.branch-index l.branches)) l.line l.step ≡ l.initial.self ++ branch_lines layouts (branches_of l.branches) l.line l.step;
       fewer : sizes (branches_of (drop l.branch-index l.branches)) ≤ sizes (branches_of l.branches);
