@@ -74,7 +74,7 @@ wins_reply (Reply c q rs) s card among legal won = go (c == card) refl (λ later
 
 -- ---- the card that keeps the result
 
-kept_by : (p : ℕ → Bool) (xs : List ℕ) (other : Option ℕ) (card : ℕ) → list_any p xs ≡ true → or_else (find p xs) other ≡ Some card → p card ≡ true
+pub kept_by : (p : ℕ → Bool) (xs : List ℕ) (other : Option ℕ) (card : ℕ) → list_any p xs ≡ true → or_else (find p xs) other ≡ Some card → p card ≡ true
 kept_by p [] other card some is = absurd (false≢true some)
 kept_by p (x ∷ xs) other card some is = go (p x) refl some is (λ later kept. kept_by p xs other card later kept)
   where
@@ -85,7 +85,7 @@ kept_by p (x ∷ xs) other card some is = go (p x) refl some is (λ later kept. 
 
 -- ---- whose turn it is
 
-played_by_us : (card : ℕ) (rest : Plan ℕ) (s : State) → CanFollow (Play card rest) s → is_declarers (to_play s.position) ≡ true
+pub played_by_us : (card : ℕ) (rest : Plan ℕ) (s : State) → CanFollow (Play card rest) s → is_declarers (to_play s.position) ≡ true
 played_by_us card rest s f = go f.moves f.fits
   where
     go : (moves : ℕ) → Fits bridge (Play card rest) f.node moves → is_declarers (to_play s.position) ≡ true
@@ -137,36 +137,44 @@ win_next (Play c q) s table card f live next won =
 win_next (Hear rs) s table card f live next won =
     wins_reply rs s card (heard_choice rs s card f next.legal) next.legal won
 
--- at the end the plan has stopped, so what it wins is made
-pub made_at_the_end : (plan : Plan ℕ) (s : State) → CanFollow plan s → is_over s.position ≡ true → wins bridge plan s ≡ true
-    → (s.position.need == 0) ≡ true
-made_at_the_end Stop s f over won = sym (play.makes_at_the_end s over) ∙ sym (wins-Stop s) ∙ won
-made_at_the_end (Play c q) s f over won = absurd (go f.moves f.fits)
+-- at the end the plan has stopped
+pub stopped_at_the_end : (plan : Plan ℕ) (s : State) → CanFollow plan s → is_over s.position ≡ true → plan ≡ Stop
+stopped_at_the_end Stop s f over = refl
+stopped_at_the_end (Play c q) s f over = absurd (go f.moves f.fits)
   where
     go : (moves : ℕ) → Fits bridge (Play c q) f.node moves → ⊥
     go zero h = h
     go (suc m) h = false≢true (sym (going_on f.node.position h.0) ∙ sym (ap (λ t. is_over t) (table_of f.node s f.among)) ∙ over)
-made_at_the_end (Hear rs) s f over won = absurd (go f.moves f.fits)
+stopped_at_the_end (Hear rs) s f over = absurd (go f.moves f.fits)
   where
     go : (moves : ℕ) → Fits bridge (Hear rs) f.node moves → ⊥
     go zero h = false≢true (sym h.0)
     go (suc m) h = false≢true (sym (going_on f.node.position h.0) ∙ sym (ap (λ t. is_over t) (table_of f.node s f.among)) ∙ over)
 
+-- so it wins what is made
+pub wins_at_the_end : (plan : Plan ℕ) (s : State) → CanFollow plan s → is_over s.position ≡ true → (s.position.need == 0) ≡ wins bridge plan s
+wins_at_the_end plan s f over =
+    sym (play.makes_at_the_end s over) ∙ sym (wins-Stop s) ∙ ap (λ (p : Plan ℕ). wins bridge p s) (sym (stopped_at_the_end plan s f over))
+
+pub made_at_the_end : (plan : Plan ℕ) (s : State) → CanFollow plan s → is_over s.position ≡ true → wins bridge plan s ≡ true
+    → (s.position.need == 0) ≡ true
+made_at_the_end plan s f over won = wins_at_the_end plan s f over ∙ won
+
 -- ---- which card is next
 
 -- the card that keeps the result is legal
-kept_is_legal : (found : Option ℕ) (p : ℕ → Bool) (xs : List ℕ) (card : ℕ) → find p xs ≡ found → or_else found (first_card xs) ≡ Some card → has_card xs card ≡ true
+pub kept_is_legal : (found : Option ℕ) (p : ℕ → Bool) (xs : List ℕ) (card : ℕ) → find p xs ≡ found → or_else found (first_card xs) ≡ Some card → has_card xs card ≡ true
 kept_is_legal None p xs card is kept = (find-holds (λ _. true) xs card kept).0
 kept_is_legal (Some c) p xs card is kept = (find-holds p xs card (is ∙ kept)).0
 
 pub keeping_is_legal : (s : State) (card : ℕ) → keeping_card s ≡ Some card → has_card (legal_in s) card ≡ true
 keeping_is_legal s card kept = kept_is_legal (find (λ c. makes (after s c)) (legal_in s)) (λ c. makes (after s c)) (legal_in s) card refl kept
 
-none_kept : (found : Option ℕ) (xs : List ℕ) → or_else found (first_card xs) ≡ None → xs ≡ []
+pub none_kept : (found : Option ℕ) (xs : List ℕ) → or_else found (first_card xs) ≡ None → xs ≡ []
 none_kept None xs none = first_card-none xs none
 none_kept (Some c) xs none = cc
 
-no_card : (xs : List ℕ) (card : ℕ) → xs ≡ [] → has_card xs card ≡ true → ⊥
+pub no_card : (xs : List ℕ) (card : ℕ) → xs ≡ [] → has_card xs card ≡ true → ⊥
 no_card xs card none holds = false≢true (sym (ap (λ cs. has_card cs card) none) ∙ holds)
 
 -- until play is over there is such a card, and the hand of the seat to play has one

@@ -16,7 +16,7 @@ use Rattle.am_match.specs.PlayOuts.{plan_after, state_after, GoesOn, Follows}
 use Rattle.am_match.proofs.OneCard.{follow_next, win_next, made_at_the_end}
 
 -- where a card may be played, play isn't over
-going_on : (s : State) (card : ℕ) → IsState s → has_card (legal_in s) card ≡ true → is_over s.position ≡ false
+pub going_on : (s : State) (card : ℕ) → IsState s → has_card (legal_in s) card ≡ true → is_over s.position ≡ false
 going_on s card state legal = go (is_over s.position) refl
   where
     none_left : tricks_left s.position ≡ 0 → ⊥

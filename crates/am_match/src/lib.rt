@@ -13,6 +13,7 @@ mod seats;
 mod styles;
 
 pub use defender::Defender;
+pub use following::{card_by_plan, rest_after};
 pub use playing::{PlayOut, play_out};
 pub use seats::Swap;
 pub use styles::{HighCard, LowCard};

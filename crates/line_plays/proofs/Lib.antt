@@ -1,0 +1,2 @@
+pub mod OneDefence
+pub mod Shown
