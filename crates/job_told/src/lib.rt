@@ -5,4 +5,4 @@
 
 mod telling;
 
-pub use telling::tell_report;
+pub use telling::{good_report, tell_report};

@@ -15,9 +15,9 @@ use job_check::check_report;
 use std::alloc::Global;
 use told_report::tell_strategies;
 
-// A report whose plans are all good.
+/// A report at a root. It is judged first, and refused as `check` refuses it.
 #[tactic(auto, unfolding(am_answer::specs::Answers::task_at, am_answer::specs::Judging::plans_in))]
-fn good_report(alloc: Global, root: &Root, bytes: &Text) -> Result<ReadReport, Status>
+pub fn good_report(alloc: Global, root: &Root, bytes: &Text) -> Result<ReadReport, Status>
     requires weighed { length root.now.kept.weights ≡ length root.now.kept.node.lefts }
     requires short { length bytes.now < 2 ^ 32 - 1 }
     ensures read { IfOk result (λ report. report_read bytes.now ≡ Ok (report_of report)) }
