@@ -1,12 +1,12 @@
 """The man page of alphamu and alphamu_study, made from the pages for users: what alphamu is and its jobs from README.md, options,
-refusals and statuses from docs/REFUSALS.md, the first question and the strategies in words from docs/USING.md. So each thing is said
-in one place."""
+refusals and statuses from docs/REFUSALS.md, the first question and the strategies in words and as games from docs/USING.md. So each
+thing is said in one place."""
 import re
 
 TITLE, SECTION = re.compile(r"^# "), re.compile(r"^## (.*)$")
 BULLET = "\\(bu"
-# The files that alphamu_study is given.
-STUDY = ("deal", "layouts", "report")
+# The jobs of alphamu_study, and the files that it is given.
+STUDY_JOBS, STUDY = ("words", "lines"), ("deal", "layouts", "report")
 
 
 def escaped(text):
@@ -118,16 +118,19 @@ def synopsis(jobs):
             words.append("[\\fISEARCH OPTIONS\\fR]")
         out += [" ".join(words), ".br"]
     flags = [f"[\\fB\\-\\-{escaped(it)}\\fR" + ("]" if it in jobs.FLAGS else " \\fIN\\fR]") for it in jobs.SEARCH]
-    study = " ".join(["\\fBalphamu_study \\-\\-job words\\fR", *(f"\\fB\\-\\-{it}\\fR \\fIFILE\\fR" for it in STUDY)])
-    return [*out, study, ".PP", "The search options are", " ".join(flags)]
+    files = [f"\\fB\\-\\-{it}\\fR \\fIFILE\\fR" for it in STUDY]
+    for job in STUDY_JOBS:
+        out += [" ".join([f"\\fBalphamu_study \\-\\-job {job}\\fR", *files]), ".br"]
+    return [*out[:-1], ".PP", "The search options are", " ".join(flags)]
 
 
 def page(readme, refusals, using, jobs, version):
     """The man page as text."""
     what = readme[:readme.index("## ")]
-    first, words = (section(using, it).replace("./alphamu", "alphamu") for it in ("A first question", "The strategies in words"))
+    first, words, games = (section(using, it).replace("./alphamu", "alphamu").replace("    ./study", "    alphamu_study")
+                           for it in ("A first question", "The strategies in words", "The strategies as games"))
     # Whoever has the man page has the program.
-    words = re.sub(r" A package has it .*", "", words).replace("    ./study", "    alphamu_study")
+    words = re.sub(r" A package has it .*", "", words)
     words = re.sub(r" `\./study` runs .*", "", words)
     refusals = refusals[refusals.index("\n## "):]
     out = [
@@ -139,6 +142,7 @@ def page(readme, refusals, using, jobs, version):
         *converted(refusals),
         ".SH EXAMPLE", *converted(first),
         ".SH THE STRATEGIES IN WORDS", *converted(words),
+        ".SH THE STRATEGIES AS GAMES", *converted(games),
         ".SH SEE ALSO", *converted("The pages and the files of the examples are in `share/doc/alphamu` beside this page's folder: "
                                    "begin with `docs/USING.md`. Run the commands of the pages in that folder."),
     ]

@@ -14,7 +14,7 @@ use Rattle.am_match.specs.Defences.{Sitter}
 use Rattle.am_match.specs.PlayOuts.{plan_after, state_after, GoesOn, Follows}
 use Rattle.am_match.proofs.OneCard.{follow_next, wins_at_the_end}
 use Rattle.am_match.proofs.WonLines.{going_on}
-use Rattle.line_plays.specs.Defended.{IsNextCard, GoesOnSo, IsPlayedOut}
+use Rattle.line_plays.specs.Defended.{IsNextCard, GoesOnSo, PlaysOut}
 use Rattle.line_plays.proofs.OneDefence.{as_next, win_same}
 
 -- ---- the laws
@@ -26,7 +26,7 @@ shows plan s (card ∷ cards) follow goes over =
     shows (plan_after plan card) (after s card) cards (follow_next plan s [] card follow (as_next plan s card goes.0)) goes.1 over
     ∙ win_same plan s card follow (going_on s card (followed_state plan s follow) goes.0.legal) goes.0
 
-pub made_exactly_if_won : (plan : Plan ℕ) (s : State) (cards : List ℕ) → CanFollow plan s → IsPlayedOut plan s cards
+pub made_exactly_if_won : (plan : Plan ℕ) (s : State) (cards : List ℕ) → CanFollow plan s → PlaysOut plan s cards
     → ((state_after s cards).position.need == 0) ≡ wins bridge plan s
 made_exactly_if_won plan s cards follow played = shows plan s cards follow played.each played.ended
 
@@ -34,14 +34,14 @@ each_follows : (plan : Plan ℕ) (s : State) (number : ℕ) (cards : List ℕ) �
 each_follows plan s number [] goes = tt
 each_follows plan s number (card ∷ cards) goes = (as_next plan s card goes.0, each_follows (plan_after plan card) (after s card) (suc number) cards goes.1)
 
-pub it_follows_the_plan : (plan : Plan ℕ) (s : State) (cards : List ℕ) → IsPlayedOut plan s cards → Follows plan s (λ number. []) cards
+pub it_follows_the_plan : (plan : Plan ℕ) (s : State) (cards : List ℕ) → PlaysOut plan s cards → Follows plan s (λ number. []) cards
 it_follows_the_plan plan s cards played = record { each = each_follows plan s 1 cards played.each; ended = played.ended }
 
 -- ---- on the way
 
 -- some cards, where they lead, and what is left of the plan there
 pub record IsUnderWay (plan : Plan ℕ) (start : State) (cards : List ℕ) (rest : Plan ℕ) (s : State) : Type 0 where
-  pub whole : (more : List ℕ) → IsPlayedOut rest s more → IsPlayedOut plan start (cards ++ more)
+  pub whole : (more : List ℕ) → PlaysOut rest s more → PlaysOut plan start (cards ++ more)
   pub follow : CanFollow rest s
   pub same : wins bridge rest s ≡ wins bridge plan start
   pub few : length cards + cards_left s.position ≤ 52
@@ -62,7 +62,7 @@ goes_on plan start cards rest s card way live next =
     let fewer = play.a_card_leaves_one_fewer s.position card state.sound (play.a_legal_card_can_be_played s card state next.legal) in
     record {
       whole = λ more played.
-          subst (λ (all : List ℕ). IsPlayedOut plan start all) (sym (append_assoc cards (card ∷ []) more))
+          subst (λ (all : List ℕ). PlaysOut plan start all) (sym (append_assoc cards (card ∷ []) more))
           (way.whole (card ∷ more) (record { each = (next, played.each); ended = played.ended }));
       follow = follow_next rest s [] card way.follow (as_next rest s card next);
       same = win_same rest s card way.follow live next ∙ way.same;
@@ -76,8 +76,8 @@ room plan start cards rest s card way legal =
     omega (arith, way.few, play.a_card_leaves_one_fewer s.position card state.sound (play.a_legal_card_can_be_played s card state legal))
 
 pub ended : (plan : Plan ℕ) (start : State) (cards : List ℕ) (rest : Plan ℕ) (s : State) → IsUnderWay plan start cards rest s → is_over s.position ≡ true
-    → IsPlayedOut plan start cards × ((s.position.need == 0) ≡ wins bridge plan start)
+    → PlaysOut plan start cards × ((s.position.need == 0) ≡ wins bridge plan start)
 ended plan start cards rest s way over = (
-  subst (λ (all : List ℕ). IsPlayedOut plan start all) (append-nil cards) (way.whole [] (record { each = tt; ended = over })),
+  subst (λ (all : List ℕ). PlaysOut plan start all) (append-nil cards) (way.whole [] (record { each = tt; ended = over })),
   wins_at_the_end rest s way.follow over ∙ way.same,
 )

@@ -24,6 +24,6 @@ GoesOnSo plan s [] = ⊤
 GoesOnSo plan s (card ∷ cards) = IsNextCard plan s card × GoesOnSo (plan_after plan card) (after s card) cards
 
 -- cards from a state to the end of play
-pub record IsPlayedOut (plan : Plan ℕ) (s : State) (cards : List ℕ) : Type 0 where
+pub record PlaysOut (plan : Plan ℕ) (s : State) (cards : List ℕ) : Type 0 where
   pub each : GoesOnSo plan s cards
   pub ended : is_over (state_after s cards).position ≡ true

@@ -5,7 +5,7 @@ ghost use Rattle.strategy_games.specs.Plans.{wins};
 ghost use Rattle.strategy_tree.specs.Bridge.{bridge};
 ghost use Rattle.strategy_tree.specs.PlanMeaning.{plan_of};
 ghost use Rattle.strategy_check.specs.Following.{CanFollow};
-ghost use Rattle.line_plays.specs.Defended.{IsNextCard, IsPlayedOut};
+ghost use Rattle.line_plays.specs.Defended.{IsNextCard, PlaysOut};
 
 use crate::defending::beating_card;
 use am_match::{PlayOut, card_by_plan, rest_after};
@@ -45,7 +45,7 @@ pub fn play_against_best_defence(
     left: CardSet,
 ) -> PlayOut
     requires { CanFollow (plan_of plan.now) (record { position = position.now; left = left }) }
-    ensures cards { IsPlayedOut (plan_of plan.now)
+    ensures cards { PlaysOut (plan_of plan.now)
         (record { position = position.now; left = left }) result.cards }
     ensures made { result.made ≡ wins bridge (plan_of plan.now)
         (record { position = position.now; left = left }) }

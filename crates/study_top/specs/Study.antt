@@ -1,5 +1,5 @@
 -- What a study is asked, and what comes of it.
-use Rattle.std.specs.Prelude.{◌≡◌, ◌⊎◌, ◌&&◌, not, ℕ, Bool, true, false, List, [], ◌∷◌, codes, Ok, bytes_eq, if◌then◌else◌}
+use Rattle.std.specs.Prelude.{◌≡◌, ◌⊎◌, ◌&&◌, not, ℕ, Bool, true, false, List, [], ◌∷◌, codes, Ok, Option, None, Some, bytes_eq, if◌then◌else◌}
 use Rattle.am_outside.specs.Shelf.{Files}
 use Rattle.job_words.specs.declared.asks.Ask.TheVariants as asks
 use Rattle.job_words.specs.declared.asks.LayoutsJob.TheVariants as jobs
@@ -10,16 +10,52 @@ use Rattle.am_answer.specs.Answers.{root_in, task_at}
 use Rattle.am_answer.specs.Files.{InputsValue, inputs_read}
 use Rattle.am_answer.specs.Stages.{IsReadRefusal, IsFileRefusal}
 use Rattle.job_told.specs.ToldJob.{IsToldReport}
+use Rattle.job_lines.specs.LinesJob.{IsLinesReport}
+use Rattle.study_top.specs.declared.job.StudyJob.{StudyJob}
+use Rattle.study_top.specs.declared.job.StudyJob.TheVariants.{Words, Lines}
 
--- `words` stands for `check`, and no other word names a job
-abbrev pub check_word : Bool → List ℕ → List ℕ
-check_word false word = word
-check_word true word = if bytes_eq word (codes "words") then codes "check" else []
+-- ---- the words
 
--- the words of `check` for those of a study; the first of them may name a job
-abbrev pub as_check : Bool → List (List ℕ) → List (List ℕ)
-as_check names_job [] = []
-as_check names_job (word ∷ words) = check_word names_job word ∷ as_check (not names_job && bytes_eq word (codes "--job")) words
+-- the job that a word names
+abbrev pub job_named : List ℕ → Option StudyJob
+job_named word = if bytes_eq word (codes "words") then Some Words else if bytes_eq word (codes "lines") then Some Lines else None
+
+-- the job that the word after the first `--job` names; the first of these words may be that one
+abbrev pub job_after : Bool → List (List ℕ) → Option StudyJob
+job_after names_job [] = None
+job_after true (word ∷ words) = job_named word
+job_after false (word ∷ words) = job_after (bytes_eq word (codes "--job")) words
+
+-- the job of a study
+abbrev pub job_of : List (List ℕ) → Option StudyJob
+job_of words = job_after false words
+
+-- the job of `alphamu` that reads what a job of a study reads; no other word names one
+abbrev pub base_word : Option StudyJob → List ℕ
+base_word (Some Words) = codes "check"
+base_word (Some Lines) = codes "check"
+base_word None = []
+
+-- a word of a study, as that job of `alphamu` has it
+abbrev pub asked_word : Bool → List ℕ → List ℕ
+asked_word false word = word
+asked_word true word = base_word (job_named word)
+
+-- words, the first of which may name a job
+abbrev pub asked_after : Bool → List (List ℕ) → List (List ℕ)
+asked_after names_job [] = []
+asked_after names_job (word ∷ words) = asked_word names_job word ∷ asked_after (not names_job && bytes_eq word (codes "--job")) words
+
+-- the words of a study, as those of a job of `alphamu`
+abbrev pub asked_by : List (List ℕ) → List (List ℕ)
+asked_by words = asked_after false words
+
+-- ---- what comes of it
+
+-- what is told of a report at the root of its files
+abbrev pub IsTold : StudyJob → List ℕ → Root → List ℕ → List ℕ → Type 0
+IsTold Words deal root report text = IsToldReport root report text
+IsTold Lines deal root report text = IsLinesReport deal root report text
 
 -- the files lead to no root, or `check` refuses the report at their root
 abbrev pub IsFilesRefusal : List ℕ → List ℕ → List ℕ → Status → Type 0
@@ -27,23 +63,24 @@ IsFilesRefusal deal layouts report status =
     IsFileRefusal (root_in deal layouts) status
     ⊎ ((root : Root) × (root_in deal layouts ≡ Ok root) × IsFileRefusal (task_at root (jobs.Check report)) status)
 
--- what is told of a report at the root of its files; only `check` is turned into words
-abbrev pub IsTextOf : InputsValue → List ℕ → Type 0
-IsTextOf (asks.OnLayouts deal layouts (jobs.Check report)) text = (root : Root) × (root_in deal layouts ≡ Ok root) × IsToldReport root report text
-IsTextOf _ text = ⊥
+-- what a study's job tells of what was read
+abbrev pub IsTextOf : Option StudyJob → InputsValue → List ℕ → Type 0
+IsTextOf (Some job) (asks.OnLayouts deal layouts (jobs.Check report)) text = (root : Root) × (root_in deal layouts ≡ Ok root) × IsTold job deal root report text
+IsTextOf _ _ text = ⊥
 
--- why nothing is told of what was read
-abbrev pub IsRefusalOf : InputsValue → Status → Type 0
-IsRefusalOf (asks.OnLayouts deal layouts (jobs.Check report)) status = IsFilesRefusal deal layouts report status
-IsRefusalOf _ status = status ≡ BadWords
+-- why it tells nothing of it
+abbrev pub IsRefusalOf : Option StudyJob → InputsValue → Status → Type 0
+IsRefusalOf (Some job) (asks.OnLayouts deal layouts (jobs.Check report)) status = IsFilesRefusal deal layouts report status
+IsRefusalOf _ _ status = status ≡ BadWords
 
--- the text of a study: the words of `check` name files, and this is told of them
+-- the text of a study: its words name files, and its job tells this of them
 pub record IsStudyText (words : List (List ℕ)) (files : Files) (text : List ℕ) : Type 0 where
   pub inputs : InputsValue
-  pub asked : inputs_read words files ≡ Ok inputs
-  pub told : IsTextOf inputs text
+  pub asked : inputs_read (asked_by words) files ≡ Ok inputs
+  pub told : IsTextOf (job_of words) inputs text
 
 -- why there is none: the words or the files can't be read, or nothing is told of them
 abbrev pub IsStudyRefusal : List (List ℕ) → Files → Status → Type 0
 IsStudyRefusal words files status =
-    IsReadRefusal (inputs_read words files) status ⊎ ((inputs : InputsValue) × (inputs_read words files ≡ Ok inputs) × IsRefusalOf inputs status)
+    IsReadRefusal (inputs_read (asked_by words) files) status
+    ⊎ ((inputs : InputsValue) × (inputs_read (asked_by words) files ≡ Ok inputs) × IsRefusalOf (job_of words) inputs status)

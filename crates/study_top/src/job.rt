@@ -1,0 +1,73 @@
+//! The jobs of a study, and its words as those of `alphamu`.
+ghost use Rattle.std.specs.Prelude.{◌≡◌, IfOk, string_bytes};
+ghost use Rattle.job_words.specs.Asks.{texts_of};
+ghost use Rattle.study_top.specs.Study.{job_named, job_of, base_word, asked_word, asked_by};
+
+use std::alloc::{AllocError, Global};
+
+/// What a study tells of a report.
+#[derive(Clone, Copy, Debug, PartialEq, Eq)]
+pub enum StudyJob {
+    /// Its strategies in the words of bridge.
+    Words,
+    /// Its strategies as PBN games, each played out in each kept layout.
+    Lines,
+}
+
+// The job that a word names.
+fn job_named(word: &str) -> Option<StudyJob>
+    ensures { result ≡ job_named word.now }
+{
+    match word {
+        "words" => Some(StudyJob::Words),
+        "lines" => Some(StudyJob::Lines),
+        _ => None,
+    }
+}
+
+/// The job of a study: what the word after the first `--job` names.
+pub fn job_of(words: &[String]) -> Option<StudyJob>
+    ensures { result ≡ job_of (texts_of words.now) }
+{
+    let mut names_job = false;
+    for word in words {
+        if names_job {
+            return job_named(word.as_str());
+        }
+        names_job = word.as_str() == "--job";
+    }
+    None
+}
+
+// The job of `alphamu` that reads what a job of a study reads.
+fn base_word(job: Option<StudyJob>) -> &'static str
+    ensures { result.now ≡ base_word job }
+{
+    match job {
+        Some(StudyJob::Words) | Some(StudyJob::Lines) => "check",
+        None => "",
+    }
+}
+
+fn asked_word(alloc: Global, names_job: bool, word: &str) -> Result<String, AllocError>
+    ensures { IfOk result (λ text. string_bytes text ≡ asked_word names_job word.now) }
+{
+    if names_job {
+        String::from_str(alloc, base_word(job_named(word)))
+    } else {
+        String::from_str(alloc, word)
+    }
+}
+
+/// The words of a study, with the job of `alphamu` that reads the same in place of its own.
+pub fn asked_by(alloc: Global, words: &[String]) -> Result<Vec<String>, AllocError>
+    ensures { IfOk result (λ asked. texts_of asked.items ≡ asked_by (texts_of words.now)) }
+{
+    let mut asked = Vec::new(alloc);
+    let mut names_job = false;
+    for word in words {
+        asked.push(asked_word(alloc, names_job, word.as_str())?)?;
+        names_job = !names_job && word.as_str() == "--job";
+    }
+    Ok(asked)
+}
