@@ -8,8 +8,8 @@ use Rattle.told_words.specs.declared.steps.Strategy.{Strategy}
 use Rattle.told_words.specs.Words.{Layouts}
 
 -- its plan fits its node, with some number of moves
-abbrev pub IsStrategy : Strategy → Type 0
-IsStrategy strategy = (moves : ℕ) × Fits bridge (plan_of strategy.plan.now) strategy.node.now moves
+abbrev pub FitsItsNode : Strategy → Type 0
+FitsItsNode strategy = (moves : ℕ) × Fits bridge (plan_of strategy.plan.now) strategy.node.now moves
 
 -- the layouts behind each of its steps
 abbrev pub layouts_of : Strategy → Layouts

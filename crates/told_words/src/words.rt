@@ -2,7 +2,7 @@
 ghost use Rattle.std.specs.Prelude.{◌≡◌, ◌++◌, [], codes, OnOk};
 ghost use Rattle.told_plans.specs.Told.{ToldStop, ToldPlay, ToldHear};
 ghost use Rattle.told_plans.specs.ToldMeaning.{told_of, branches_of};
-ghost use Rattle.told_words.specs.Strategies.{IsStrategy, layouts_of};
+ghost use Rattle.told_words.specs.Strategies.{FitsItsNode, layouts_of};
 ghost use Rattle.told_words.specs.Numbers.{given_up_text};
 ghost use Rattle.told_words.specs.Phrases.{end_text};
 ghost use Rattle.told_words.specs.Words.{before, line_end, winner_text, played_text, condition, front_end, steps_text, next_text, branch_lines, told_text};
@@ -75,7 +75,7 @@ impl Writer {
         strategy: &Strategy,
         told: &ToldPlan,
     ) -> Result<(), AllocError>
-        requires { IsStrategy strategy.now }
+        requires { FitsItsNode strategy.now }
         ensures { OnOk result (self.new ≡ self.old ++ told_text declarer
             (layouts_of strategy.now) (told_of told.now) strategy.now.node.now) }
     {
@@ -92,7 +92,7 @@ impl Writer {
 
     // The layouts behind a step.
     fn layouts(&mut self, strategy: &Strategy, step: &Step) -> StepLayouts
-        requires { IsStrategy strategy.now }
+        requires { FitsItsNode strategy.now }
         ensures layouts { result ≡ layouts_of strategy.now step.now.sets }
         ensures same { self.new ≡ self.old }
     {
@@ -101,7 +101,7 @@ impl Writer {
 
     // Appends the end of a line's front.
     fn push_front_end(&mut self, strategy: &Strategy, step: &Step) -> Result<(), AllocError>
-        requires { IsStrategy strategy.now }
+        requires { FitsItsNode strategy.now }
         ensures { OnOk result (self.new ≡ self.old
             ++ front_end (layouts_of strategy.now) step.now) }
     {
@@ -112,7 +112,7 @@ impl Writer {
 
     // Appends which layouts the card at a step gives up.
     fn push_given_up_at(&mut self, strategy: &Strategy, step: &Step) -> Result<(), AllocError>
-        requires { IsStrategy strategy.now }
+        requires { FitsItsNode strategy.now }
         ensures { OnOk result (self.new ≡ self.old
             ++ given_up_text (layouts_of strategy.now step.now.sets).given_up) }
     {
@@ -129,7 +129,7 @@ impl Writer {
         told: &ToldPlan,
         step: &Step,
     ) -> Result<(), AllocError>
-        requires { IsStrategy strategy.now }
+        requires { FitsItsNode strategy.now }
         ensures { OnOk result (self.new ≡ self.old
             ++ steps_text (layouts_of strategy.now) (told_of told.now) line step.now) }
     {
@@ -182,7 +182,7 @@ impl Writer {
         rest: &ToldPlan,
         step: &Step,
     ) -> Result<(), AllocError>
-        requires { IsStrategy strategy.now }
+        requires { FitsItsNode strategy.now }
         ensures { OnOk result (self.new ≡ self.old ++ steps_text
             (layouts_of strategy.now) (ToldPlay card (told_of rest.now)) line step.now) }
     {
@@ -202,7 +202,7 @@ impl Writer {
         told: &ToldPlan,
         step: &Step,
     ) -> Result<(), AllocError>
-        requires { IsStrategy strategy.now }
+        requires { FitsItsNode strategy.now }
         ensures { OnOk result (self.new ≡ self.old ++ next_text
             (steps_text (layouts_of strategy.now) (told_of told.now)) line step.now) }
     {
@@ -220,7 +220,7 @@ impl Writer {
         branches: &[Branch],
         step: &Step,
     ) -> Result<(), AllocError>
-        requires { IsStrategy strategy.now }
+        requires { FitsItsNode strategy.now }
         ensures { OnOk result (self.new ≡ self.old ++ steps_text
             (layouts_of strategy.now) (ToldHear (branches_of branches.now)) line step.now) }
     {
@@ -243,7 +243,7 @@ impl Writer {
         branches: &[Branch],
         step: &Step,
     ) -> Result<(), AllocError>
-        requires { IsStrategy strategy.now }
+        requires { FitsItsNode strategy.now }
         ensures { OnOk result (self.new ≡ self.old ++ branch_lines
             (layouts_of strategy.now) (branches_of branches.now) line step.now) }
     {
