@@ -15,9 +15,10 @@ use card_sets::Card;
 use cut_rules::{CutRules, Stop};
 use dd_solver::Solver;
 use pareto_fronts::Front;
-use root_workers::{Alone, Options, Question, RootCard};
+use root_workers::{Alone, Options, Question, RootCard, RootWorker};
 use shared_table::{Pass, SharedStore, SharedTable};
 use std::alloc::{AllocError, Global};
+use std::slice;
 
 /// The table of a question's searches, and its first pass.
 pub fn new_table(alloc: Global) -> Result<(SharedTable, Pass), AllocError>
@@ -53,12 +54,21 @@ pub fn root_card(alloc: Global, asked: &Asked) -> Result<RootCard, RootFault>
     question.card(&Alone { gate: &OpenGate }, &mut pass)
 }
 
-/// The front, over a table and by a pass of it.
+/// The caller as a worker who has solved nothing.
+pub fn only_worker(alloc: Global) -> RootWorker {
+    RootWorker {
+        number: 0,
+        solver: Solver::new(alloc),
+    }
+}
+
+/// The front, over a table and by a pass of it. The worker keeps what it solves.
 pub fn front_over(
     alloc: Global,
     asked: &Asked,
     table: &SharedTable,
     pass: &mut Pass,
+    worker: &mut RootWorker,
 ) -> Result<Front, RootFault>
     requires ready { IsReady asked.now }
     requires pass { IsPassOf table.now pass.old }
@@ -80,7 +90,8 @@ pub fn front_over(
         options: &options,
         table,
     };
-    match question.front(&Alone { gate: &OpenGate }, pass) {
+    let workers = slice::from_mut(worker);
+    match question.front_by(&Alone { gate: &OpenGate }, pass, workers) {
         Ok(found) => Ok(found.front),
         Err(fault) => Err(fault),
     }
@@ -93,7 +104,7 @@ pub fn root_front(alloc: Global, asked: &Asked) -> Result<Front, RootFault>
     ensures refused { IfErr result (IsSearchFault asked.now) }
 {
     let (table, mut pass) = new_table(alloc)?;
-    front_over(alloc, asked, &table, &mut pass)
+    front_over(alloc, asked, &table, &mut pass, &mut only_worker(alloc))
 }
 
 /// The front after a root card, whole, whatever the other cards win.

@@ -7,10 +7,9 @@ ghost use Rattle.bit_answers.specs.Strategies.{IsNoStrategy, IsPastFront};
 ghost use Rattle.bit_answers.specs.Strategies.{IsStrategy, IsStrategyFor};
 
 use crate::fault::BitFault;
-use crate::searches::{front_over, new_table};
+use crate::searches::{front_over, new_table, only_worker};
 use alphamu_core::RootFault;
 use bit_questions::{Asked, Question, read};
-use dd_solver::Solver;
 use flat_plans::{PlanNode, plan_nodes};
 use plan_finder::plan_for;
 use shared_table::SharedStore;
@@ -18,7 +17,7 @@ use std::alloc::Global;
 use strategy_tree::Plan;
 
 // The plan that is chosen for the vector at a place of the front, if there is one. It is found over
-// the table that the front was found with.
+// the table that the front was found with, by the same solver.
 fn plan_at(alloc: Global, asked: &Asked, place: usize) -> Result<Option<Plan>, RootFault>
     requires { IsReady asked.now }
     ensures plan { IfOk result (λ found. MatchOption found
@@ -28,16 +27,16 @@ fn plan_at(alloc: Global, asked: &Asked, place: usize) -> Result<Option<Plan>, R
 {
     let _width = asked.node.width();
     let (table, mut pass) = new_table(alloc)?;
-    let front = front_over(alloc, asked, &table, &mut pass)?;
+    let mut worker = only_worker(alloc);
+    let front = front_over(alloc, asked, &table, &mut pass, &mut worker)?;
     let Some(vector) = front.as_slice().get(place) else {
         return Ok(None);
     };
-    let mut solver = Solver::new(alloc);
     let mut store = SharedStore::new(&table, &mut pass);
     let found = plan_for(
         alloc,
         &mut store,
-        &mut solver,
+        &mut worker.solver,
         &asked.node,
         asked.moves,
         vector,
