@@ -23,7 +23,7 @@ AreTexts IsText zero text = text ≡ []
 AreTexts IsText (suc place) text =
     (before : List ℕ) × (last : List ℕ) × AreTexts IsText place before × IsText place last × (text ≡ before ++ last)
 
--- what is shown of one of so many strategies in a layout, by their places
+-- what is shown of one of these strategies in a layout, by their places, if there are `lines` of them
 abbrev pub shown_at : Root → ℕ → ℕ → ℕ → Bool → ℕ → State → Shown
 shown_at root lines line place made number s = record {
   board = line * length root.kept.node.lefts + place + 1;
