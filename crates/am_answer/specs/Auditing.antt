@@ -12,7 +12,7 @@ use Rattle.am_answer.specs.declared.status.Status.TheVariants.{BadLog, Refuted}
 use Rattle.am_answer.specs.Judging.{report_or}
 use Rattle.byte_text.specs.Steps.{◌>>=◌}
 
--- what is asked of a log: that it proves these vectors complete, by so many moves
+-- what is asked of a log: that it proves these vectors complete, by this many moves
 pub record AuditValue : Type 0 where
   pub moves : ℕ
   pub vectors : List Vector

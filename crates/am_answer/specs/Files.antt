@@ -44,7 +44,7 @@ job_read files (Audit report log) = do
   Ok (Audit report log)
 job_read files job = Ok job
 
--- the layout files of so many games, in order, the first of which has this number
+-- the layout files of this many games, in order, the first of which has this number
 abbrev pub layouts_from : Files → List ℕ → ℕ → ℕ → Result (List (List ℕ)) Status
 layouts_from files name number zero = Ok []
 layouts_from files name number (suc more) = do

@@ -48,7 +48,7 @@ first_plan_fault node weights moves number [] = None
 first_plan_fault node weights moves number (read ∷ later) =
     or_later_plan number (entry_fault node weights moves read) (first_plan_fault node weights moves (number + 1) later)
 
--- so many plans, where none is at fault
+-- this many plans, where none is at fault
 abbrev pub unless_plan_fault : ℕ → Option (ℕ × Place) → Result ℕ Status
 unless_plan_fault plans None = Ok plans
 unless_plan_fault plans (Some found) = Err (Refuted found.0 found.1)

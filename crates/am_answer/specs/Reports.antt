@@ -60,7 +60,7 @@ IsMadeText number root moves text = (vectors : List (List Bool)) × (card count 
     × IsNamedCard bridge root.kept.node moves card × IsBestCount bridge root.kept.node moves count
     × (text ≡ made_text (record { number = number; layouts = length root.kept.node.lefts; front = length vectors; best = count; card = card }))
 
--- the log of a root by so many moves
+-- the log of a root by this many moves
 abbrev pub IsProveText : Root → ℕ → List ℕ → Type 0
 IsProveText root moves text = (lines : List LogLine) × IsLogFor root.kept.node moves lines × (text ≡ log_text lines)
 

@@ -16,23 +16,23 @@ pub record Playing : Type 0 where
 
 -- a job that the words and the files lead to, by the name that the words give it
 pub data TaskValue : Type 0 where
-  -- the report of a root, by so many moves and a search
+  -- the report of a root, by this many moves and a search
   Solve : Root → ℕ → Search → TaskValue
-  -- the card to play at a root, by so many moves and a search
+  -- the card to play at a root, by this many moves and a search
   Card : Root → ℕ → Search → TaskValue
-  -- the first strategy that is printed for a root, by so many moves and a search, played out in a layout
+  -- the first strategy that is printed for a root, by this many moves and a search, played out in a layout
   Match : Root → ℕ → Search → Playing → TaskValue
   -- what plain sampling believes at a root
   Fusion : Root → TaskValue
-  -- the log that proves a root's front complete, by so many moves and nodes
+  -- the log that proves a root's front complete, by this many moves and nodes
   Prove : Root → ℕ → ℕ → TaskValue
   -- what is asked of a log at a root
   Audit : Root → AuditValue → TaskValue
-  -- a report with so many plans, all of which are good
+  -- a report with this many plans, all of which are good
   Check : ℕ → TaskValue
   -- all layouts of a board
   List : BoardValue → Listed Layout → TaskValue
   -- the root of the problem made from a number, and a search
   Made : ℕ → Root → Search → TaskValue
-  -- the reports of all games, each at its root where it has one, by so many moves and a search
+  -- the reports of all games, each at its root where it has one, by this many moves and a search
   Boards : Listed (Result Root Status) → ℕ → Search → TaskValue
