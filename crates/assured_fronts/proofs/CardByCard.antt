@@ -1,5 +1,5 @@
 -- The assured front of a node, card by card.
-use Rattle.std.proofs.Common.{◌≡◌, ℕ, suc, ◌+◌, ◌-◌, ◌<◌, true, false, List, [], ◌∷◌, ◌++◌, replicate, length, Contains, sym, ap, subst, ◌∙◌, arith, append_assoc, append-nil}
+use Rattle.std.proofs.Common.{◌≡◌, ℕ, zero, suc, sum_by, ◌+◌, ◌-◌, ◌<◌, true, false, List, [], ◌∷◌, ◌++◌, replicate, length, Contains, sym, ap, subst, ◌∙◌, arith, append_assoc, append-nil}
 use Rattle.card_sets.specs.SetWords.{has_card}
 use Rattle.win_vectors.specs.Vectors.{ones_of}
 use Rattle.win_vectors.specs.Fronts.{Vector, IsFrontOf, IsReduced, meets, spreads}
@@ -7,10 +7,12 @@ use Rattle.win_vectors.proofs.VectorLemmas.{ones_of-all}
 use Rattle.trick_rules.specs.Positions.{to_play}
 use Rattle.trick_rules.specs.Play.{is_declarers, cards_left}
 use Rattle.trick_rules.specs.Nodes.{NodeValue, IsNode, choices, child, child_mask}
+use Rattle.strategy_games.specs.Plans.{stops}
 use Rattle.strategy_games.proofs.Lists.{Contains-here, Contains-append_second}
 use Rattle.strategy_tree.specs.Bridge.{bridge}
 use Rattle.strategy_tree.proofs.CardLists.{has_card-from_Contains}
 use Rattle.strategy_tree.proofs.BridgeNodes.{length-states, mask-bridge, length-child_lefts, our_mask, cards_left-child}
+use Rattle.alphamu_core.proofs.Paid.{HasPaid, size_after}
 use Rattle.assured_games.specs.Assured.{IsAssuredFront}
 use Rattle.assured_games.specs.Steps.{AssuredByCard, AssuredByReply}
 use Rattle.sure_nodes.specs.SureNodes.{is_sure_node}
@@ -83,3 +85,18 @@ defender_end n moves earlier rest front sound off some theirs are none so_far =
     (steps.all_replies n (moves - 1) front sound live.0 live.1 theirs
     (subst (λ m. IsFrontOf (AssuredByReply bridge is_sure_node n m (choices n)) front) (sym more)
     (subst (λ cards. IsFrontOf (AssuredByReply bridge is_sure_node n moves cards) front) (sym (are ∙ ap (λ cards. earlier ++ cards) none ∙ append-nil earlier)) so_far)))
+
+-- ---- what is paid
+
+-- play goes on
+pub live : (n : NodeValue) (moves : ℕ) → claims n ≡ false → 0 < moves → stops bridge n moves ≡ false
+live n zero off some = absurd (omega arith)
+live n (suc m) off some = (goes_on n off).0
+
+-- nothing yet below the node
+pub paid_start : (n : NodeValue) (below : ℕ) (cards : List ℕ) (before : ℕ) → cards ≡ choices n → HasPaid ⊥ n below cards before before
+paid_start n below cards before all = record {
+  counts = λ each. absurd each;
+  within = (let same : sum_by (size_after n below) cards ≡ sum_by (size_after n below) (choices n) = ap (sum_by (size_after n below)) all in omega arith);
+  never_rises = omega arith;
+}
