@@ -1,0 +1,5 @@
+pub mod Leasts
+pub mod Sampled
+pub mod Leading
+pub mod Tables
+pub mod Bounded

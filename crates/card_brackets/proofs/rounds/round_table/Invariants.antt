@@ -1,0 +1,9 @@
+use Rattle.shared_table.specs.Passes.{IsPassOf}
+use Rattle.card_brackets.proofs.Leading.{RowsSoFar}
+use Rattle.card_brackets.proofs.rounds.round_table.Given as goal
+
+abbrev pub invariant-loop-entry : goal.invariant-loop-entry
+invariant-loop-entry l = record {
+  so : RowsSoFar l.question.node.now l.question.weights.now l.question.moves l.entry-index l.rows.items l.best;
+  pass : IsPassOf l.question.table.now l.pass;
+}

@@ -1,0 +1,9 @@
+//! What a row says of every greater number of moves. The function does nothing: its contract is the
+//! law.
+ghost use Rattle.card_brackets.specs.Rows.{RowsBracket};
+
+/// Whatever greater number of moves is asked, the weight that a card wins lies between the two
+/// bounds of its row; so a row that is final is final for every greater number of moves.
+pub fn weight_stays_between()
+    ensures { RowsBracket }
+{}

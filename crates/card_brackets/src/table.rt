@@ -1,0 +1,87 @@
+//! The rows of all cards, with as many moves as make each of them final.
+ghost use Rattle.std.specs.Prelude.{◌≡◌, ◌<◌, ◌≤◌, IfOk};
+ghost use Rattle.fusion_base.specs.Sampling.{card_vectors};
+ghost use Rattle.shared_table.specs.Passes.{IsPassOf};
+ghost use Rattle.root_workers.specs.Questions.{IsQuestion, NamesSpent};
+ghost use Rattle.card_brackets.specs.Rows.{IsTableWith, IsTableUpTo, are_final};
+
+use crate::rounds::round_table;
+use crate::rows::CardRow;
+use alphamu_core::RootFault;
+use card_sets::Card;
+use dd_solver::Solver;
+use fusion_base::{CardVector, per_card_alone};
+use root_workers::Question;
+use shared_table::Pass;
+
+/// The rows of all legal cards, in card order, with a number of moves that counts the card itself;
+/// and the card that is named with as many moves.
+#[derive(Drop)]
+pub struct CardTable {
+    pub moves: u8,
+    pub rows: Vec<CardRow>,
+    pub named: Card,
+}
+
+impl CardTable {
+    /// Whether each row is final.
+    pub fn is_final(&self) -> bool
+        ensures { result ≡ are_final self.now.rows.items }
+    {
+        self.rows.iter().all(|row| row.is_final())
+    }
+}
+
+// The rows with so many of the moves that are asked for.
+fn table_with(
+    question: &Question,
+    pass: &mut Pass,
+    solver: &mut Solver,
+    believed: &[CardVector],
+    moves: u8,
+) -> Result<CardTable, RootFault>
+    requires question { IsQuestion question.now }
+    requires some { 1 ≤ moves }
+    requires few { moves ≤ question.now.moves }
+    requires believed { believed.now ≡ card_vectors question.now.node.now }
+    requires pass { IsPassOf question.now.table.now pass.old }
+    ensures table { IfOk result
+        (IsTableWith question.now.node.now question.now.weights.now moves) }
+    ensures spent { NamesSpent question.now result }
+    ensures pass { IsPassOf question.now.table.now pass.new }
+{
+    let round = Question {
+        alloc: question.alloc,
+        node: question.node,
+        moves,
+        weights: question.weights,
+        options: question.options,
+        table: question.table,
+    };
+    round_table(&round, pass, solver, believed)
+}
+
+/// The rows of all legal cards of a root, with the least number of moves, up to that of the
+/// question, with which each row is final; or else with the moves of the question. The table and
+/// the cuts change nothing of them, and one worker finds them.
+///
+/// Errors: `Spent` at a root card whose tree has more nodes than a search may enter; `Memory`.
+pub fn card_table(question: &Question, pass: &mut Pass) -> Result<CardTable, RootFault>
+    requires question { IsQuestion question.now }
+    requires pass { IsPassOf question.now.table.now pass.old }
+    ensures table { IfOk result (IsTableUpTo question.now.node.now question.now.weights.now
+        question.now.moves) }
+    ensures spent { NamesSpent question.now result }
+    ensures pass { IsPassOf question.now.table.now pass.new }
+{
+    let believed = per_card_alone(question.alloc, question.node)?;
+    let mut solver = Solver::new(question.alloc);
+    for moves in 1..question.moves {
+        let table = table_with(question, pass, &mut solver, &believed, moves)?;
+        if table.is_final() {
+            return Ok(table);
+        }
+    }
+    let last = table_with(question, pass, &mut solver, &believed, question.moves)?;
+    Ok(last)
+}
