@@ -14,7 +14,7 @@ use Rattle.vector_words.specs.Best.{IsFirstBest}
 use Rattle.card_brackets.specs.declared.rows.CardRow.{CardRow}
 use Rattle.card_brackets.specs.declared.table.CardTable.{CardTable}
 
--- what is known of a card of the node with so many moves, of which it is one: the first of the heaviest vectors of the front
+-- what is known of a card of the node with this many moves, of which it is one: the first of the heaviest vectors of the front
 -- after it, with its weight; the greatest weight that is assured after it; and the weight that sampling believes in
 pub record IsRow (n : NodeValue) (weights : List ℕ) (moves card : ℕ) (row : CardRow) : Type 0 where
   pub card_is : row.card ≡ card
@@ -37,13 +37,13 @@ is_final row = row.least == row.most
 abbrev pub are_final : List CardRow → Bool
 are_final rows = list_all is_final rows
 
--- the rows with so many moves, and the card that is named
+-- the rows with this many moves, and the card that is named
 pub record IsTableWith (n : NodeValue) (weights : List ℕ) (moves : ℕ) (table : CardTable) : Type 0 where
   pub moves_are : table.moves ≡ moves
   pub rows : AreRows n weights moves table.rows.items
   pub named : IsNamedByWeight bridge weights n moves table.named
 
--- with so many moves some row isn't final
+-- with this many moves some row isn't final
 abbrev pub IsOpenWith : NodeValue → List ℕ → ℕ → Type 0
 IsOpenWith n weights moves = (rows : List CardRow) × AreRows n weights moves rows × (are_final rows ≡ false)
 

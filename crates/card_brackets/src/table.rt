@@ -32,7 +32,7 @@ impl CardTable {
     }
 }
 
-// The rows with so many of the moves that are asked for.
+// The rows with this many of the moves that are asked for.
 fn table_with(
     question: &Question,
     pass: &mut Pass,
