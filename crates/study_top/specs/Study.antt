@@ -11,14 +11,17 @@ use Rattle.am_answer.specs.Files.{InputsValue, inputs_read}
 use Rattle.am_answer.specs.Stages.{IsReadRefusal, IsFileRefusal}
 use Rattle.job_told.specs.ToldJob.{IsToldReport}
 use Rattle.job_lines.specs.LinesJob.{IsLinesReport}
+use Rattle.job_cards.specs.Cards.{IsCardsText, IsCardsRefusal}
 use Rattle.study_top.specs.declared.job.StudyJob.{StudyJob}
-use Rattle.study_top.specs.declared.job.StudyJob.TheVariants.{Words, Lines}
+use Rattle.study_top.specs.declared.job.StudyJob.TheVariants.{Words, Lines, Cards}
 
 -- ---- the words
 
 -- the job that a word names
 abbrev pub job_named : List ℕ → Option StudyJob
-job_named word = if bytes_eq word (codes "words") then Some Words else if bytes_eq word (codes "lines") then Some Lines else None
+job_named word =
+    if bytes_eq word (codes "words") then Some Words else if bytes_eq word (codes "lines") then Some Lines
+    else if bytes_eq word (codes "cards") then Some Cards else None
 
 -- the job that the word after the first `--job` names; the first of these words may be that one
 abbrev pub job_after : Bool → List (List ℕ) → Option StudyJob
@@ -34,6 +37,7 @@ job_of words = job_after false words
 abbrev pub base_word : Option StudyJob → List ℕ
 base_word (Some Words) = codes "check"
 base_word (Some Lines) = codes "check"
+base_word (Some Cards) = codes "card"
 base_word None = []
 
 -- a word of a study, as that job of `alphamu` has it
@@ -52,25 +56,27 @@ asked_by words = asked_after false words
 
 -- ---- what comes of it
 
--- what is told of a report at the root of its files
-abbrev pub IsTold : StudyJob → List ℕ → Root → List ℕ → List ℕ → Type 0
-IsTold Words deal root report text = IsToldReport root report text
-IsTold Lines deal root report text = IsLinesReport deal root report text
+-- what a job tells at the root of these files
+abbrev pub IsToldAt : List ℕ → List ℕ → (Root → Type 0) → Type 0
+IsToldAt deal layouts IsTold = (root : Root) × (root_in deal layouts ≡ Ok root) × IsTold root
 
--- the files lead to no root, or `check` refuses the report at their root
-abbrev pub IsFilesRefusal : List ℕ → List ℕ → List ℕ → Status → Type 0
-IsFilesRefusal deal layouts report status =
-    IsFileRefusal (root_in deal layouts) status
-    ⊎ ((root : Root) × (root_in deal layouts ≡ Ok root) × IsFileRefusal (task_at root (jobs.Check report)) status)
+-- the files lead to no root, or the job refuses what it reads there
+abbrev pub IsRefusedAt : List ℕ → List ℕ → Status → (Root → Type 0) → Type 0
+IsRefusedAt deal layouts status IsRefused =
+    IsFileRefusal (root_in deal layouts) status ⊎ ((root : Root) × (root_in deal layouts ≡ Ok root) × IsRefused root)
 
 -- what a study's job tells of what was read
 abbrev pub IsTextOf : Option StudyJob → InputsValue → List ℕ → Type 0
-IsTextOf (Some job) (asks.OnLayouts deal layouts (jobs.Check report)) text = (root : Root) × (root_in deal layouts ≡ Ok root) × IsTold job deal root report text
+IsTextOf (Some Words) (asks.OnLayouts deal layouts (jobs.Check report)) text = IsToldAt deal layouts (λ root. IsToldReport root report text)
+IsTextOf (Some Lines) (asks.OnLayouts deal layouts (jobs.Check report)) text = IsToldAt deal layouts (λ root. IsLinesReport deal root report text)
+IsTextOf (Some Cards) (asks.OnLayouts deal layouts (jobs.Card moves search)) text = IsToldAt deal layouts (λ root. IsCardsText root moves text)
 IsTextOf _ _ text = ⊥
 
--- why it tells nothing of it
+-- why it tells nothing of it: `check` refuses the report, or the tree of a card is too large
 abbrev pub IsRefusalOf : Option StudyJob → InputsValue → Status → Type 0
-IsRefusalOf (Some job) (asks.OnLayouts deal layouts (jobs.Check report)) status = IsFilesRefusal deal layouts report status
+IsRefusalOf (Some Words) (asks.OnLayouts deal layouts (jobs.Check report)) status = IsRefusedAt deal layouts status (λ root. IsFileRefusal (task_at root (jobs.Check report)) status)
+IsRefusalOf (Some Lines) (asks.OnLayouts deal layouts (jobs.Check report)) status = IsRefusedAt deal layouts status (λ root. IsFileRefusal (task_at root (jobs.Check report)) status)
+IsRefusalOf (Some Cards) (asks.OnLayouts deal layouts (jobs.Card moves search)) status = IsRefusedAt deal layouts status (λ root. IsCardsRefusal root moves search status)
 IsRefusalOf _ _ status = status ≡ BadWords
 
 -- the text of a study: its words name files, and its job tells this of them

@@ -5,13 +5,15 @@ ghost use Rattle.study_top.specs.Study.{job_named, job_of, base_word, asked_word
 
 use std::alloc::{AllocError, Global};
 
-/// What a study tells of a report.
+/// What a study tells.
 #[derive(Clone, Copy, Debug, PartialEq, Eq)]
 pub enum StudyJob {
-    /// Its strategies in the words of bridge.
+    /// The strategies of a report in the words of bridge.
     Words,
-    /// Its strategies as PBN games, each played out in each kept layout.
+    /// The strategies of a report as PBN games, each played out in each kept layout.
     Lines,
+    /// Every legal card with the bounds of the weight that it wins.
+    Cards,
 }
 
 // The job that a word names.
@@ -21,6 +23,7 @@ fn job_named(word: &str) -> Option<StudyJob>
     match word {
         "words" => Some(StudyJob::Words),
         "lines" => Some(StudyJob::Lines),
+        "cards" => Some(StudyJob::Cards),
         _ => None,
     }
 }
@@ -45,6 +48,7 @@ fn base_word(job: Option<StudyJob>) -> &'static str
 {
     match job {
         Some(StudyJob::Words) | Some(StudyJob::Lines) => "check",
+        Some(StudyJob::Cards) => "card",
         None => "",
     }
 }

@@ -1,5 +1,6 @@
-//! The program `alphamu_study` as one call: words and files in, told strategies or a refusal out.
-//! It builds on the reading of inputs, on `job_told` and `job_lines`, and on the line of a refusal.
+//! The program `alphamu_study` as one call: words and files in, a text or a refusal out. It builds
+//! on the reading of inputs, on `job_told`, `job_lines` and `job_cards`, and on the line of a
+//! refusal.
 #![tactic(auto)]
 
 mod job;

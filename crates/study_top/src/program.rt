@@ -1,16 +1,16 @@
 //! The call that the program makes.
-ghost use Rattle.std.specs.Prelude.{◌≡◌, ◌≢◌, ◌<◌, ◌-◌, ◌^◌, length, Ok, IfOk, IfErr, IfSome, IsErrOf, List, ℕ};
+ghost use Rattle.std.specs.Prelude.{◌≡◌, ◌≢◌, ◌<◌, ◌-◌, ◌^◌, length, Some, IfOk, IfErr, IfSome, IsErrOf, List, ℕ};
 ghost use Rattle.std.specs.Io.KnownBytes.{append_known};
 ghost use Rattle.am_outside.specs.Faults.{Rose};
 ghost use Rattle.am_outside.specs.Sink.{AppendsPart};
-ghost use Rattle.job_words.specs.Asks.{texts_of};
+ghost use Rattle.job_words.specs.Asks.{IsMoves, IsSearchWithinLimits, texts_of};
+ghost use Rattle.job_words.specs.declared.asks.Ask.TheVariants.{OnLayouts};
+ghost use Rattle.job_words.specs.declared.asks.LayoutsJob.TheVariants.{Card, Check};
 ghost use Rattle.am_answer.specs.Lines.{status_line};
 ghost use Rattle.am_answer.specs.Refusals.{IsUnread};
 ghost use Rattle.am_line.specs.Said.{IsSaid};
-ghost use Rattle.am_answer.specs.declared.root.Root.{Root};
-ghost use Rattle.am_answer.specs.Answers.{root_in};
 ghost use Rattle.am_answer.specs.Files.{AreWithin};
-ghost use Rattle.study_top.specs.Study.{asked_by as words_asked_by, IsTold, IsFilesRefusal, IsTextOf, IsRefusalOf, IsStudyText, IsStudyRefusal};
+ghost use Rattle.study_top.specs.Study.{asked_by as words_asked_by, IsTextOf, IsRefusalOf, IsStudyText, IsStudyRefusal};
 
 use crate::job::{StudyJob, asked_by, job_of};
 use am_answer::{FileWord, Inputs, Status};
@@ -18,31 +18,59 @@ use am_inputs::{read_inputs, read_root};
 use am_line::refuse;
 use am_outside::{Shelf, Sink, write_whole};
 use byte_text::Text;
+use job_cards::tell_cards;
 use job_lines::tell_lines;
 use job_told::tell_report;
-use job_words::{Ask, LayoutsJob};
+use job_words::{Ask, LayoutsJob, Search};
 use std::alloc::Global;
 
-// What a job tells of a report at the root of these files, or why there is nothing.
-fn tell_files(
-    alloc: Global,
-    job: StudyJob,
-    deal: &Text,
-    layouts: &Text,
-    report: &Text,
-) -> Result<Text, Status>
+// The strategies of a report in words, at the root of these files.
+fn words_in(alloc: Global, deal: &Text, layouts: &Text, report: &Text) -> Result<Text, Status>
     requires deal_within { length deal.now < 2 ^ 32 - 1 }
     requires layouts_within { length layouts.now < 2 ^ 32 - 1 }
     requires report_within { length report.now < 2 ^ 32 - 1 }
-    ensures text { IfOk result (λ text. (root : Root) × (root_in deal.now layouts.now ≡ Ok root)
-        × IsTold job deal.now root report.now text) }
-    ensures refused { IfErr result (IsFilesRefusal deal.now layouts.now report.now) }
+    ensures text { IfOk result
+        (IsTextOf (Some StudyJob.Words) (OnLayouts deal.now layouts.now (Check report.now))) }
+    ensures refused { IfErr result
+        (IsRefusalOf (Some StudyJob.Words) (OnLayouts deal.now layouts.now (Check report.now))) }
 {
     let root = read_root(alloc, deal, layouts)?;
-    match job {
-        StudyJob::Words => tell_report(alloc, &root, report),
-        StudyJob::Lines => tell_lines(alloc, deal, &root, report),
-    }
+    tell_report(alloc, &root, report)
+}
+
+// The same strategies as PBN games.
+fn lines_in(alloc: Global, deal: &Text, layouts: &Text, report: &Text) -> Result<Text, Status>
+    requires deal_within { length deal.now < 2 ^ 32 - 1 }
+    requires layouts_within { length layouts.now < 2 ^ 32 - 1 }
+    requires report_within { length report.now < 2 ^ 32 - 1 }
+    ensures text { IfOk result
+        (IsTextOf (Some StudyJob.Lines) (OnLayouts deal.now layouts.now (Check report.now))) }
+    ensures refused { IfErr result
+        (IsRefusalOf (Some StudyJob.Lines) (OnLayouts deal.now layouts.now (Check report.now))) }
+{
+    let root = read_root(alloc, deal, layouts)?;
+    tell_lines(alloc, deal, &root, report)
+}
+
+// Every legal card at the root of these files.
+fn cards_in(
+    alloc: Global,
+    deal: &Text,
+    layouts: &Text,
+    moves: u8,
+    search: &Search,
+) -> Result<Text, Status>
+    requires deal_within { length deal.now < 2 ^ 32 - 1 }
+    requires layouts_within { length layouts.now < 2 ^ 32 - 1 }
+    requires moves { IsMoves moves }
+    requires limits { IsSearchWithinLimits search.now }
+    ensures text { IfOk result
+        (IsTextOf (Some StudyJob.Cards) (OnLayouts deal.now layouts.now (Card moves search.now))) }
+    ensures refused { IfErr result (IsRefusalOf (Some StudyJob.Cards)
+        (OnLayouts deal.now layouts.now (Card moves search.now))) }
+{
+    let root = read_root(alloc, deal, layouts)?;
+    tell_cards(alloc, &root, moves, search)
 }
 
 // What a job tells of what was read, or why there is nothing.
@@ -51,18 +79,24 @@ fn text_in(alloc: Global, job: Option<StudyJob>, inputs: &Inputs) -> Result<Text
     ensures text { IfOk result (IsTextOf job inputs.now) }
     ensures refused { IfErr result (IsRefusalOf job inputs.now) }
 {
-    let Some(job) = job else {
+    let Ask::OnLayouts {
+        deal,
+        layouts,
+        job: asked,
+    } = inputs
+    else {
         return Err(Status::BadWords);
     };
-    match inputs {
-        Ask::OnLayouts {
-            deal,
-            layouts,
-            job: asked,
-        } => match asked {
-            LayoutsJob::Check { report } => tell_files(alloc, job, deal, layouts, report),
-            _ => Err(Status::BadWords),
-        },
+    match (job, asked) {
+        (Some(StudyJob::Words), LayoutsJob::Check { report }) => {
+            words_in(alloc, deal, layouts, report)
+        }
+        (Some(StudyJob::Lines), LayoutsJob::Check { report }) => {
+            lines_in(alloc, deal, layouts, report)
+        }
+        (Some(StudyJob::Cards), LayoutsJob::Card { moves, search }) => {
+            cards_in(alloc, deal, layouts, *moves, search)
+        }
         _ => Err(Status::BadWords),
     }
 }
@@ -85,9 +119,10 @@ fn text_for<S: Shelf>(alloc: Global, words: &[String], shelf: &mut S) -> Result<
     text_in(alloc, job_of(words), &inputs)
 }
 
-/// Tells the strategies of a report. The words are those of `check`, except that the job is
-/// `words` or `lines`, and the report is refused as `check` refuses it. The words don't include the
-/// program's name.
+/// Tells the strategies of a report, or every legal card side by side. The words are those of
+/// `check`, except that the job is `words` or `lines`, and the report is refused as `check` refuses
+/// it; or those of `card`, except that the job is `cards`. The words don't include the program's
+/// name.
 ///
 /// The whole text is made before its first byte is written.
 pub fn run_study<S: Shelf, O: Sink, E: Sink>(

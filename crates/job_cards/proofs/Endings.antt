@@ -1,0 +1,27 @@
+-- How the job ends: with the text of what was found, or with a fault.
+use Rattle.std.proofs.Common.{◌≡◌, ℕ, List, refl, subst}
+use Rattle.strategy_tree.specs.RootTrees.{IsSpentAt}
+use Rattle.job_words.specs.declared.asks.Search.{Search}
+use Rattle.root_workers.specs.declared.root.Options.{Options}
+use Rattle.alphamu_core.specs.declared.answers.RootFault.{RootFault}
+use Rattle.alphamu_core.specs.declared.answers.RootFault.TheVariants.{Spent, Memory}
+use Rattle.am_answer.specs.declared.root.Root.{Root}
+use Rattle.am_answer.specs.Refusals.{root_status}
+use Rattle.card_brackets.specs.declared.table.CardTable.{CardTable}
+use Rattle.card_brackets.specs.Rows.{IsTableUpTo}
+use Rattle.job_cards.specs.Cards.{cards_text, IsCardsText, IsCardsRefusal}
+
+-- the same root, once as it is and once as it is opened
+module _ (opened root : Root) (same : opened ≡ root) (moves : ℕ) where
+  pub text_of : (table : CardTable) (text : List ℕ) → IsTableUpTo opened.kept.node opened.kept.weights moves table → text ≡ cards_text opened.kept.weights table → IsCardsText root moves text
+  text_of table text is written = subst (λ (r : Root). IsCardsText r moves text) same (table, is, written)
+
+  refused : (s : Search) (fault : RootFault) → ((card : ℕ) → fault ≡ Spent card → IsSpentAt root.kept.node moves s.nodes card) → IsCardsRefusal root moves s (root_status fault)
+  refused s (Spent card) spent = spent card refl
+  refused s Memory spent = tt
+
+  pub refusal_of : (o : Options) (s : Search) → o ≡ record { nodes = s.nodes; workers = s.workers; table = s.table; cuts = s.cuts } → (fault : RootFault)
+      → ((card : ℕ) → fault ≡ Spent card → IsSpentAt opened.kept.node moves o.nodes card) → IsCardsRefusal root moves s (root_status fault)
+  refusal_of o s asked fault spent = refused s fault (λ card is.
+      subst (λ (r : Root). IsSpentAt r.kept.node moves s.nodes card) same
+      (subst (λ (p : Options). IsSpentAt opened.kept.node moves p.nodes card) asked (spent card is)))

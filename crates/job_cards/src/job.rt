@@ -1,0 +1,40 @@
+//! What is known of each card of a root, as a text.
+ghost use Rattle.std.specs.Prelude.{◌≡◌, true, IfOk, IfErr, length};
+ghost use Rattle.job_words.specs.Asks.{IsMoves, IsSearchWithinLimits};
+ghost use Rattle.am_answer.specs.Answers.{has_choice};
+ghost use Rattle.job_cards.specs.Cards.{IsCardsText, IsCardsRefusal};
+
+use crate::text::cards_text;
+use am_answer::{Root, Status};
+use byte_text::Text;
+use card_brackets::card_table;
+use job_words::Search;
+use root_answers::{options_of, table_of};
+use root_workers::Question;
+use std::alloc::Global;
+
+/// Every legal card of a root with the bounds of the weight that it wins, for at most `moves` moves
+/// of declarer's side: the least number of moves with which each card is final, or else that one.
+/// Errors: `Spent` at a root card whose tree has more nodes than a search may enter; `Memory`. One
+/// worker does all the work.
+pub fn tell_cards(alloc: Global, root: &Root, moves: u8, search: &Search) -> Result<Text, Status>
+    requires turn { has_choice root.now.kept.node ≡ true }
+    requires weighed { length root.now.kept.weights ≡ length root.now.kept.node.lefts }
+    requires moves { IsMoves moves }
+    requires limits { IsSearchWithinLimits search.now }
+    ensures text { IfOk result (IsCardsText root.now moves) }
+    ensures refused { IfErr result (IsCardsRefusal root.now moves search.now) }
+{
+    let options = options_of(search);
+    let (table, mut pass) = table_of(alloc, search)?;
+    let question = Question {
+        alloc,
+        node: &root.kept.node,
+        moves,
+        weights: &root.kept.weights,
+        options: &options,
+        table: &table,
+    };
+    let found = card_table(&question, &mut pass)?;
+    Ok(cards_text(alloc, question.weights, &found)?)
+}
