@@ -1,12 +1,12 @@
 """The man page of alphamu and alphamu_study, made from the pages for users: what alphamu is and its jobs from README.md, options,
-refusals and statuses from docs/REFUSALS.md, the first question and the strategies in words and as games from docs/USING.md. So each
-thing is said in one place."""
+refusals and statuses from docs/REFUSALS.md, the first question and the jobs of alphamu_study from docs/USING.md. So each thing is
+said in one place."""
 import re
 
 TITLE, SECTION = re.compile(r"^# "), re.compile(r"^## (.*)$")
 BULLET = "\\(bu"
-# The jobs of alphamu_study, and the files that it is given.
-STUDY_JOBS, STUDY = ("words", "lines"), ("deal", "layouts", "report")
+# The jobs of alphamu_study, each with the job of alphamu whose words it reads.
+STUDY_JOBS = {"words": "check", "lines": "check", "cards": "card"}
 
 
 def escaped(text):
@@ -107,28 +107,31 @@ def section(text, title):
     return found[1]
 
 
+def usage(jobs, program, job, read):
+    """A job's line, with the options that it must have and may have: those of the job of alphamu whose words it reads."""
+    needed, allowed = jobs.JOBS[read]
+    words = [f"\\fB{program} \\-\\-job {job}\\fR"]
+    words += [f"\\fB\\-\\-{it}\\fR \\fI{'FILE' if it in jobs.FILES else 'N'}\\fR" for it in needed]
+    words += [f"[\\fB\\-\\-{it}\\fR \\fIN\\fR]" for it in allowed if it not in jobs.SEARCH or set(jobs.SEARCH) - set(allowed)]
+    if set(jobs.SEARCH) <= set(allowed):
+        words.append("[\\fISEARCH OPTIONS\\fR]")
+    return " ".join(words)
+
+
 def synopsis(jobs):
-    """A line for each job, with the options that it must have and may have."""
-    out = []
-    for job, (needed, allowed) in jobs.JOBS.items():
-        words = [f"\\fBalphamu \\-\\-job {job}\\fR"]
-        words += [f"\\fB\\-\\-{it}\\fR \\fI{'FILE' if it in jobs.FILES else 'N'}\\fR" for it in needed]
-        words += [f"[\\fB\\-\\-{it}\\fR \\fIN\\fR]" for it in allowed if it not in jobs.SEARCH or set(jobs.SEARCH) - set(allowed)]
-        if set(jobs.SEARCH) <= set(allowed):
-            words.append("[\\fISEARCH OPTIONS\\fR]")
-        out += [" ".join(words), ".br"]
+    """A line for each job, and the options of the search."""
+    lines = [usage(jobs, "alphamu", job, job) for job in jobs.JOBS]
+    lines += [usage(jobs, "alphamu_study", job, read) for job, read in STUDY_JOBS.items()]
     flags = [f"[\\fB\\-\\-{escaped(it)}\\fR" + ("]" if it in jobs.FLAGS else " \\fIN\\fR]") for it in jobs.SEARCH]
-    files = [f"\\fB\\-\\-{it}\\fR \\fIFILE\\fR" for it in STUDY]
-    for job in STUDY_JOBS:
-        out += [" ".join([f"\\fBalphamu_study \\-\\-job {job}\\fR", *files]), ".br"]
-    return [*out[:-1], ".PP", "The search options are", " ".join(flags)]
+    return [*"\n.br\n".join(lines).split("\n"), ".PP", "The search options are", " ".join(flags)]
 
 
 def page(readme, refusals, using, jobs, version):
     """The man page as text."""
     what = readme[:readme.index("## ")]
-    first, words, games = (section(using, it).replace("./alphamu", "alphamu").replace("    ./study", "    alphamu_study")
-                           for it in ("A first question", "The strategies in words", "The strategies as games"))
+    first, words, games, cards = (
+        section(using, it).replace("./alphamu", "alphamu").replace("    ./study", "    alphamu_study")
+        for it in ("A first question", "The strategies in words", "The strategies as games", "Every card side by side: `cards`"))
     # Whoever has the man page has the program.
     words = re.sub(r" A package has it .*", "", words)
     words = re.sub(r" `\./study` runs .*", "", words)
@@ -143,6 +146,7 @@ def page(readme, refusals, using, jobs, version):
         ".SH EXAMPLE", *converted(first),
         ".SH THE STRATEGIES IN WORDS", *converted(words),
         ".SH THE STRATEGIES AS GAMES", *converted(games),
+        ".SH EVERY CARD SIDE BY SIDE", *converted(cards),
         ".SH SEE ALSO", *converted("The pages and the files of the examples are in `share/doc/alphamu` beside this page's folder: "
                                    "begin with `docs/USING.md`. Run the commands of the pages in that folder."),
     ]

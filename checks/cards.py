@@ -1,0 +1,147 @@
+#!/usr/bin/env python3
+"""cards.py [--jobs N] [--seconds N] [--only PATTERN] [PROGRAM]
+
+Asks ./study for every card (`cards`) of each case in cases/ that expects a report or a card, with at most MOST_MOVES moves and
+NODES nodes. In endings of at most MOST_CARDS cards a hand, with at most MOST_LAYOUTS layouts, the answer must be that of a second
+reading of the definitions (playing.py, assured.py), byte for byte. In every case with an answer PROGRAM, which is ./alphamu if
+you name none, must agree: `card` with the moves that the text says names the same card, whose weight is its `most`, and `fusion`
+believes in the same weights. A case that `card` refuses must be refused with the same line and status. The exit status is 0 only
+if nothing differs, and if at least LEAST texts were told.
+
+Both programs must be there and current: ./build and ./build study make them."""
+import fnmatch
+import functools
+import os
+import re
+import sys
+from concurrent.futures import ProcessPoolExecutor
+
+sys.dont_write_bytecode = True
+import assured
+import playing
+import reading
+from cases import TOP, bytes_of, expected, is_ready, names_of_cases, parser_of, run, words_of
+from options import job_of
+
+STUDY = os.path.join(TOP, "study")
+MOST_CARDS, MOST_LAYOUTS, MOST_MOVES, NODES, LEAST = 3, 6, 4, 20000, 70
+SPENT = 7
+
+
+def best_of(vectors):
+    """The vectors that no other dominates."""
+    return frozenset(v for v in vectors if not any(v != w and all(b >= a for a, b in zip(v, w)) for w in vectors))
+
+
+@functools.lru_cache(maxsize=None)
+def front(states, moves, trump):
+    """What strategies with this many moves win, the best of it."""
+    if moves == 0 or playing.is_decided(states):
+        return frozenset({tuple(playing.makes(*state, trump) for state in states)})
+    if playing.seat_to_play(states) % 2 == 0:
+        return best_of({v for card in playing.choices(states) for v in front(tuple(playing.child(states, card, trump)[1]), moves - 1, trump)})
+    joined = {(True,) * len(states)}
+    for card in playing.choices(states):
+        able, below = playing.child(states, card, trump)
+        parts = [dict(zip(able, vector)) for vector in front(tuple(below), moves, trump)]
+        joined = best_of({tuple(bit and part.get(at, True) for at, bit in enumerate(vector)) for vector in joined for part in parts})
+    return joined
+
+
+def weight_of(weights, bits):
+    return sum(weight for weight, bit in zip(weights, bits) if bit)
+
+
+def row(states, weights, moves, card, trump):
+    """A card, its most and least, what sampling believes, and the first of its best vectors."""
+    below = tuple(playing.child(states, card, trump)[1])
+    vector = max(front(below, moves - 1, trump), key=lambda it: (weight_of(weights, it), sum(it), it))
+    sampled = weight_of(weights, [playing.makes(*state, trump) for state in below])
+    return card, weight_of(weights, vector), assured.least(below, weights, moves - 1, trump), sampled, vector
+
+
+def cards_text(states, weights, limit, trump):
+    for moves in range(1, limit + 1):
+        rows = [row(states, weights, moves, card, trump) for card in playing.choices(states)]
+        if moves == limit or all(most == least for _, most, least, _, _ in rows):
+            named = max(rows, key=lambda it: (it[1], -it[0]))[0]
+            lines = [b"alphamu cards 1", b"moves %d" % moves, b"layouts %d weight %d" % (len(weights), sum(weights))]
+            for card, most, least, sampled, vector in rows:
+                final, bits = b"yes" if most == least else b"no", bytes(b"01"[bit] for bit in vector)
+                lines.append(b"card %s most %d least %d sampled %d final %s vector %s" % (playing.name_of(card), most, least, sampled, final, bits))
+            return b"\n".join(lines + [b"named " + playing.name_of(named), b""])
+
+
+def told(case, limit):
+    """The text that the case must have, or none if it is too large for a second reading."""
+    options = reading.ask_of([word.decode() for word in words_of(case)])[1]
+    board = reading.board_of(reading.games_read(bytes_of(case, options["deal"]))[0])
+    kept = reading.layouts_kept(bytes_of(case, options["layouts"]), board)
+    states = tuple(reading.state_of(board, layout) for layout in kept.layouts)
+    if max(map(len, states[0][0])) > MOST_CARDS or len(states) > MOST_LAYOUTS:
+        return None
+    return cards_text(states, kept.weights, limit, board.trump)
+
+
+def asked(case, job, moves):
+    """The case's files, asked for another job; of its options only those of that job."""
+    options = reading.ask_of([word.decode() for word in words_of(case)])[1]
+    words = [b"--job", job, b"--deal", os.fsencode(options["deal"]), b"--layouts", os.fsencode(options["layouts"])]
+    return words + ([b"--moves", b"%d" % moves] if moves else [])
+
+
+def judge_others(program, case, seconds, text):
+    """What `card` and `fusion` of the program say otherwise."""
+    moves = int(re.search(rb"^moves (\d+)$", text, re.M)[1])
+    rows = re.findall(rb"^card (..) most (\d+) least (\d+) sampled (\d+) ", text, re.M)
+    named = re.search(rb"^named (..)$", text, re.M)[1]
+    most = next(it[1] for it in rows if it[0] == named)
+    wrong = []
+    card = run(program, case, seconds, words=asked(case, b"card", moves))[0]
+    if not re.search(rb"^card %s (count|weight) %s of " % (named, most), card, re.M):
+        wrong.append(f"{case}: card says {card}, and cards {named} {most}")
+    fusion = run(program, case, seconds, words=asked(case, b"fusion", None))[0]
+    for name, _, _, sampled in rows:
+        if not re.search(rb"^card %s vector [01]+ (count|weight) %s$" % (name, sampled), fusion, re.M):
+            wrong.append(f"{case}: fusion doesn't believe in {sampled} after {name}")
+    return wrong
+
+
+def judge(program, case, seconds):
+    """What is wrong with the text of a case, and whether there was one."""
+    text, line, status = expected(case)
+    job = job_of(words_of(case))
+    if job not in ("solve", "card") or bytes_of(case, "fill") or bytes_of(case, "stdout_to"):
+        return [], 0
+    if status:
+        words = [b"cards" if it == b"card" else it for it in words_of(case)]
+        if job == "solve" or status == SPENT or run(STUDY, case, seconds, words=words) == (text, line, status):
+            return [], 0
+        return [f"{case}: not refused as by card"], 0
+    limit = min(MOST_MOVES, int(reading.ask_of([word.decode() for word in words_of(case)])[1]["moves"]))
+    found, _, ended = run(STUDY, case, seconds, words=asked(case, b"cards", limit) + [b"--nodes", b"%d" % NODES])
+    if ended == SPENT:
+        return [], 0
+    wanted = told(case, limit)
+    wrong = [f"{case}: the cards differ"] if ended or wanted not in (None, found) else []
+    return wrong + (judge_others(program, case, seconds, found) if not ended else []), 1
+
+
+def main():
+    given = parser_of("Puts the cards of alphamu's cases side by side.").parse_args()
+    if not is_ready(given.program, "cards"):
+        return 1
+    program = os.path.abspath(given.program)
+    cases = fnmatch.filter(names_of_cases(), given.only)
+    with ProcessPoolExecutor(given.jobs) as pool:
+        judged = list(pool.map(judge, [program] * len(cases), cases, [given.seconds] * len(cases)))
+    wrong = [line for lines, _ in judged for line in lines]
+    for line in wrong:
+        print(line)
+    number = sum(count for _, count in judged)
+    print(f"cards: {number} texts, {len(wrong)} wrong")
+    return 0 if number >= LEAST and not wrong else 1
+
+
+if __name__ == "__main__":
+    sys.exit(main())
