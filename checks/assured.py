@@ -36,7 +36,7 @@ def secured(states, moves, trump):
     if playing.is_decided(states) or is_sure(states, trump):
         vectors.add(made)
     if moves == 0:
-        return vectors | {tuple(at == chosen and made[at] for at in range(len(states))) for chosen in range(len(states))}
+        return vectors | {tuple(it == chosen and bit for it, bit in zip(states, made)) for chosen in states}
     if playing.is_decided(states):
         return vectors
     if playing.seat_to_play(states) % 2 == 0:
