@@ -81,7 +81,7 @@ def manner(trick, card, trump):
 
 
 class Teller:
-    """A strategy that is told: its plan, and the states of its layouts."""
+    """A strategy of the report: its plan, and the states of its layouts."""
 
     def __init__(self, board, plan, states):
         self.declarer, self.trump, self.plan, self.states, self.lines = board.declarer, board.trump, plan, states, []

@@ -55,6 +55,8 @@ pub fn root_card(alloc: Global, asked: &Asked) -> Result<RootCard, RootFault>
 }
 
 /// The caller as a worker who has solved nothing.
+///
+/// No clause: no answer depends on a worker's number, or on what it has solved.
 pub fn only_worker(alloc: Global) -> RootWorker {
     RootWorker {
         number: 0,

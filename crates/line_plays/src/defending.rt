@@ -1,4 +1,4 @@
-//! The card of a defender who wants to beat a strategy.
+//! A defender's card that beats a strategy, if there is one.
 ghost use Rattle.std.specs.Prelude.{◌≡◌, true, false, not};
 ghost use Rattle.card_sets.specs.SetWords.{has_card};
 ghost use Rattle.trick_rules.specs.Positions.{to_play};

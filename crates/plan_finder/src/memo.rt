@@ -80,8 +80,9 @@ pub struct AboveMemo {
 }
 
 impl AboveMemo {
-    /// Nothing kept yet. It takes no memory. It has no `ensures`, since what is kept is right by
-    /// the entries' own invariant, however many there are.
+    /// Nothing kept yet. It takes no memory.
+    ///
+    /// No clause: what is kept is right by the entries' own invariant, however many there are.
     pub fn new(alloc: Global) -> AboveMemo {
         AboveMemo {
             alloc,
@@ -90,7 +91,9 @@ impl AboveMemo {
         }
     }
 
-    /// The allocator. It has no `ensures`, since no clause speaks of an allocator.
+    /// The allocator.
+    ///
+    /// No clause: no contract speaks of an allocator.
     pub fn alloc(&self) -> Global {
         self.alloc
     }
@@ -111,7 +114,9 @@ impl AboveMemo {
     }
 
     /// Offers what a search above a target answers: it is kept if it isn't too wide and an
-    /// allocation doesn't fail. It has no `ensures`, since a memo may forget: no answer depends on it.
+    /// allocation doesn't fail.
+    ///
+    /// No clause: a memo may forget, and no answer depends on what it keeps.
     pub fn offer(&mut self, node: &Node, moves: u8, target: &WinVector, answer: &VectorsAbove)
         requires { IfOk answer.now (AreAbove node.now moves target.now) }
     {

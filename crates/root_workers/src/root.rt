@@ -179,7 +179,7 @@ pub fn root_card<R: Threads + Sync, G: Gate>(
 
 impl Question<'_> {
     /// The workers that the options ask for, or as many as there are root cards, but at least one.
-    /// None of them has solved anything.
+    /// None of them has solved anything. No answer depends on how many they are.
     pub fn workers(&self) -> Result<Vec<RootWorker>, AllocError>
         ensures { IfOk result (λ workers. 1 ≤ length workers.items) }
     {

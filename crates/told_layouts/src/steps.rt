@@ -16,7 +16,7 @@ use win_vectors::WinVector;
 /// The layouts behind a step, each a bit a layout, in the order of the layouts.
 #[derive(Clone, Copy, Debug)]
 pub struct StepLayouts {
-    /// Those that can reach the step and are won from every place that it stands for.
+    /// Those that can reach the step and are won from each of its places.
     pub won: WinVector,
     /// Those that are lost from one of the places.
     pub lost: WinVector,

@@ -24,7 +24,7 @@ fn has_one(layouts: WinVector) -> bool
     layouts.count() > 0
 }
 
-// Appends what is told of a number.
+// Appends a number, if the text has it.
 fn push_number(
     out: &mut Text,
     alloc: Global,

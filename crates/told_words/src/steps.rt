@@ -16,12 +16,12 @@ pub struct Strategy<'a> {
     pub node: &'a Node,
 }
 
-/// Where a told plan stands.
+/// A step of a told plan.
 #[derive(Debug, Drop)]
 pub struct Step {
-    /// It is told after one card of each of these sets.
+    /// It comes after one card of each of these sets.
     pub sets: Vec<CardSet>,
-    /// The nodes that it stands for.
+    /// The nodes at which it may be reached.
     pub places: Vec<Node>,
 }
 
