@@ -1,9 +1,10 @@
 -- One word of a vector: its bits, and the loops over its places.
-use Rattle.std.proofs.Common.{◌≡◌, ◌≢◌, ℕ, suc, zero, ◌+◌, ◌-◌, ◌*◌, ◌/◌, ◌%◌, ◌^◌, ◌<◌, ◌≤◌, Bool, true, false, not, ◌&&◌, ◌||◌, [], ◌∷◌, ◌++◌, length, refl, sym, ap, ◌∙◌, arith, if◌then◌else◌, bit_and, bit_or, bit_xor, pow-suc, ◌==◌, w64, lit<, append-nil, add-one}
+use Rattle.std.proofs.Common.{◌≡◌, ◌≢◌, ℕ, suc, zero, ◌+◌, ◌-◌, ◌*◌, ◌/◌, ◌%◌, ◌^◌, ◌<◌, ◌≤◌, Bool, true, false, not, ◌&&◌, [], ◌∷◌, ◌++◌, length, refl, sym, ap, ◌∙◌, arith, if◌then◌else◌, bit_and, bit_or, bit_xor, pow-suc, ◌==◌, w64, lit<, append-nil, add-one}
 use Rattle.std.proofs.lemmas.Bool.Decides.{nat_tests}
 use Rattle.std.proofs.lemmas.Bool.{true≢false, false≢true}
 use Rattle.std.proofs.lemmas.Nat.{and_le_l, or_lt, xor_lt, pow_below, pow_pos, shr-shr, field_of, one_shl}
 use Rattle.std.proofs.Math.Pow.{pow_mono, pow-lt, mod-mod-pow}
+use Rattle.std.proofs.Math.Bool.{or-false}
 use Rattle.std.proofs.Math.Nat.{lt_of_lt_of_le, div-div-eq-div-mul, pos_of_ne-zero}
 use Rattle.std.proofs.lemmas.Nat.Bits.{bit_at_lowest, bit_at-lt, bit_at_not, bit_at-zero, shr_and_one, bit_at-pow_same, bit_at-pow_other, bit_at_above, bit_at_xor, bit_at-trailing_zeros, bit_at_ones, bit_at_ones_above, bit_at_cat_low, bit_at_cat_high, bit_at_set_same, bit_at_set_other, bit_at_clear_same, bit_at_clear_other}
 use Rattle.std.specs.Int.{bit_at, trailing_zeros}
@@ -60,22 +61,6 @@ has_bit_past n w i fits past = ap (λ b. b == 1) (bit_at_above n w i fits past)
 pub has_bit_above : (n w : ℕ) → n < 2 ^ w → has_bit n w ≡ false
 has_bit_above n w fits = rw (bit_at_above n w w fits (omega arith)) refl
 
-or_true : (b : Bool) → (b || true) ≡ true
-or_true true = refl
-or_true false = refl
-
-and_true : (b : Bool) → (b && true) ≡ b
-and_true true = refl
-and_true false = refl
-
-and_false : (b : Bool) → (b && false) ≡ false
-and_false true = refl
-and_false false = refl
-
-or_none : (b : Bool) → (b || false) ≡ b
-or_none true = refl
-or_none false = refl
-
 -- what the second vector has and the first has not, as a word
 pub has_bit-lacking : (a b i : ℕ) → a < 2 ^ 64 → i < 64 → has_bit (bit_and b (18446744073709551615 - a)) i ≡ (has_bit b i && not (has_bit a i))
 has_bit-lacking a b i fits within = has_bit-and b (18446744073709551615 - a) i ∙ ap (λ x. has_bit b i && x) (has_bit-not a i fits within)
@@ -108,7 +93,7 @@ put_bit w m d high fits digit =
     let shifted = shifted_digit w d high digit in
     let n = bit_or m (d * 2 ^ w % 18446744073709551616) in
     let m_fits : m < 2 ^ (w + 1) = lt_of_lt_of_le fits (pow_mono (omega arith)) in
-    let below : bools w n ≡ bools w m = bools-same w n m (λ i within. has_bit-or m (d * 2 ^ w % 18446744073709551616) i ∙ rw (shifted.elsewhere i (omega arith)) (or_none (has_bit m i))) in
+    let below : bools w n ≡ bools w m = bools-same w n m (λ i within. has_bit-or m (d * 2 ^ w % 18446744073709551616) i ∙ rw (shifted.elsewhere i (omega arith)) (or-false (has_bit m i))) in
     let top : has_bit n w ≡ (d == 1) = has_bit-or m (d * 2 ^ w % 18446744073709551616) w ∙ rw (shifted.here, has_bit_above m w fits) refl in
     record { fits = or_lt (w + 1) m (d * 2 ^ w % 18446744073709551616) m_fits shifted.fits; bits = bools-more w n ∙ rw (below, top) refl }
 

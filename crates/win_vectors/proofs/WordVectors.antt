@@ -1,5 +1,6 @@
 -- Vectors in four words, and the bits from a place on.
 use Rattle.std.proofs.Common.{◌≡◌, ◌≢◌, ℕ, suc, zero, ◌+◌, ◌-◌, ◌*◌, ◌/◌, ◌%◌, ◌^◌, ◌<◌, ◌≤◌, Bool, true, false, ◌&&◌, ◌||◌, List, [], ◌∷◌, length, refl, sym, ap, ◌∙◌, arith, inl, inr, bit_and, bit_or, slice_set, get_or, replicate, subst, lit<}
+use Rattle.std.proofs.Math.Bool.{or-false}
 use Rattle.std.proofs.lemmas.Bool.{cases_eq, cases_lt}
 use Rattle.std.proofs.lemmas.List.{length-set, length-replicate, get_or-replicate, get_or-set_same, get_or-set_other}
 use Rattle.std.proofs.lemmas.Nat.{and_le_l, shr_le, or_lt, pow_pos}
@@ -148,10 +149,6 @@ AreVectorWords-set w ws word place b new at is_at below low h s =
 pub IsWordFrom-at : (ws : List ℕ) (start word : ℕ) → start ≡ 64 * word → IsWordFrom ws start (get_or ws word 0)
 IsWordFrom-at ws start word at = λ i low. sym (ap (λ n. bit_of ws (n + i)) at ∙ bit_of-word ws word i low)
 
-or_none : (b : Bool) → (b || false) ≡ b
-or_none true = refl
-or_none false = refl
-
 pub IsWordFrom-across : (ws : List ℕ) (start word place : ℕ) → start ≡ 64 * word + place → 0 < place → place < 64 → get_or ws word 0 < 2 ^ 64 → IsWordFrom ws start (bit_or (get_or ws word 0 / 2 ^ place) (get_or ws (word + 1) 0 * 2 ^ (64 - place) % 18446744073709551616))
 IsWordFrom-across ws start word place at some low fits = λ i within.
     let first = get_or ws word 0 in
@@ -162,7 +159,7 @@ IsWordFrom-across ws start word place at some low fits = λ i within.
           let split : start + i ≡ 64 * word + (place + i) = omega arith in
           let in_word : place + i < 64 = omega arith in
           rw (has_bit-shr first place i, has_bit-shl_low second (64 - place) i within below)
-          (or_none (has_bit first (place + i)) ∙ sym (ap (bit_of ws) split ∙ bit_of-word ws word (place + i) in_word))
+          (or-false (has_bit first (place + i)) ∙ sym (ap (bit_of ws) split ∙ bit_of-word ws word (place + i) in_word))
       | inr above ↦
           let past : has_bit first (place + i) ≡ false = has_bit_past first 64 (place + i) fits (omega arith) in
           let split : start + i ≡ 64 * (word + 1) + (i - (64 - place)) = omega arith in
@@ -214,7 +211,7 @@ put_low ws word place bits = bit_or (get_or ws word 0) (bits * 2 ^ place % 18446
 
 put_low-below : (ws : List ℕ) (word place bits i : ℕ) → i < 64 → i < place → has_bit (put_low ws word place bits) i ≡ has_bit (get_or ws word 0) i
 put_low-below ws word place bits i within below =
-    has_bit-or (get_or ws word 0) (bits * 2 ^ place % 18446744073709551616) i ∙ rw (has_bit-shl_low bits place i within below) (or_none (has_bit (get_or ws word 0) i))
+    has_bit-or (get_or ws word 0) (bits * 2 ^ place % 18446744073709551616) i ∙ rw (has_bit-shl_low bits place i within below) (or-false (has_bit (get_or ws word 0) i))
 
 put_low-from : (ws : List ℕ) (word place bits i : ℕ) → i < 64 → place ≤ i → has_bit (get_or ws word 0) i ≡ false → has_bit (put_low ws word place bits) i ≡ has_bit bits (i - place)
 put_low-from ws word place bits i within from clear =
