@@ -53,11 +53,26 @@ ones_of-next width word mask h more =
     ∙ ones_of-append (bits_of (64 * word) mask) (bools (next_places width word) (get_or mask word 0))
     ∙ ap (λ n. ones_of (bits_of (64 * word) mask) + n) (next_ones width word mask h more)
 
-pub ones-most : (bits : ℕ) → bits < 2 ^ 64 → ones bits ≤ 64
-ones-most bits fits = omega (arith, ones_of-bools 64 bits fits, ones_of-le (bools 64 bits), length-bools 64 bits)
+pub ones_of_a_word : (bits : ℕ) → bits < 2 ^ 64 → ones bits ≤ 64
+ones_of_a_word bits fits = omega (arith, ones_of-bools 64 bits fits, ones_of-le (bools 64 bits), length-bools 64 bits)
 
 zero_words-fit : (word : ℕ) → get_or (0 ∷ 0 ∷ 0 ∷ 0 ∷ []) word 0 < 2 ^ 64
 zero_words-fit word = omega (arith, get_or-zero_words word)
+
+-- four words in which all is 0 from a place on
+pub record AreClearFrom (place : ℕ) (words : List ℕ) : Type 0 where
+  pub clear : (i : ℕ) → place ≤ i → bit_of words i ≡ false
+  pub four : length words ≡ 4
+  pub fit : (word : ℕ) → get_or words word 0 < 2 ^ 64
+
+AreClearFrom-none : AreClearFrom 0 (0 ∷ 0 ∷ 0 ∷ 0 ∷ [])
+AreClearFrom-none = record { clear = λ i from. bit_of-zero_words i; four = refl; fit = zero_words-fit }
+
+-- where the mask has this many ones at the places that are done, a word still fits after them
+pub room_for_a_word : (width word ones : ℕ) (mask : List ℕ) → ones ≡ ones_of (bits_of (done_at width word) mask) → 64 * word < width → width ≤ 256 → ones ≤ 192
+room_for_a_word width word ones mask counted more high =
+    let same : ones ≡ ones_of (bits_of (64 * word) mask) = counted ∙ ap (λ n. ones_of (bits_of n mask)) (done_at-before width word more) in
+    omega (arith, ones_of-le (bits_of (64 * word) mask), length-bits_of (64 * word) mask)
 
 -- ---- restrict
 
@@ -65,17 +80,13 @@ zero_words-fit word = omega (arith, get_or-zero_words word)
 pub record RestrictsWords (self mask : List ℕ) (done width : ℕ) (words : List ℕ) : Type 0 where
   pub counted : width ≡ ones_of (bits_of done mask)
   pub so_far : bits_of width words ≡ restrict_of (bits_of done self) (bits_of done mask)
-  pub clear : (i : ℕ) → width ≤ i → bit_of words i ≡ false
-  pub four : length words ≡ 4
-  pub fit : (word : ℕ) → get_or words word 0 < 2 ^ 64
+  pub rest : AreClearFrom width words
 
 pub RestrictsWords-none : (width : ℕ) (self mask : List ℕ) → RestrictsWords self mask (done_at width 0) 0 (0 ∷ 0 ∷ 0 ∷ 0 ∷ [])
 RestrictsWords-none width self mask = rw (done_at-start width) (record {
   counted = rw (bits_of-none mask) refl;
   so_far = rw (bits_of-none self, bits_of-none (0 ∷ 0 ∷ 0 ∷ 0 ∷ [])) refl;
-  clear = λ i from. bit_of-zero_words i;
-  four = refl;
-  fit = zero_words-fit;
+  rest = AreClearFrom-none;
 })
 
 RestrictsWords-more : (width word place bits : ℕ) (self mask words new : List ℕ) → AreVectorWords width mask → 64 * word < width → IsRestrictedWord (get_or self word 0) (get_or mask word 0) (next_places width word) bits → PutsBits place bits words new → RestrictsWords self mask (64 * word) place words → RestrictsWords self mask (64 * word + next_places width word) (place + ones (get_or mask word 0)) new
@@ -93,23 +104,18 @@ RestrictsWords-more width word place bits self mask words new h more r put so_fa
           ∙ ap (λ bs. restrict_of (bits_of (64 * word) self) (bits_of (64 * word) mask) ++ bs) value
           ∙ sym (rw (bits_of-word word n self most, bits_of-word word n mask most)
           (restrict_of-append (bits_of (64 * word) self) (bools n (get_or self word 0)) (bits_of (64 * word) mask) (bools n (get_or mask word 0)) (length-bits_of (64 * word) self ∙ sym (length-bits_of (64 * word) mask))));
-      clear = λ i past.
-          let split : i ≡ place + (i - place) = omega arith in
-          ap (bit_of new) split ∙ put.put (i - place) ∙ has_bit_past bits (ones (get_or mask word 0)) (i - place) fits (omega arith);
-      four = put.four so_far.four;
-      fit = put.fit so_far.fit;
+      rest = record {
+        clear = λ i past.
+            let split : i ≡ place + (i - place) = omega arith in
+            ap (bit_of new) split ∙ put.put (i - place) ∙ has_bit_past bits (ones (get_or mask word 0)) (i - place) fits (omega arith);
+        four = put.four so_far.rest.four;
+        fit = put.fit so_far.rest.fit;
+      };
     }
 
 pub RestrictsWords-next : (width word place bits : ℕ) (self mask words new : List ℕ) → AreVectorWords width mask → 64 * word < width → IsRestrictedWord (get_or self word 0) (get_or mask word 0) (next_places width word) bits → PutsBits place bits words new → RestrictsWords self mask (done_at width word) place words → RestrictsWords self mask (done_at width (word + 1)) (place + ones (get_or mask word 0)) new
 RestrictsWords-next width word place bits self mask words new h more r put so_far =
     rw (done_at-next width word more) (RestrictsWords-more width word place bits self mask words new h more r put (rw (done_at-before width word more) at so_far))
-
--- so many bits at most stand in the words
-pub RestrictsWords-most : (width word place : ℕ) (self mask words : List ℕ) → 64 * word < width → RestrictsWords self mask (done_at width word) place words → place ≤ 64 * word
-RestrictsWords-most width word place self mask words more h =
-    let before = done_at-before width word more in
-    let counted : place ≡ ones_of (bits_of (64 * word) mask) = h.counted ∙ ap (λ n. ones_of (bits_of n mask)) before in
-    omega (arith, ones_of-le (bits_of (64 * word) mask), length-bits_of (64 * word) mask)
 
 pub RestrictsWords-end : (width word place : ℕ) (self mask words : List ℕ) → AreVectorWords width mask → width ≤ 64 * word → 1 ≤ ones_of (bits_of width mask) → RestrictsWords self mask (done_at width word) place words → AreVectorWords place words
 RestrictsWords-end width word place self mask words h end some so_far =
@@ -117,9 +123,9 @@ RestrictsWords-end width word place self mask words h end some so_far =
     record {
       low = omega arith;
       high = omega (arith, ones_of-le (bits_of width mask), length-bits_of width mask, h.high);
-      four = so_far.four;
-      fit = so_far.fit;
-      past = so_far.clear;
+      four = so_far.rest.four;
+      fit = so_far.rest.fit;
+      past = so_far.rest.clear;
     }
 
 -- ---- spread
@@ -128,17 +134,13 @@ RestrictsWords-end width word place self mask words h end some so_far =
 pub record SpreadsWords (self mask : List ℕ) (done from : ℕ) (words : List ℕ) : Type 0 where
   pub counted : from ≡ ones_of (bits_of done mask)
   pub so_far : bits_of done words ≡ spread_of (bits_of from self) (bits_of done mask)
-  pub clear : (i : ℕ) → done ≤ i → bit_of words i ≡ false
-  pub four : length words ≡ 4
-  pub fit : (word : ℕ) → get_or words word 0 < 2 ^ 64
+  pub rest : AreClearFrom done words
 
 pub SpreadsWords-none : (width : ℕ) (self mask : List ℕ) → SpreadsWords self mask (done_at width 0) 0 (0 ∷ 0 ∷ 0 ∷ 0 ∷ [])
 SpreadsWords-none width self mask = rw (done_at-start width) (record {
   counted = rw (bits_of-none mask) refl;
   so_far = rw (bits_of-none mask, bits_of-none (0 ∷ 0 ∷ 0 ∷ 0 ∷ [])) refl;
-  clear = λ i from. bit_of-zero_words i;
-  four = refl;
-  fit = zero_words-fit;
+  rest = AreClearFrom-none;
 })
 
 SpreadsWords-more : (width word from next bits : ℕ) (self mask words : List ℕ) → AreVectorWords width mask → 64 * word < width → word < 4 → bits < 2 ^ 64 → IsWordFrom self from next → IsSpreadWord next (get_or mask word 0) (next_places width word) bits → SpreadsWords self mask (64 * word) from words → SpreadsWords self mask (64 * word + next_places width word) (from + ones (get_or mask word 0)) (slice_set words word bits)
@@ -146,7 +148,7 @@ SpreadsWords-more width word from next bits self mask words h more in_words word
     let n = next_places width word in
     let new = slice_set words word bits in
     let most : n ≤ 64 = next_places-most width word more in
-    let within : word < length words = omega (arith, so_far.four) in
+    let within : word < length words = omega (arith, so_far.rest.four) in
     let count : ones_of (bools n (get_or mask word 0)) ≡ ones (get_or mask word 0) = next_ones width word mask h more in
     let few : ones (get_or mask word 0) ≤ 64 = omega (arith, ones_of-le (bools n (get_or mask word 0)), length-bools n (get_or mask word 0)) in
     let value : bools n bits ≡ spread_of (bools (ones (get_or mask word 0)) next) (bools n (get_or mask word 0)) = rw (← count) spread.value in
@@ -159,31 +161,27 @@ SpreadsWords-more width word from next bits self mask words h more in_words word
           ∙ ap (λ bs. spread_of (bits_of from self) (bits_of (64 * word) mask) ++ bs) value
           ∙ sym (rw (bits_of-append from (ones (get_or mask word 0)) self next (λ i low. sym (window i (omega arith))), bits_of-word word n mask most)
           (spread_of-append (bits_of from self) (bools (ones (get_or mask word 0)) next) (bits_of (64 * word) mask) (bools n (get_or mask word 0)) (length-bits_of from self ∙ so_far.counted)));
-      clear = λ i past. elim (cases_lt i (64 * word + 64)) [
-        | inl inside ↦
-            let split : i ≡ 64 * word + (i - 64 * word) = omega arith in
-            ap (bit_of new) split ∙ here (i - 64 * word) (omega arith) ∙ has_bit_past bits n (i - 64 * word) spread.fits (omega arith)
-        | inr beyond ↦ bit_of-set_other words word bits i (λ same. absurd (omega arith)) ∙ so_far.clear i (omega arith)
-      ];
-      four = length-set words word bits ∙ so_far.four;
-      fit = set_fits words word bits within word_fits so_far.fit;
+      rest = record {
+        clear = λ i past. elim (cases_lt i (64 * word + 64)) [
+          | inl inside ↦
+              let split : i ≡ 64 * word + (i - 64 * word) = omega arith in
+              ap (bit_of new) split ∙ here (i - 64 * word) (omega arith) ∙ has_bit_past bits n (i - 64 * word) spread.fits (omega arith)
+          | inr beyond ↦ bit_of-set_other words word bits i (λ same. absurd (omega arith)) ∙ so_far.rest.clear i (omega arith)
+        ];
+        four = length-set words word bits ∙ so_far.rest.four;
+        fit = set_fits words word bits within word_fits so_far.rest.fit;
+      };
     }
 
 pub SpreadsWords-next : (width word from next bits : ℕ) (self mask words : List ℕ) → AreVectorWords width mask → 64 * word < width → word < 4 → bits < 2 ^ 64 → IsWordFrom self from next → IsSpreadWord next (get_or mask word 0) (next_places width word) bits → SpreadsWords self mask (done_at width word) from words → SpreadsWords self mask (done_at width (word + 1)) (from + ones (get_or mask word 0)) (slice_set words word bits)
 SpreadsWords-next width word from next bits self mask words h more in_words word_fits window spread so_far =
     rw (done_at-next width word more) (SpreadsWords-more width word from next bits self mask words h more in_words word_fits window spread (rw (done_at-before width word more) at so_far))
 
-pub SpreadsWords-most : (width word from : ℕ) (self mask words : List ℕ) → 64 * word < width → SpreadsWords self mask (done_at width word) from words → from ≤ 64 * word
-SpreadsWords-most width word from self mask words more h =
-    let before = done_at-before width word more in
-    let counted : from ≡ ones_of (bits_of (64 * word) mask) = h.counted ∙ ap (λ n. ones_of (bits_of n mask)) before in
-    omega (arith, ones_of-le (bits_of (64 * word) mask), length-bits_of (64 * word) mask)
-
 pub SpreadsWords-end : (width word from : ℕ) (self mask words : List ℕ) → AreVectorWords width mask → width ≤ 64 * word → SpreadsWords self mask (done_at width word) from words → AreVectorWords width words
 SpreadsWords-end width word from self mask words h end so_far = record {
   low = h.low;
   high = h.high;
-  four = so_far.four;
-  fit = so_far.fit;
-  past = λ i past. so_far.clear i (rw (done_at-end width word end) past);
+  four = so_far.rest.four;
+  fit = so_far.rest.fit;
+  past = λ i past. so_far.rest.clear i (rw (done_at-end width word end) past);
 }

@@ -215,6 +215,7 @@ impl WinVector {
     }
 
     /// The bits at the ones of the mask, in order.
+    #[tactic(auto, using(crate::proofs::Masks::room_for_a_word, crate::proofs::Masks::ones_of_a_word))]
     pub fn restrict(self, mask: WinVector) -> WinVector
         requires same_width { length self ≡ length mask }
         requires not_empty { 1 ≤ ones_of mask }
@@ -235,6 +236,7 @@ impl WinVector {
     }
 
     /// The bits put at the ones of the mask, in order, and 1 at its zeros.
+    #[tactic(auto, using(crate::proofs::Masks::room_for_a_word, crate::proofs::Masks::ones_of_a_word))]
     pub fn spread(self, mask: WinVector) -> WinVector
         requires { length self ≡ ones_of mask }
         ensures { result ≡ spread_of self mask }

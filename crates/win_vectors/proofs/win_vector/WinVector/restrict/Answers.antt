@@ -4,7 +4,7 @@ use Rattle.win_vectors.specs.Vectors.{ones_of}
 use Rattle.win_vectors.specs.Words.{AreVectorWords, IsRestrictedWord}
 use Rattle.win_vectors.proofs.VectorLemmas.{restrict_of-all_of}
 use Rattle.win_vectors.proofs.WordVectors.{widths-same}
-use Rattle.win_vectors.proofs.Masks.{RestrictsWords-none, RestrictsWords-next, RestrictsWords-most, RestrictsWords-end, done_at-end, next_places, ones-most}
+use Rattle.win_vectors.proofs.Masks.{RestrictsWords-none, RestrictsWords-next, RestrictsWords-end, done_at-end, next_places}
 use Rattle.win_vectors.proofs.win_vector.WinVector.restrict.Goals as goal
 
 pub returns-then-is_all : goal.returns-then-is_all
@@ -12,19 +12,6 @@ returns-then-is_all c = c.self.view_is ∙ sym (restrict_of-all_of c.args.self c
 
 pub loop-word-init : goal.loop-word-init
 loop-word-init c = RestrictsWords-none c.self.inside.width c.self.inside.words c.mask.inside.words
-
-pub put_bits-requires-clause-within : goal.put_bits-requires-clause-within
-put_bits-requires-clause-within c =
-    let more : 64 * c.loop-word.word < c.self.inside.width = omega (arith, c.words_in_use-word-end.ensures) in
-    let most = RestrictsWords-most c.self.inside.width c.loop-word.word c.loop-word.width c.self.inside.words c.mask.inside.words c.loop-word.words more c.loop-word.invariant in
-    omega (arith, c.self.invariant.high)
-
-pub overflow_add-width : goal.overflow_add-width
-overflow_add-width c =
-    let more : 64 * c.loop-word.word < c.self.inside.width = omega (arith, c.words_in_use-word-end.ensures) in
-    let most = RestrictsWords-most c.self.inside.width c.loop-word.word c.loop-word.width c.self.inside.words c.mask.inside.words c.loop-word.words more c.loop-word.invariant in
-    let few = ones-most (get_or c.mask.inside.words c.loop-word.word 0) (c.mask.invariant.fit c.loop-word.word) in
-    record { fits = omega (arith, c.self.invariant.high) }
 
 pub loop-word-preserved : goal.loop-word-preserved
 loop-word-preserved c =

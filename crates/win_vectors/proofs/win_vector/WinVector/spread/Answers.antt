@@ -4,7 +4,7 @@ use Rattle.bit_lists.proofs.Words.{length-bits_of}
 use Rattle.win_vectors.specs.Vectors.{ones_of}
 use Rattle.win_vectors.specs.Words.{IsSpreadWord}
 use Rattle.win_vectors.proofs.VectorLemmas.{all-from_ones, spread_of-all_of}
-use Rattle.win_vectors.proofs.Masks.{SpreadsWords-none, SpreadsWords-next, SpreadsWords-most, SpreadsWords-end, done_at-end, next_places, ones-most}
+use Rattle.win_vectors.proofs.Masks.{SpreadsWords-none, SpreadsWords-next, SpreadsWords-end, done_at-end, next_places}
 use Rattle.win_vectors.proofs.win_vector.WinVector.spread.Goals as goal
 
 pub returns-then-self-mask : goal.returns-then-self-mask
@@ -16,19 +16,6 @@ returns-then-self-mask c =
 
 pub loop-word-init : goal.loop-word-init
 loop-word-init c = SpreadsWords-none c.mask.inside.width c.self.inside.words c.mask.inside.words
-
-pub bits_from-requires : goal.bits_from-requires
-bits_from-requires c =
-    let more : 64 * c.loop-word.word < c.mask.inside.width = omega (arith, c.words_in_use-word-end.ensures) in
-    let most = SpreadsWords-most c.mask.inside.width c.loop-word.word c.loop-word.from c.self.inside.words c.mask.inside.words c.loop-word.words more c.loop-word.invariant in
-    omega (arith, c.mask.invariant.high)
-
-pub overflow_add-from : goal.overflow_add-from
-overflow_add-from c =
-    let more : 64 * c.loop-word.word < c.mask.inside.width = omega (arith, c.words_in_use-word-end.ensures) in
-    let most = SpreadsWords-most c.mask.inside.width c.loop-word.word c.loop-word.from c.self.inside.words c.mask.inside.words c.loop-word.words more c.loop-word.invariant in
-    let few = ones-most (get_or c.mask.inside.words c.loop-word.word 0) (c.mask.invariant.fit c.loop-word.word) in
-    record { fits = omega (arith, c.mask.invariant.high) }
 
 pub loop-word-preserved : goal.loop-word-preserved
 loop-word-preserved c =
