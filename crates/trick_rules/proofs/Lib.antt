@@ -1,3 +1,4 @@
+mod Parts
 pub mod CardLists
 pub mod Turns
 pub mod Soundness
