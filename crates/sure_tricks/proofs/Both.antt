@@ -32,24 +32,24 @@ pub record IsJoint (x : Seat) (s : State) (ours theirs : List ℕ) (link v : ℕ
 module _ (x : Seat) (ours theirs : List ℕ) (w link : ℕ) (set : IsCardSet theirs) (differ : (d : ℕ) → has_card theirs d ≡ true → suit_of d ≢ suit_of w) where
   discard : (s : State) → IsFollowed x NoTrump ours w s 2 → to_play s.position ≡ seat_after 2 x → IsKept x s theirs link → length theirs < tricks_left s.position
       → (d : ℕ) × (has_card (legal_in s) d ≡ true) × (has_card theirs d ≡ false)
-  discard s f at kept room = go (some_legal s f.ok (going s.position f.on))
+  discard s f at kept room = go (some_legal s f.trick.ok (going s.position f.trick.on))
     where
       held : IsSubset theirs (hand_of s (to_play s.position))
       held d h = ap (λ seat. has_card (hand_of s seat) d) at ∙ kept.held d h
 
       hand_full : length (hand_of s (to_play s.position)) ≡ tricks_left s.position
       hand_full =
-          let all = hand_length s f.ok (to_play s.position) in
-          let none : played_count s.position (to_play s.position) ≡ 0 = count_in-turn (length s.position.trick.cards) s.position.trick.leader f.ok.sound.trick_short in
+          let all = hand_length s f.trick.ok (to_play s.position) in
+          let none : played_count s.position (to_play s.position) ≡ 0 = count_in-turn (length s.position.trick.cards) s.position.trick.leader f.trick.ok.sound.trick_short in
           omega arith
 
       whole : ((d : ℕ) → has_card (hand_of s (to_play s.position)) d ≡ true → same_suit (suit_of d) (suit_of w) ≡ false) → legal_in s ≡ hand_of s (to_play s.position)
-      whole none = ap (λ (l : List ℕ). legal_cards l (hand_of s (to_play s.position))) f.cards
+      whole none = ap (λ (l : List ℕ). legal_cards l (hand_of s (to_play s.position))) f.trick.are
           ∙ ap (λ (l : List ℕ). or_whole l (hand_of s (to_play s.position))) (filter-none (λ d. same_suit (suit_of d) (suit_of w)) (hand_of s (to_play s.position)) none)
 
       other : ((d : ℕ) → has_card (hand_of s (to_play s.position)) d ≡ true → same_suit (suit_of d) (suit_of w) ≡ false) → (d : ℕ) × (has_card (legal_in s) d ≡ true) × (has_card theirs d ≡ false)
       other none =
-          let rest = length-minus (hand_of s (to_play s.position)) theirs (hand_set s f.ok (to_play s.position)) set held in
+          let rest = length-minus (hand_of s (to_play s.position)) theirs (hand_set s f.trick.ok (to_play s.position)) set held in
           let full = hand_full in
           let d = some_card (filter (λ c. not (has_card theirs c)) (hand_of s (to_play s.position))) (omega arith) in
           let both = and_parts (has_card (hand_of s (to_play s.position)) d.0) (not (has_card theirs d.0)) (sym (has_card-filter (λ c. not (has_card theirs c)) (hand_of s (to_play s.position)) d.0) ∙ d.1) in
@@ -57,7 +57,7 @@ module _ (x : Seat) (ours theirs : List ℕ) (w link : ℕ) (set : IsCardSet the
 
       go : (c : ℕ) × (has_card (legal_in s) c ≡ true) → (d : ℕ) × (has_card (legal_in s) d ≡ true) × (has_card theirs d ≡ false)
       go c =
-          let may = may_follow w f.others (hand_of s (to_play s.position)) c.0 (subst (λ (l : List ℕ). has_card (legal_cards l (hand_of s (to_play s.position))) c.0 ≡ true) f.cards c.1) in
+          let may = may_follow w f.others (hand_of s (to_play s.position)) c.0 (subst (λ (l : List ℕ). has_card (legal_cards l (hand_of s (to_play s.position))) c.0 ≡ true) f.trick.are c.1) in
           ⊎_elim
           (λ (same : suit_of c.0 ≡ suit_of w). (
             c.0,
@@ -105,38 +105,38 @@ joint (suc k) x s ours theirs link v j few h = go (lead_of NoTrump ours j.lead.s
         let r1 = tricks_within s.position w l.ok.sound (legal_can_play s l.ok w legal) short in
         let h1 = suffices_within b s.position w (suc n) l.ok.sound (legal_can_play s l.ok w legal) short h0 in
         by_card s b w l.ok (going s.position (some_left x NoTrump ours w lead low_w s l)) (ap is_declarers (at_turn x NoTrump ours w lead low_w s l)) legal
-        (by_each (after s w) b f1.ok (going (after s w).position f1.on) (λ c1 l1.
+        (by_each (after s w) b f1.trick.ok (going (after s w).position f1.trick.on) (λ c1 l1.
         let s1 = after s w in
         let count1 = f1.count in
-        let can1 = legal_can_play s1 f1.ok c1 l1 in
+        let can1 = legal_can_play s1 f1.trick.ok c1 l1 in
         let f2 = stepped x NoTrump ours w lead low_w s1 1 f1 (omega arith) (omega arith) c1 l1 (omega arith) in
-        let r2 = tricks_within s1.position c1 f1.ok.sound can1 (omega arith) in
-        let h2 = suffices_within b s1.position c1 (suc n) f1.ok.sound can1 (omega arith) h1 in
+        let r2 = tricks_within s1.position c1 f1.trick.ok.sound can1 (omega arith) in
+        let h2 = suffices_within b s1.position c1 (suc n) f1.trick.ok.sound can1 (omega arith) h1 in
         let held1 : has_card (hand_of s1 (seat_after 1 x)) c1 ≡ true = subst (λ seat. has_card (hand_of s1 seat) c1 ≡ true) (turn x NoTrump ours w lead low_w s1 1 f1 (omega arith) (omega arith) c1 l1)
         (in_hand x NoTrump ours w lead low_w s1 1 f1 (omega arith) (omega arith) c1 l1) in
-        let k2 = kept_by_other x s1 theirs link c1 1 f1.ok k1 (omega arith) (λ e. omega arith) (λ e. omega arith) held1 in
+        let k2 = kept_by_other x s1 theirs link c1 1 f1.trick.ok k1 (omega arith) (λ e. omega arith) (λ e. omega arith) held1 in
         let s2 = after s1 c1 in
-        let at2 : to_play s2.position ≡ seat_after 2 x = ap₂ (λ (i : ℕ) (seat : Seat). seat_after i seat) f2.count f2.leads in
+        let at2 : to_play s2.position ≡ seat_after 2 x = ap₂ (λ (i : ℕ) (seat : Seat). seat_after i seat) f2.count f2.trick.leads in
         let room = j.room in
         let d = discard x ours theirs w link j.set differ s2 f2 at2 k2 (omega arith) in
-        let can2 = legal_can_play s2 f2.ok d.0 d.1 in
+        let can2 = legal_can_play s2 f2.trick.ok d.0 d.1 in
         let count2 = f2.count in
         let f3 = stepped x NoTrump ours w lead low_w s2 2 f2 (omega arith) (omega arith) d.0 d.1 (omega arith) in
-        let r3 = tricks_within s2.position d.0 f2.ok.sound can2 (omega arith) in
-        let h3 = suffices_within b s2.position d.0 (suc n) f2.ok.sound can2 (omega arith) h2 in
+        let r3 = tricks_within s2.position d.0 f2.trick.ok.sound can2 (omega arith) in
+        let h3 = suffices_within b s2.position d.0 (suc n) f2.trick.ok.sound can2 (omega arith) h2 in
         let held2 : has_card (hand_of s2 (seat_after 2 x)) d.0 ≡ true = subst (λ seat. has_card (hand_of s2 seat) d.0 ≡ true) at2 (legal_cards-low s2.position.trick.cards (hand_of s2 (to_play s2.position)) d.0 d.1) in
-        let k3 = kept_after x s2 theirs link d.0 k2 d.2 (other_card s2 f2.ok (seat_after 2 x) x d.0 link (λ e. x_not_z (sym e)) held2 k2.linked) in
-        by_card s2 b d.0 f2.ok (going s2.position f2.on) (ap is_declarers at2 ∙ partners_side x) d.1
-        (by_each (after s2 d.0) b f3.ok (going (after s2 d.0).position f3.on) (λ c3 l3.
+        let k3 = kept_after x s2 theirs link d.0 k2 d.2 (other_card s2 f2.trick.ok (seat_after 2 x) x d.0 link (λ e. x_not_z (sym e)) held2 k2.linked) in
+        by_card s2 b d.0 f2.trick.ok (going s2.position f2.trick.on) (ap is_declarers at2 ∙ partners_side x) d.1
+        (by_each (after s2 d.0) b f3.trick.ok (going (after s2 d.0).position f3.trick.on) (λ c3 l3.
         let s3 = after s2 d.0 in
-        let can3 = legal_can_play s3 f3.ok c3 l3 in
+        let can3 = legal_can_play s3 f3.trick.ok c3 l3 in
         let e = ended x NoTrump ours w lead low_w s3 3 f3 (omega arith) (omega arith) c3 l3 refl in
         let won = wins x NoTrump ours w lead low_w s3 3 f3 (omega arith) (omega arith) c3 l3 in
-        let r4 = tricks_last s3.position c3 f3.ok.sound can3 f3.count in
-        let h4 = suffices_after b s3.position c3 n f3.ok.sound can3 f3.count (ap is_declarers won) h3 in
+        let r4 = tricks_last s3.position c3 f3.trick.ok.sound can3 f3.count in
+        let h4 = suffices_after b s3.position c3 n f3.trick.ok.sound can3 f3.count (ap is_declarers won) h3 in
         let held3 : has_card (hand_of s3 (seat_after 3 x)) c3 ≡ true = subst (λ seat. has_card (hand_of s3 seat) c3 ≡ true) (turn x NoTrump ours w lead low_w s3 3 f3 (omega arith) (omega arith) c3 l3)
         (in_hand x NoTrump ours w lead low_w s3 3 f3 (omega arith) (omega arith) c3 l3) in
-        let k4 = kept_by_other x s3 theirs link c3 3 f3.ok k3 (omega arith) (λ i. omega arith) (λ i. omega arith) held3 in
+        let k4 = kept_by_other x s3 theirs link c3 3 f3.trick.ok k3 (omega arith) (λ i. omega arith) (λ i. omega arith) held3 in
         let less = length-take_out ours w l.set lead.among in
         again (after s3 c3) w (record {
           lead = e;

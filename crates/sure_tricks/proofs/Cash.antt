@@ -80,15 +80,53 @@ pub record IsLeading (x : Seat) (trump : Trump) (s : State) (sure : List ℕ) : 
   pub high : (y : Seat) → y ≢ x → AreHigh sure (hand_of s y)
   pub safe : (y : Seat) → y ≢ x → AreSafe trump sure (hand_of s y)
 
--- ---- within the trick that a sure card was led to
+-- ---- within a trick
 
-pub record IsFollowed (x : Seat) (trump : Trump) (sure : List ℕ) (w : ℕ) (s : State) (j : ℕ) : Type 0 where
+-- this seat led to the trick, and these cards lie in it
+pub record IsTrick (x : Seat) (trump : Trump) (s : State) (cards : List ℕ) : Type 0 where
   pub ok : IsState s
   pub on : 1 ≤ tricks_left s.position
   pub leads : s.position.trick.leader ≡ x
   pub trumps : s.position.trump ≡ trump
+  pub are : s.position.trick.cards ≡ cards
+
+module _ (x : Seat) (trump : Trump) (s : State) (cards : List ℕ) (t : IsTrick x trump s cards) (c : ℕ) (legal : has_card (legal_in s) c ≡ true) where
+  -- a card that doesn't end it
+  pub one_more : length cards < 3 → IsTrick x trump (after s c) (cards ++ c ∷ [])
+  one_more short =
+      let count = ap (length {A = ℕ}) t.are in
+      let is = after_short s.position c (omega arith) in
+      let tricks = tricks_within s.position c t.ok.sound (legal_can_play s t.ok c legal) (omega arith) in
+      let on = t.on in
+      record {
+        ok = after-IsState s t.ok c legal;
+        on = omega arith;
+        leads = ap (λ (u : PositionValue). u.trick.leader) is ∙ t.leads;
+        trumps = ap (λ (u : PositionValue). u.trump) is ∙ t.trumps;
+        are = ap (λ (u : PositionValue). u.trick.cards) is ∙ ap (λ (l : List ℕ). l ++ c ∷ []) t.are;
+      }
+
+  -- after the card that ends it the winner is on lead with its sure cards
+  pub winner_leads : (winner : Seat) (sure : List ℕ) → length cards ≡ 3 → winner_of s.position.trump (put_card s.position c).trick ≡ winner → IsCardSet sure → IsSubset sure (hand_of (after s c) winner)
+      → ((y : Seat) → y ≢ winner → AreHigh sure (hand_of (after s c) y)) → ((y : Seat) → y ≢ winner → AreSafe trump sure (hand_of (after s c) y)) → IsLeading winner trump (after s c) sure
+  winner_leads winner sure fourth won set held high safe =
+      let is = after_third s.position c (ap (length {A = ℕ}) t.are ∙ fourth) in
+      record {
+        ok = after-IsState s t.ok c legal;
+        leads = ap (λ (u : PositionValue). u.trick.leader) is ∙ won;
+        none = ap (λ (u : PositionValue). u.trick.cards) is;
+        trumps = ap (λ (u : PositionValue). u.trump) is ∙ t.trumps;
+        set = set;
+        held = held;
+        high = high;
+        safe = safe;
+      }
+
+-- ---- within the trick that a sure card was led to
+
+pub record IsFollowed (x : Seat) (trump : Trump) (sure : List ℕ) (w : ℕ) (s : State) (j : ℕ) : Type 0 where
   pub others : List ℕ
-  pub cards : s.position.trick.cards ≡ w ∷ others
+  pub trick : IsTrick x trump s (w ∷ others)
   pub weak : (d : ℕ) → has_card others d ≡ true → strength trump (suit_of w) d ≤ strength trump (suit_of w) w
   pub count : length s.position.trick.cards ≡ j
   pub held : IsSubset (take_out w sure) (hand_of s x)
@@ -102,25 +140,25 @@ module _ (x : Seat) (trump : Trump) (sure : List ℕ) (w : ℕ) (lead : IsLead t
   -- what the next seat's card leaves
   module _ (s : State) (j : ℕ) (f : IsFollowed x trump sure w s j) (past : 1 ≤ j) (short : j < 4) (c : ℕ) (legal : has_card (legal_in s) c ≡ true) where
     pub turn : to_play s.position ≡ seat_after j x
-    turn = ap₂ (λ (n : ℕ) (seat : Seat). seat_after n seat) f.count f.leads
+    turn = ap₂ (λ (n : ℕ) (seat : Seat). seat_after n seat) f.count f.trick.leads
 
     pub in_hand : has_card (hand_of s (to_play s.position)) c ≡ true
     in_hand = legal_cards-low s.position.trick.cards (hand_of s (to_play s.position)) c legal
 
     pub can : CanPlay s.position c
-    can = legal_can_play s f.ok c legal
+    can = legal_can_play s f.trick.ok c legal
 
     pub follows : MayFollow w (hand_of s (seat_after j x)) c
     unfolding turn
     follows = subst (λ seat. MayFollow w (hand_of s seat) c) turn
-        (may_follow w f.others (hand_of s (to_play s.position)) c (subst (λ (l : List ℕ). has_card (legal_cards l (hand_of s (to_play s.position))) c ≡ true) f.cards legal))
+        (may_follow w f.others (hand_of s (to_play s.position)) c (subst (λ (l : List ℕ). has_card (legal_cards l (hand_of s (to_play s.position))) c ≡ true) f.trick.are legal))
 
     stays : (i : ℕ) → i < 4 → i ≢ j → hand_of (after s c) (seat_after i x) ≡ hand_of s (seat_after i x)
-    stays i low differ = hand_stays s c (seat_after i x) f.ok in_hand (λ e. seats_differ i j x low short differ (e ∙ turn))
+    stays i low differ = hand_stays s c (seat_after i x) f.trick.ok in_hand (λ e. seats_differ i j x low short differ (e ∙ turn))
 
     played : AreHigh (take_out w sure) (hand_of (after s c) (seat_after j x)) × AreSafe trump (take_out w sure) (hand_of (after s c) (seat_after j x))
     played =
-        let set = hand_set s f.ok (seat_after j x) in
+        let set = hand_set s f.trick.ok (seat_after j x) in
         let before = f.todo j (omega arith) short in
         let is = hand_after s c (seat_after j x) in (
           subst (AreHigh (take_out w sure)) (sym is) (high_after trump sure w lead (hand_of s (seat_after j x)) set c follows before.0),
@@ -141,7 +179,7 @@ module _ (x : Seat) (trump : Trump) (sure : List ℕ) (w : ℕ) (lead : IsLead t
     all_weak d h = elim (cases_Bool (has_card f.others d)) as (λ _. strength trump (suit_of w) d ≤ strength trump (suit_of w) w) [
       | inl e ↦ f.weak d e
       | inr e ↦ (let same : c ≡ d = eqb-true c d (rw e at (sym (has_card-push f.others c d) ∙ h)) in
-          let set = hand_set s f.ok (seat_after j x) in
+          let set = hand_set s f.trick.ok (seat_after j x) in
           let before = f.todo j (omega arith) short in
           subst (λ k. strength trump (suit_of w) k ≤ strength trump (suit_of w) w) same
           (weaker trump sure w lead (hand_of s (seat_after j x)) set c follows before.0 before.1 (has_card-below (hand_of s (seat_after j x)) c set follows.held) low_w))
@@ -150,42 +188,28 @@ module _ (x : Seat) (trump : Trump) (sure : List ℕ) (w : ℕ) (lead : IsLead t
     pub stepped : j < 3 → IsFollowed x trump sure w (after s c) (suc j)
     stepped within =
         let count = f.count in
-        let is = after_short s.position c (omega arith) in
-        let tricks = tricks_within s.position c f.ok.sound can (omega arith) in
-        let on = f.on in
+        let same = ap (length {A = ℕ}) f.trick.are in
         record {
-          ok = after-IsState s f.ok c legal;
-          on = omega arith;
-          leads = ap (λ (u : PositionValue). u.trick.leader) is ∙ f.leads;
-          trumps = ap (λ (u : PositionValue). u.trump) is ∙ f.trumps;
           others = f.others ++ c ∷ [];
-          cards = ap (λ (u : PositionValue). u.trick.cards) is ∙ ap (λ (l : List ℕ). l ++ c ∷ []) f.cards;
+          trick = one_more x trump s (w ∷ f.others) f.trick c legal (omega arith);
           weak = all_weak;
-          count = ap (λ (u : PositionValue). length u.trick.cards) is ∙ cards_more s.position c ∙ ap suc f.count;
+          count = ap (λ (u : PositionValue). length u.trick.cards) (after_short s.position c (omega arith)) ∙ cards_more s.position c ∙ ap suc f.count;
           held = still_held;
           todo = λ i more low. subst (λ (h : List ℕ). AreHigh sure h × AreSafe trump sure h) (sym (stays i low (λ e. omega arith))) (f.todo i (omega arith) low);
           done = all_done;
         }
 
     pub wins : winner_of s.position.trump (put_card s.position c).trick ≡ x
-    wins = ap₂ (λ (t : Trump) (k : TrickValue). winner_of t k) f.trumps
-        (ap₂ (λ (seat : Seat) (l : List ℕ). record { leader = seat; cards = l }) f.leads (ap (λ (l : List ℕ). l ++ c ∷ []) f.cards))
+    wins = ap₂ (λ (t : Trump) (k : TrickValue). winner_of t k) f.trick.trumps
+        (ap₂ (λ (seat : Seat) (l : List ℕ). record { leader = seat; cards = l }) f.trick.leads (ap (λ (l : List ℕ). l ++ c ∷ []) f.trick.are))
         ∙ leader_wins trump x w (f.others ++ c ∷ []) all_weak
 
     -- after the last card the same seat leads again
     pub ended : j ≡ 3 → IsLeading x trump (after s c) (take_out w sure)
     ended last =
-        let is = after_third s.position c (f.count ∙ last) in
-        record {
-          ok = after-IsState s f.ok c legal;
-          leads = ap (λ (u : PositionValue). u.trick.leader) is ∙ wins;
-          none = ap (λ (u : PositionValue). u.trick.cards) is;
-          trumps = ap (λ (u : PositionValue). u.trump) is ∙ f.trumps;
-          set = IsCardSet-filter (λ d. not (eqb d w)) sure lead.set;
-          held = still_held;
-          high = λ y differ. let at = next_three x y differ in subst (λ seat. AreHigh (take_out w sure) (hand_of (after s c) seat)) at.3 (all_done at.0 at.1 (let low = at.2 in omega arith)).0;
-          safe = λ y differ. let at = next_three x y differ in subst (λ seat. AreSafe trump (take_out w sure) (hand_of (after s c) seat)) at.3 (all_done at.0 at.1 (let low = at.2 in omega arith)).1;
-        }
+        winner_leads x trump s (w ∷ f.others) f.trick c legal x (take_out w sure) (sym (ap (length {A = ℕ}) f.trick.are) ∙ f.count ∙ last) wins (IsCardSet-filter (λ d. not (eqb d w)) sure lead.set) still_held
+        (λ y differ. let at = next_three x y differ in subst (λ seat. AreHigh (take_out w sure) (hand_of (after s c) seat)) at.3 (all_done at.0 at.1 (let low = at.2 in omega arith)).0)
+        (λ y differ. let at = next_three x y differ in subst (λ seat. AreSafe trump (take_out w sure) (hand_of (after s c) seat)) at.3 (all_done at.0 at.1 (let low = at.2 in omega arith)).1)
 
   -- when the card is led
   module _ (s : State) (l : IsLeading x trump s sure) where
@@ -210,18 +234,12 @@ module _ (x : Seat) (trump : Trump) (sure : List ℕ) (w : ℕ) (lead : IsLead t
 
     pub led : IsFollowed x trump sure w (after s w) 1
     led =
-        let is = after_short s.position w in_short in
-        let tricks = tricks_within s.position w l.ok.sound (legal_can_play s l.ok w lead_legal) in_short in
-        let on = some_left in
+        let empty : IsTrick x trump s [] = record { ok = l.ok; on = some_left; leads = l.leads; trumps = l.trumps; are = l.none } in
         record {
-          ok = after-IsState s l.ok w lead_legal;
-          on = omega arith;
-          leads = ap (λ (u : PositionValue). u.trick.leader) is ∙ l.leads;
-          trumps = ap (λ (u : PositionValue). u.trump) is ∙ l.trumps;
           others = [];
-          cards = ap (λ (u : PositionValue). u.trick.cards) is ∙ ap (λ (t : List ℕ). t ++ w ∷ []) l.none;
+          trick = one_more x trump s [] empty w lead_legal (omega arith);
           weak = λ d h. absurd (false≢true h);
-          count = ap (λ (u : PositionValue). length u.trick.cards) is ∙ ap (λ (t : List ℕ). length (t ++ w ∷ [])) l.none;
+          count = ap (λ (u : PositionValue). length u.trick.cards) (after_short s.position w in_short) ∙ ap (λ (t : List ℕ). length (t ++ w ∷ [])) l.none;
           held = λ d h.
               let both = and_parts (has_card sure d) (not (eqb d w)) (sym (has_card-take_out w sure d) ∙ h) in
               ap (λ (t : List ℕ). has_card t d) (hand_after s w x) ∙ has_card-take_out w (hand_of s x) d ∙ rw (l.held d both.0, both.1) refl;
@@ -249,19 +267,19 @@ cash (suc k) x trump s sure l few h = go (lead_of trump sure l.set (omega arith)
         let f1 = led x trump sure w lead low_w s l in
         let h1 = suffices_within b s.position w (suc k) l.ok.sound (legal_can_play s l.ok w legal) (in_short x trump sure w lead low_w s l) h in
         by_card s b w l.ok (going s.position (some_left x trump sure w lead low_w s l)) (ap is_declarers (at_turn x trump sure w lead low_w s l)) legal
-        (by_each (after s w) b f1.ok (going (after s w).position f1.on) (λ c1 l1.
+        (by_each (after s w) b f1.trick.ok (going (after s w).position f1.trick.on) (λ c1 l1.
         let s1 = after s w in
         let f2 = stepped x trump sure w lead low_w s1 1 f1 (omega arith) (omega arith) c1 l1 (omega arith) in
-        let h2 = suffices_within b s1.position c1 (suc k) f1.ok.sound (legal_can_play s1 f1.ok c1 l1) (let count = f1.count in omega arith) h1 in
-        by_each (after s1 c1) b f2.ok (going (after s1 c1).position f2.on) (λ c2 l2.
+        let h2 = suffices_within b s1.position c1 (suc k) f1.trick.ok.sound (legal_can_play s1 f1.trick.ok c1 l1) (let count = f1.count in omega arith) h1 in
+        by_each (after s1 c1) b f2.trick.ok (going (after s1 c1).position f2.trick.on) (λ c2 l2.
         let s2 = after s1 c1 in
         let f3 = stepped x trump sure w lead low_w s2 2 f2 (omega arith) (omega arith) c2 l2 (omega arith) in
-        let h3 = suffices_within b s2.position c2 (suc k) f2.ok.sound (legal_can_play s2 f2.ok c2 l2) (let count = f2.count in omega arith) h2 in
-        by_each (after s2 c2) b f3.ok (going (after s2 c2).position f3.on) (λ c3 l3.
+        let h3 = suffices_within b s2.position c2 (suc k) f2.trick.ok.sound (legal_can_play s2 f2.trick.ok c2 l2) (let count = f2.count in omega arith) h2 in
+        by_each (after s2 c2) b f3.trick.ok (going (after s2 c2).position f3.trick.on) (λ c3 l3.
         let s3 = after s2 c2 in
         let e = ended x trump sure w lead low_w s3 3 f3 (omega arith) (omega arith) c3 l3 refl in
         let won = wins x trump sure w lead low_w s3 3 f3 (omega arith) (omega arith) c3 l3 in
-        let h4 = suffices_after b s3.position c3 k f3.ok.sound (legal_can_play s3 f3.ok c3 l3) f3.count (ap is_declarers won) h3 in
+        let h4 = suffices_after b s3.position c3 k f3.trick.ok.sound (legal_can_play s3 f3.trick.ok c3 l3) f3.count (ap is_declarers won) h3 in
         again (after s3 c3) w e h4 (let less = length-take_out sure w l.set lead.among in omega arith)))))
 
 pub leading : (s : State) (sure : List ℕ) → IsState s → s.position.trick.cards ≡ [] → AreSure s (to_play s.position) sure → IsLeading s.position.trick.leader s.position.trump s sure

@@ -10,45 +10,22 @@ use Rattle.card_sets.proofs.SetCounts.{length-take_out}
 use Rattle.card_sets.proofs.Suits.{same_suit-true, same_suit-refl, card_of-suit_of}
 use Rattle.trick_rules.specs.declared.trump.Trump.{Trump}
 use Rattle.trick_rules.specs.declared.trump.Trump.TheVariants.{NoTrump}
-use Rattle.trick_rules.specs.Positions.{TrickValue, PositionValue, State, seat_after, to_play, tricks_left, IsState}
-use Rattle.trick_rules.specs.Play.{take_out, put_card, end_trick, after_card, after, hand_of, legal_in, legal_cards, of_suit, or_whole, is_declarers, strength, winner_of, makes}
+use Rattle.trick_rules.specs.Positions.{TrickValue, State, seat_after, to_play, IsState}
+use Rattle.trick_rules.specs.Play.{take_out, put_card, after, hand_of, legal_in, legal_cards, of_suit, or_whole, is_declarers, strength, winner_of, makes}
 use Rattle.trick_rules.proofs.CardLists.{has_card-take_out}
 use Rattle.trick_rules.proofs.TrickLemmas.{IsHighest, winner_from_highest}
-use Rattle.trick_rules.proofs.States.{after-IsState, legal_can_play, legal_cards-low}
-use Rattle.trick_rules.proofs.Soundness.{after_short, after_third}
+use Rattle.trick_rules.proofs.States.{legal_can_play, legal_cards-low}
 use Rattle.sure_tricks.specs.Sure.{AreHigh, AreSafe}
 use Rattle.sure_tricks.proofs.Holding.{IsLead, MayFollow, may_follow, lower, high_after, suit_test}
-use Rattle.sure_tricks.proofs.Hands.{seats_differ, next_three, hand_after, hand_set, by_card, by_each, Suffices, tricks_within, suffices_within, suffices_after}
-use Rattle.sure_tricks.proofs.Cash.{IsLeading, going, cash}
+use Rattle.sure_tricks.proofs.Hands.{seats_differ, next_three, hand_after, hand_set, by_card, by_each, Suffices, suffices_within, suffices_after}
+use Rattle.sure_tricks.proofs.Cash.{IsLeading, IsTrick, one_more, winner_leads, going, cash}
 use Rattle.sure_tricks.proofs.Joint.{high-less, part_after, spare_card, partners_side}
 
 -- ---- the trick, card by card
 
--- no trump; these cards lie in the trick that this seat led to
-pub record IsTrick (x : Seat) (s : State) (cards : List ℕ) : Type 0 where
-  pub ok : IsState s
-  pub on : 1 ≤ tricks_left s.position
-  pub leads : s.position.trick.leader ≡ x
-  pub trumps : s.position.trump ≡ NoTrump
-  pub are : s.position.trick.cards ≡ cards
-
-module _ (x : Seat) (s : State) (cards : List ℕ) (t : IsTrick x s cards) where
+module _ (x : Seat) (s : State) (cards : List ℕ) (t : IsTrick x NoTrump s cards) where
   turn_is : to_play s.position ≡ seat_after (length cards) x
   turn_is = ap₂ (λ (n : ℕ) (seat : Seat). seat_after n seat) (ap (length {A = ℕ}) t.are) t.leads
-
-  one_more : (c : ℕ) → has_card (legal_in s) c ≡ true → length cards < 3 → IsTrick x (after s c) (cards ++ c ∷ [])
-  one_more c legal short =
-      let count = ap (length {A = ℕ}) t.are in
-      let is = after_short s.position c (omega arith) in
-      let tricks = tricks_within s.position c t.ok.sound (legal_can_play s t.ok c legal) (omega arith) in
-      let on = t.on in
-      record {
-        ok = after-IsState s t.ok c legal;
-        on = omega arith;
-        leads = ap (λ (u : PositionValue). u.trick.leader) is ∙ t.leads;
-        trumps = ap (λ (u : PositionValue). u.trump) is ∙ t.trumps;
-        are = ap (λ (u : PositionValue). u.trick.cards) is ∙ ap (λ (l : List ℕ). l ++ c ∷ []) t.are;
-      }
 
   held_there : (c : ℕ) → has_card (legal_in s) c ≡ true → has_card (hand_of s (seat_after (length cards) x)) c ≡ true
   held_there c legal = subst (λ seat. has_card (hand_of s seat) c ≡ true) turn_is
@@ -119,7 +96,7 @@ module _ (x : Seat) (theirs : List ℕ) (t : ℕ) (lead : IsLead NoTrump theirs 
   }
 
   -- what a seat may play to it
-  may_play : (s : State) (ds : List ℕ) → IsTrick x s (link ∷ ds) → (c : ℕ) → has_card (legal_in s) c ≡ true → MayFollow t (hand_of s (seat_after (suc (length ds)) x)) c
+  may_play : (s : State) (ds : List ℕ) → IsTrick x NoTrump s (link ∷ ds) → (c : ℕ) → has_card (legal_in s) c ≡ true → MayFollow t (hand_of s (seat_after (suc (length ds)) x)) c
   may_play s ds tr c legal = to_their_suit (hand_of s (seat_after (suc (length ds)) x)) c
       (may_follow link ds (hand_of s (seat_after (suc (length ds)) x)) c
       (subst (λ seat. has_card (legal_cards (link ∷ ds) (hand_of s seat)) c ≡ true) (turn_is x s (link ∷ ds) tr)
@@ -144,27 +121,18 @@ module _ (x : Seat) (theirs : List ℕ) (t : ℕ) (lead : IsLead NoTrump theirs 
   weak s c y ok high held = weaker_yet theirs t lead (hand_of s y) high c held (has_card-below (hand_of s y) c (hand_set s ok y) held) low_t
 
   -- after all four cards
-  ended : (s : State) (c1 c3 : ℕ) → IsTrick x s (link ∷ c1 ∷ t ∷ []) → has_card (legal_in s) c3 ≡ true
+  ended : (s : State) (c1 c3 : ℕ) → IsTrick x NoTrump s (link ∷ c1 ∷ t ∷ []) → has_card (legal_in s) c3 ≡ true
       → strength NoTrump (suit_of t) link < strength NoTrump (suit_of t) t → strength NoTrump (suit_of t) c1 < strength NoTrump (suit_of t) t
       → AreHigh theirs (hand_of s (seat_after 3 x)) → AreHigh (take_out t theirs) (hand_of s x) → AreHigh (take_out t theirs) (hand_of s (seat_after 1 x))
       → IsSubset (take_out t theirs) (hand_of s (seat_after 2 x)) → (winner_of s.position.trump (put_card s.position c3).trick ≡ seat_after 2 x) × IsLeading (seat_after 2 x) NoTrump (after s c3) (take_out t theirs)
   ended s c1 c3 tr l3 weak_link weak_1 high_3 done_x done_1 held = (
     wins,
-    record {
-      ok = after-IsState s tr.ok c3 l3;
-      leads = ap (λ (u : PositionValue). u.trick.leader) is ∙ wins;
-      none = ap (λ (u : PositionValue). u.trick.cards) is;
-      trumps = ap (λ (u : PositionValue). u.trump) is ∙ tr.trumps;
-      set = IsCardSet-filter (λ d. not (eqb d t)) theirs lead.set;
-      held = stays s c3 (take_out t theirs) held (spare_card s tr.ok (seat_after 3 x) (seat_after 2 x) (take_out t theirs) c3 (seats_differ 3 2 x (omega arith) (omega arith) (λ e. omega arith)) held_3 held);
-      high = λ y differ. let at = next_three (seat_after 2 x) y differ in subst (λ seat. AreHigh (take_out t theirs) (hand_of (after s c3) seat)) at.3 (each at.0 at.1 at.2);
-      safe = λ y differ. safe_at_no_trump (take_out t theirs) (hand_of (after s c3) y);
-    },
+    winner_leads x NoTrump s (link ∷ c1 ∷ t ∷ []) tr c3 l3 (seat_after 2 x) (take_out t theirs) refl wins (IsCardSet-filter (λ d. not (eqb d t)) theirs lead.set)
+        (stays s c3 (take_out t theirs) held (spare_card s tr.ok (seat_after 3 x) (seat_after 2 x) (take_out t theirs) c3 (seats_differ 3 2 x (omega arith) (omega arith) (λ e. omega arith)) held_3 held))
+        (λ y differ. let at = next_three (seat_after 2 x) y differ in subst (λ seat. AreHigh (take_out t theirs) (hand_of (after s c3) seat)) at.3 (each at.0 at.1 at.2))
+        (λ y differ. safe_at_no_trump (take_out t theirs) (hand_of (after s c3) y)),
   )
     where
-      is : after_card s.position c3 ≡ end_trick (put_card s.position c3)
-      is = after_third s.position c3 (ap (length {A = ℕ}) tr.are)
-
       held_3 : has_card (hand_of s (seat_after 3 x)) c3 ≡ true
       held_3 = held_there x s (link ∷ c1 ∷ t ∷ []) tr c3 l3
 
@@ -180,7 +148,7 @@ module _ (x : Seat) (theirs : List ℕ) (t : ℕ) (lead : IsLead NoTrump theirs 
       each (suc (suc (suc zero))) some low = subst (λ seat. AreHigh (take_out t theirs) (hand_of (after s c3) seat)) (sym (once_round x)) (still s c3 (seat_after 1 x) (take_out t theirs) done_1)
       each (suc (suc (suc (suc i)))) some low = absurd (omega arith)
 
-  pub crossing : (s : State) → IsTrick x s [] → IsSubset theirs (hand_of s (seat_after 2 x)) → ((y : Seat) → y ≢ seat_after 2 x → AreHigh theirs (hand_of s y))
+  pub crossing : (s : State) → IsTrick x NoTrump s [] → IsSubset theirs (hand_of s (seat_after 2 x)) → ((y : Seat) → y ≢ seat_after 2 x → AreHigh theirs (hand_of s y))
       → has_card (hand_of s x) link ≡ true → Suffices (is_declarers x) s.position (length theirs) → makes s ≡ is_declarers x
   crossing s led held high linked h =
       let b = is_declarers x in
@@ -194,7 +162,7 @@ module _ (x : Seat) (theirs : List ℕ) (t : ℕ) (lead : IsLead NoTrump theirs 
       let short0 = ap (length {A = ℕ}) led.are in
       let h0 : Suffices b s.position (suc k) = subst (λ n. Suffices b s.position n) (omega arith) h in
       let h1 = suffices_within b s.position link (suc k) led.ok.sound (legal_can_play s led.ok link legal) (omega arith) h0 in
-      let t1 = one_more x s [] led link legal (omega arith) in
+      let t1 = one_more x NoTrump s [] led link legal (omega arith) in
       let spare = spare_card s led.ok x (seat_after 2 x) theirs link x_not_z linked held in
       let held1 = stays s link theirs held spare in
       let done_x = plays s link x led.ok (record { held = linked; suit = inl suit }) (high x x_not_z) in
@@ -203,14 +171,14 @@ module _ (x : Seat) (theirs : List ℕ) (t : ℕ) (lead : IsLead NoTrump theirs 
       let s1 = after s link in
       let held_1 = held_there x s1 (link ∷ []) t1 c1 l1 in
       let high_1 = still s link (seat_after 1 x) theirs (high (seat_after 1 x) y1_not_z) in
-      let t2 = one_more x s1 (link ∷ []) t1 c1 l1 (omega arith) in
+      let t2 = one_more x NoTrump s1 (link ∷ []) t1 c1 l1 (omega arith) in
       let short1 = ap (length {A = ℕ}) t1.are in
       let h2 = suffices_within b s1.position c1 (suc k) t1.ok.sound (legal_can_play s1 t1.ok c1 l1) (omega arith) h1 in
       let s2 = after s1 c1 in
       let held2 = stays s1 c1 theirs held1 (spare_card s1 t1.ok (seat_after 1 x) (seat_after 2 x) theirs c1 y1_not_z held_1 held1) in
       let legal_t : has_card (legal_in s2) t ≡ true = ap₂ (λ (l : List ℕ) (seat : Seat). has_card (legal_cards l (hand_of s2 seat)) t) t2.are (turn_is x s2 (link ∷ c1 ∷ []) t2)
       ∙ follows_legally link (c1 ∷ []) (hand_of s2 (seat_after 2 x)) t (held2 t lead.among) (sym suit) in
-      let t3 = one_more x s2 (link ∷ c1 ∷ []) t2 t legal_t (omega arith) in
+      let t3 = one_more x NoTrump s2 (link ∷ c1 ∷ []) t2 t legal_t (omega arith) in
       let short2 = ap (length {A = ℕ}) t2.are in
       let h3 = suffices_within b s2.position t (suc k) t2.ok.sound (legal_can_play s2 t2.ok t legal_t) (omega arith) h2 in
       by_card s2 b t t2.ok (going s2.position t2.on) (ap is_declarers (turn_is x s2 (link ∷ c1 ∷ []) t2) ∙ partners_side x) legal_t

@@ -1,6 +1,6 @@
 -- A hand that heads the suit led takes the trick, and then one with each of its sure cards.
-use Rattle.std.proofs.Common.{◌≡◌, ◌≢◌, ◌⊎◌, ℕ, zero, suc, ◌+◌, ◌<◌, ◌≤◌, Bool, true, false, not, eqb, cond, List, [], ◌∷◌, ◌++◌, length, map, get_or, refl, sym, ap, ap₂, ◌∙◌, subst, inl, inr, arith}
-use Rattle.std.proofs.lemmas.Bool.{cases_Bool, cases_eq, cases_lt, ne_eqb, eqb-true, false≢true}
+use Rattle.std.proofs.Common.{◌≡◌, ◌≢◌, ◌⊎◌, ℕ, zero, suc, ◌+◌, ◌<◌, ◌≤◌, Bool, true, false, eqb, cond, List, [], ◌∷◌, ◌++◌, length, map, get_or, refl, sym, ap, ap₂, ◌∙◌, subst, inl, inr, arith}
+use Rattle.std.proofs.lemmas.Bool.{cases_Bool, cases_eq, cases_lt, ne_eqb, false≢true}
 use Rattle.std.proofs.lemmas.List.{get_or-map, get_or_append_left, get_or_push}
 use Rattle.card_sets.specs.declared.seat.Seat.{Seat}
 use Rattle.card_sets.specs.Cards.{suit_of, rank_of, same_suit, card_of}
@@ -9,9 +9,8 @@ use Rattle.card_sets.proofs.Sets.{has_card-below, IsCardSet-cards_where}
 use Rattle.card_sets.proofs.SetCounts.{cards_where-one, has_card-length}
 use Rattle.card_sets.proofs.Suits.{card_of-suit_of, same_suit-refl}
 use Rattle.trick_rules.specs.declared.trump.Trump.{Trump}
-use Rattle.trick_rules.specs.declared.trump.Trump.TheVariants.{NoTrump}
-use Rattle.trick_rules.specs.Positions.{TrickValue, PositionValue, State, seat_after, to_play, tricks_left, IsState}
-use Rattle.trick_rules.specs.Play.{take_out, put_card, after, hand_of, legal_in, legal_cards, is_declarers, is_trump, strength, winner_of, CanPlay, makes}
+use Rattle.trick_rules.specs.Positions.{PositionValue, State, seat_after, to_play, tricks_left, IsState}
+use Rattle.trick_rules.specs.Play.{put_card, after, hand_of, legal_in, legal_cards, is_declarers, is_trump, strength, winner_of, CanPlay, makes}
 use Rattle.trick_rules.proofs.CardLists.{has_card-take_out, first_has}
 use Rattle.trick_rules.proofs.TrickLemmas.{IsHighest, same_strength, led_strong, winner_from_highest}
 use Rattle.trick_rules.proofs.States.{after-IsState, legal_can_play, legal_cards-low, hand_length, cards_more}
