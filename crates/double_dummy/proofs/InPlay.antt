@@ -6,7 +6,7 @@ use Rattle.std.proofs.lemmas.Grind.{get_or_default_zero}
 use Rattle.card_sets.specs.SetWords.{has_card, cards_where}
 use Rattle.card_sets.proofs.Sets.{IsCardSet-nil, has_card-cards_where, cards_where-agree, has_card-push}
 use Rattle.trick_rules.specs.Positions.{PositionValue, State, to_play, IsState}
-use Rattle.trick_rules.specs.Play.{after, legal_in}
+use Rattle.trick_rules.specs.Play.{legal_in}
 use Rattle.trick_rules.proofs.Soundness.{held_low}
 use Rattle.trick_rules.proofs.States.{legal_can_play}
 use Rattle.double_dummy.specs.Equals.{in_play, AreEqual, IsNextEqual}

@@ -6,7 +6,7 @@ use Rattle.card_sets.specs.SetWords.{has_card, IsSubset}
 use Rattle.double_dummy.specs.Choices.{choice_makes}
 use Rattle.trick_rules.proofs.CardLists.{or_true}
 use Rattle.trick_rules.specs.Positions.{State, to_play, IsState}
-use Rattle.trick_rules.specs.Play.{after, is_over, is_declarers, legal_in, makes}
+use Rattle.trick_rules.specs.Play.{is_over, is_declarers, legal_in, makes}
 use Rattle.trick_rules.proofs.PlayLaws.{makes_by_some_card, makes_against_each_card}
 
 pub choice-legal : (s : State) (ours : Bool) → IsState s → is_over s.position ≡ false → is_declarers (to_play s.position) ≡ ours → makes s ≡ choice_makes ours s (legal_in s)

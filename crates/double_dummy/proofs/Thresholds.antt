@@ -1,5 +1,5 @@
 -- What makes with a need makes with each lower one.
-use Rattle.std.proofs.Common.{◌≡◌, ℕ, zero, suc, ◌-◌, ◌<◌, ◌≤◌, Bool, true, false, cond, length, refl, sym, ap, ◌∙◌, inl, inr, arith}
+use Rattle.std.proofs.Common.{◌≡◌, ℕ, zero, suc, ◌-◌, ◌<◌, ◌≤◌, Bool, true, false, cond, length, refl, sym, ap, ◌∙◌, inl, inr, arith, rules}
 use Rattle.std.proofs.lemmas.Bool.{false≢true, eqb-true, eq-eqb, cases_eq, cases_Bool, false_from_ne_true}
 use Rattle.card_sets.specs.SetWords.{has_card}
 use Rattle.trick_rules.specs.Positions.{State, to_play, IsSound, IsState}
@@ -11,26 +11,7 @@ use Rattle.trick_rules.proofs.PlayLaws.{makes_at_the_end, makes_by_some_card, ma
 use Rattle.double_dummy.specs.Needs.{with_need, IsSettled}
 
 pub with_need-IsState : (s : State) (need : ℕ) → IsState s → need ≤ 13 → IsState (with_need s need)
-with_need-IsState s need ok low = record {
-  sound = record {
-    declarer_set = ok.sound.declarer_set;
-    dummy_set = ok.sound.dummy_set;
-    unseen_set = ok.sound.unseen_set;
-    declarer_dummy = ok.sound.declarer_dummy;
-    declarer_unseen = ok.sound.declarer_unseen;
-    dummy_unseen = ok.sound.dummy_unseen;
-    trick_declarer = ok.sound.trick_declarer;
-    trick_dummy = ok.sound.trick_dummy;
-    trick_unseen = ok.sound.trick_unseen;
-    trick_short = ok.sound.trick_short;
-    trick_cards = ok.sound.trick_cards;
-    trick_differs = ok.sound.trick_differs;
-    need_fits = low;
-    dummy_count = ok.sound.dummy_count;
-    unseen_count = ok.sound.unseen_count;
-  };
-  fits = record { set = ok.fits.set; part = ok.fits.part; count = ok.fits.count };
-}
+with_need-IsState s need ok low = search rules
 
 -- after a card the lower need is still no greater than the other
 record StillLower (s : State) (need card : ℕ) : Type 0 where
