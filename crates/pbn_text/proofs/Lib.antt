@@ -1,3 +1,4 @@
 pub mod StringLemmas
 pub mod Ahead
 pub mod Collected
+mod Ends
