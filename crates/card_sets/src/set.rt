@@ -58,12 +58,13 @@ fn suit_bits(suit: Suit) -> u64
     ensures value { places 52 result ≡ cards_where (λ card. same_suit (suit_of card) suit) }
     ensures fits { result < 2 ^ 52 }
 {
-    match suit {
-        Suit::Spades => SPADES,
-        Suit::Hearts => SPADES << 13u32,
-        Suit::Diamonds => SPADES << 26u32,
-        Suit::Clubs => SPADES << 39u32,
-    }
+    let before = match suit {
+        Suit::Spades => 0u32,
+        Suit::Hearts => 13,
+        Suit::Diamonds => 26,
+        Suit::Clubs => 39,
+    };
+    SPADES << before
 }
 
 // The card at the lowest one of the word.

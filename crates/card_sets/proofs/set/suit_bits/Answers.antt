@@ -1,21 +1,23 @@
-use Rattle.std.proofs.Common.{sym, ap}
+use Rattle.std.proofs.Common.{◌≡◌, ◌∙◌, ◌*◌, ◌^◌, ◌%◌, ℕ, refl, sym, ap}
 use Rattle.bit_lists.specs.Bits.{places, below}
+use Rattle.card_sets.specs.declared.card.Suit.{Suit}
+use Rattle.card_sets.specs.declared.card.Suit.TheVariants.{Spades, Hearts, Diamonds, Clubs}
 use Rattle.card_sets.specs.Cards.{suit_of, same_suit}
 use Rattle.card_sets.specs.SetWords.{cards_where}
 use Rattle.card_sets.proofs.set.suit_bits.Goals as goal
+use Rattle.card_sets.proofs.set.suit_bits.Goals.{in-Spades, in-Hearts, in-Diamonds, in-Clubs}
 
-pub returns-in-Spades-clause-value : goal.returns-in-Spades-clause-value
-unfolding places below cards_where
-returns-in-Spades-clause-value c = ap (λ suit. cards_where (λ card. same_suit (suit_of card) suit)) (sym c.in-Spades.is)
+-- the word of a suit that this many cards come before
+word_of : (suit named : Suit) (before known : ℕ) → before ≡ known → suit ≡ named → places 52 (8191 * 2 ^ known % 18446744073709551616) ≡ cards_where (λ card. same_suit (suit_of card) named)
+    → places 52 (8191 * 2 ^ before % 18446744073709551616) ≡ cards_where (λ card. same_suit (suit_of card) suit)
+word_of suit named before known place is word =
+    ap (λ n. places 52 (8191 * 2 ^ n % 18446744073709551616)) place ∙ word ∙ ap (λ s. cards_where (λ card. same_suit (suit_of card) s)) (sym is)
 
-pub returns-in-Hearts-clause-value : goal.returns-in-Hearts-clause-value
+pub returns-clause-value : goal.returns-clause-value
 unfolding places below cards_where
-returns-in-Hearts-clause-value c = ap (λ suit. cards_where (λ card. same_suit (suit_of card) suit)) (sym c.in-Hearts.is)
-
-pub returns-in-Diamonds-clause-value : goal.returns-in-Diamonds-clause-value
-unfolding places below cards_where
-returns-in-Diamonds-clause-value c = ap (λ suit. cards_where (λ card. same_suit (suit_of card) suit)) (sym c.in-Diamonds.is)
-
-pub returns-in-Clubs-clause-value : goal.returns-in-Clubs-clause-value
-unfolding places below cards_where
-returns-in-Clubs-clause-value c = ap (λ suit. cards_where (λ card. same_suit (suit_of card) suit)) (sym c.in-Clubs.is)
+returns-clause-value c = elim c.match-suit.branch [
+  | in-Spades w ↦ word_of _ Spades _ 0 w.before-is w.in-Spades.is refl
+  | in-Hearts w ↦ word_of _ Hearts _ 13 w.before-is w.in-Hearts.is refl
+  | in-Diamonds w ↦ word_of _ Diamonds _ 26 w.before-is w.in-Diamonds.is refl
+  | in-Clubs w ↦ word_of _ Clubs _ 39 w.before-is w.in-Clubs.is refl
+]
