@@ -65,9 +65,6 @@ pub record AreClearFrom (place : ℕ) (words : List ℕ) : Type 0 where
   pub four : length words ≡ 4
   pub fit : (word : ℕ) → get_or words word 0 < 2 ^ 64
 
-AreClearFrom-none : AreClearFrom 0 (0 ∷ 0 ∷ 0 ∷ 0 ∷ [])
-AreClearFrom-none = record { clear = λ i from. bit_of-zero_words i; four = refl; fit = zero_words-fit }
-
 -- where the mask has this many ones at the places that are done, a word still fits after them
 pub room_for_a_word : (width word ones : ℕ) (mask : List ℕ) → ones ≡ ones_of (bits_of (done_at width word) mask) → 64 * word < width → width ≤ 256 → ones ≤ 192
 room_for_a_word width word ones mask counted more high =
@@ -81,13 +78,6 @@ pub record RestrictsWords (self mask : List ℕ) (done width : ℕ) (words : Lis
   pub counted : width ≡ ones_of (bits_of done mask)
   pub so_far : bits_of width words ≡ restrict_of (bits_of done self) (bits_of done mask)
   pub rest : AreClearFrom width words
-
-pub RestrictsWords-none : (width : ℕ) (self mask : List ℕ) → RestrictsWords self mask (done_at width 0) 0 (0 ∷ 0 ∷ 0 ∷ 0 ∷ [])
-RestrictsWords-none width self mask = rw (done_at-start width) (record {
-  counted = rw (bits_of-none mask) refl;
-  so_far = rw (bits_of-none self, bits_of-none (0 ∷ 0 ∷ 0 ∷ 0 ∷ [])) refl;
-  rest = AreClearFrom-none;
-})
 
 RestrictsWords-more : (width word place bits : ℕ) (self mask words new : List ℕ) → AreVectorWords width mask → 64 * word < width → IsRestrictedWord (get_or self word 0) (get_or mask word 0) (next_places width word) bits → PutsBits place bits words new → RestrictsWords self mask (64 * word) place words → RestrictsWords self mask (64 * word + next_places width word) (place + ones (get_or mask word 0)) new
 RestrictsWords-more width word place bits self mask words new h more r put so_far =
@@ -136,13 +126,6 @@ pub record SpreadsWords (self mask : List ℕ) (done from : ℕ) (words : List �
   pub so_far : bits_of done words ≡ spread_of (bits_of from self) (bits_of done mask)
   pub rest : AreClearFrom done words
 
-pub SpreadsWords-none : (width : ℕ) (self mask : List ℕ) → SpreadsWords self mask (done_at width 0) 0 (0 ∷ 0 ∷ 0 ∷ 0 ∷ [])
-SpreadsWords-none width self mask = rw (done_at-start width) (record {
-  counted = rw (bits_of-none mask) refl;
-  so_far = rw (bits_of-none mask, bits_of-none (0 ∷ 0 ∷ 0 ∷ 0 ∷ [])) refl;
-  rest = AreClearFrom-none;
-})
-
 SpreadsWords-more : (width word from next bits : ℕ) (self mask words : List ℕ) → AreVectorWords width mask → 64 * word < width → word < 4 → bits < 2 ^ 64 → IsWordFrom self from next → IsSpreadWord next (get_or mask word 0) (next_places width word) bits → SpreadsWords self mask (64 * word) from words → SpreadsWords self mask (64 * word + next_places width word) (from + ones (get_or mask word 0)) (slice_set words word bits)
 SpreadsWords-more width word from next bits self mask words h more in_words word_fits window spread so_far =
     let n = next_places width word in
@@ -185,3 +168,16 @@ SpreadsWords-end width word from self mask words h end so_far = record {
   fit = so_far.rest.fit;
   past = λ i past. so_far.rest.clear i (rw (done_at-end width word end) past);
 }
+
+-- ---- before the first word
+
+pub nothing_done : (width : ℕ) (self mask : List ℕ)
+    → RestrictsWords self mask (done_at width 0) 0 (0 ∷ 0 ∷ 0 ∷ 0 ∷ []) × SpreadsWords self mask (done_at width 0) 0 (0 ∷ 0 ∷ 0 ∷ 0 ∷ [])
+nothing_done width self mask =
+    let none = bits_of-none (0 ∷ 0 ∷ 0 ∷ 0 ∷ []) in
+    let counted : 0 ≡ ones_of (bits_of 0 mask) = rw (bits_of-none mask) refl in
+    let rest : AreClearFrom 0 (0 ∷ 0 ∷ 0 ∷ 0 ∷ []) = record { clear = λ i from. bit_of-zero_words i; four = refl; fit = zero_words-fit } in
+    rw (done_at-start width) (
+      record { counted = counted; so_far = rw (bits_of-none self, none) refl; rest = rest },
+      record { counted = counted; so_far = rw (bits_of-none mask, none) refl; rest = rest },
+    )

@@ -4,14 +4,14 @@ use Rattle.win_vectors.specs.Vectors.{ones_of}
 use Rattle.win_vectors.specs.Words.{AreVectorWords, IsRestrictedWord}
 use Rattle.win_vectors.proofs.VectorLemmas.{restrict_of-all_of}
 use Rattle.win_vectors.proofs.WordVectors.{widths-same}
-use Rattle.win_vectors.proofs.Masks.{RestrictsWords-none, RestrictsWords-next, RestrictsWords-end, done_at-end, next_places}
+use Rattle.win_vectors.proofs.Masks.{RestrictsWords-next, RestrictsWords-end, done_at-end, next_places, nothing_done}
 use Rattle.win_vectors.proofs.win_vector.WinVector.restrict.Goals as goal
 
 pub returns-then-is_all : goal.returns-then-is_all
 returns-then-is_all c = c.self.view_is ∙ sym (restrict_of-all_of c.args.self c.args.mask c.requires.same_width (c.if-is_all.ensures.0 refl))
 
 pub loop-word-init : goal.loop-word-init
-loop-word-init c = RestrictsWords-none c.self.inside.width c.self.inside.words c.mask.inside.words
+loop-word-init c = (nothing_done c.self.inside.width c.self.inside.words c.mask.inside.words).0
 
 pub loop-word-preserved : goal.loop-word-preserved
 loop-word-preserved c =

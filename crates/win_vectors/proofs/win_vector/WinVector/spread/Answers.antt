@@ -4,7 +4,7 @@ use Rattle.bit_lists.proofs.Words.{length-bits_of}
 use Rattle.win_vectors.specs.Vectors.{ones_of}
 use Rattle.win_vectors.specs.Words.{IsSpreadWord}
 use Rattle.win_vectors.proofs.VectorLemmas.{all-from_ones, spread_of-all_of}
-use Rattle.win_vectors.proofs.Masks.{SpreadsWords-none, SpreadsWords-next, SpreadsWords-end, done_at-end, next_places}
+use Rattle.win_vectors.proofs.Masks.{SpreadsWords-next, SpreadsWords-end, done_at-end, next_places, nothing_done}
 use Rattle.win_vectors.proofs.win_vector.WinVector.spread.Goals as goal
 
 pub returns-then-self-mask : goal.returns-then-self-mask
@@ -15,7 +15,7 @@ returns-then-self-mask c =
     c.self.view_is ∙ sym (spread_of-all_of c.args.self c.args.mask c.requires all)
 
 pub loop-word-init : goal.loop-word-init
-loop-word-init c = SpreadsWords-none c.mask.inside.width c.self.inside.words c.mask.inside.words
+loop-word-init c = (nothing_done c.mask.inside.width c.self.inside.words c.mask.inside.words).1
 
 pub loop-word-preserved : goal.loop-word-preserved
 loop-word-preserved c =
