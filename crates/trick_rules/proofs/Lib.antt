@@ -1,4 +1,5 @@
 mod Parts
+pub mod Inside
 pub mod CardLists
 pub mod Turns
 pub mod Soundness

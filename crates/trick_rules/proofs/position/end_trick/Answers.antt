@@ -6,11 +6,11 @@ use Rattle.trick_rules.specs.Play.{is_declarers, take_out, winning_place, CanPla
 use Rattle.trick_rules.proofs.Soundness.{after_third, after_card_sound, after_card-parts}
 use Rattle.trick_rules.proofs.position.end_trick.Goals as goal
 use Rattle.trick_rules.proofs.position.end_trick.Goals.{then-is_ours, else-is_ours}
+use Rattle.trick_rules.proofs.Inside.{seen_as}
 
 pub invariant_of-result : goal.invariant_of-result
 invariant_of-result c =
-    let p = c.position.inside in
-    let t : PositionValue = record { declarer = p.declarer; dummy = p.dummy; unseen = p.unseen; trick = p.trick; need = p.need; trump = p.trump } in
+    let t = seen_as c.position.inside in
     let card = c.args.card in
     let can : CanPlay t card = rw (← c.position.view_is) at c.requires.held in
     let fourth : length t.trick.cards ≡ 3 = rw (← c.position.view_is) at c.requires.fourth in

@@ -1,13 +1,13 @@
 use Rattle.std.proofs.Common.{sym, subst}
-use Rattle.trick_rules.specs.Positions.{PositionValue, IsSound}
+use Rattle.trick_rules.specs.Positions.{IsSound}
 use Rattle.trick_rules.specs.Play.{CanPlay}
 use Rattle.trick_rules.proofs.Soundness.{after_card_sound, after_card-parts}
 use Rattle.trick_rules.proofs.position.play.Goals as goal
+use Rattle.trick_rules.proofs.Inside.{seen_as}
 
 pub invariant_of-result : goal.invariant_of-result
 invariant_of-result c =
-    let p = c.position.inside in
-    let t : PositionValue = record { declarer = p.declarer; dummy = p.dummy; unseen = p.unseen; trick = p.trick; need = p.need; trump = p.trump } in
+    let t = seen_as c.position.inside in
     let can : CanPlay t c.args.card = rw (← c.position.view_is) at c.requires in
     let parts = after_card-parts t c.args.card c.without.result c.without-2.result c.without-3.result c.trick_after-trick.result.0 c.trick_after-trick.result.1
     c.without.ensures.value c.without-2.ensures.value c.without-3.ensures.value
