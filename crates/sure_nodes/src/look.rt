@@ -6,6 +6,7 @@ ghost use Rattle.sure_tricks.specs.Sure.{high_count as count_of_high, trumps_of,
 ghost use Rattle.sure_nodes.specs.SureNodes.{tops_in as count_of_tops, drawn as count_of_drawn, none_ruffs as nobody_ruffs, sure_tops as count_of_sure, is_sure as is_sure_at};
 
 use card_sets::{CardSet, Suit};
+use sure_tricks::high_count;
 use trick_rules::{Position, Trump};
 
 // What the hand on lead sees: its own cards, its partner's, and the unseen ones.
@@ -14,18 +15,6 @@ struct Seen {
     own: CardSet,
     partners: CardSet,
     unseen: CardSet,
-}
-
-// How many of a hand's cards of a suit, from the top, are high against these.
-fn high_count(own: CardSet, theirs: CardSet) -> u8
-    ensures { result ≡ count_of_high own theirs }
-{
-    let top = own.after_each(theirs).count();
-    if top < theirs.count() {
-        top
-    } else {
-        own.count()
-    }
 }
 
 // How many trumps are among these cards.

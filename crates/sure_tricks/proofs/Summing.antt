@@ -9,7 +9,7 @@ use Rattle.trick_rules.specs.declared.trump.Trump.TheVariants.{NoTrump, Suit as 
 use Rattle.trick_rules.specs.Positions.{State, seat_after, to_play, IsState}
 use Rattle.trick_rules.specs.Play.{of_suit, hand_of}
 use Rattle.sure_tricks.specs.declared.count.Ruffs.{Ruffs}
-use Rattle.sure_tricks.specs.declared.count.Hands.{Hands}
+use Rattle.sure_tricks.specs.declared.count.SeenHands.{SeenHands}
 use Rattle.sure_tricks.specs.Sure.{trumps_of, is_suit, taken_from, sure_trumps, may_ruff, sure_in, sure_of}
 use Rattle.sure_tricks.proofs.Hands.{hand_set}
 use Rattle.sure_tricks.proofs.Counted.{part_of_suit}
@@ -33,7 +33,7 @@ pub least_is : (s : State) (x : Seat) (own next partner last : List ℕ) → Are
 least_is s x own next partner last look a b c flags suit p q r = rw (p, q, r, look.own_is, look.next_is, look.partner_is, look.last_is) refl
 
 -- the partner's number of a suit
-pub partners_is : (s : State) (x : Seat) (h : Hands) → AreHands s x h.own h.next h.partner h.last → (r : Ruffs) → r ≡ record { next = false; partner = false; last = false } → (suit : Suit) (n : ℕ)
+pub partners_is : (s : State) (x : Seat) (h : SeenHands) → AreHands s x h.own h.next h.partner h.last → (r : Ruffs) → r ≡ record { next = false; partner = false; last = false } → (suit : Suit) (n : ℕ)
     → n ≡ least_of r.next r.partner r.last (of_suit suit h.own) (of_suit suit h.next) (of_suit suit h.partner) (of_suit suit h.last) → n ≡ sure_in s x (λ _. false) suit
 partners_is s x h look r none suit n e = e ∙ least_is s x h.own h.next h.partner h.last look r.next r.partner r.last (λ _. false) suit
     (ap (λ (f : Ruffs). f.next) none) (ap (λ (f : Ruffs). f.partner) none) (ap (λ (f : Ruffs). f.last) none)

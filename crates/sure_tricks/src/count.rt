@@ -11,13 +11,13 @@ ghost use Rattle.sure_tricks.specs.Sure.{top_count as count_above, high_count as
 use card_sets::{Card, CardSet, Seat, Suit};
 use trick_rules::{Position, Trump};
 
-/// The hand on lead, and the three others clockwise.
+/// The hand of a seat, and the three others clockwise.
 #[derive(Clone, Copy)]
-struct Hands {
-    own: CardSet,
-    next: CardSet,
-    partner: CardSet,
-    last: CardSet,
+pub struct SeenHands {
+    pub own: CardSet,
+    pub next: CardSet,
+    pub partner: CardSet,
+    pub last: CardSet,
 }
 
 /// Which of the three others may ruff.
@@ -41,8 +41,8 @@ impl Ruffs {
     }
 }
 
-// Of one suit: how many cards of the hand on lead are high against these of another hand.
-fn high_count(own: CardSet, theirs: CardSet) -> u8
+/// Of one suit: how many cards of a hand, from the top, are high against these of another.
+pub fn high_count(own: CardSet, theirs: CardSet) -> u8
     ensures { result ≡ count_of_high own theirs }
 {
     let top = own.after_each(theirs).count();
@@ -65,9 +65,9 @@ fn safe_count(own: CardSet, theirs: CardSet, may_ruff: bool) -> u8
     }
 }
 
-impl Hands {
-    // The hands as this seat sees them.
-    fn of(position: &Position, left: CardSet, seat: Seat) -> Hands
+impl SeenHands {
+    /// The hands as this seat sees them.
+    pub fn of(position: &Position, left: CardSet, seat: Seat) -> SeenHands
         ensures own { result.own ≡ hand_of
             (record { position = position.now; left = left }) seat }
         ensures next { result.next ≡ hand_of
@@ -79,7 +79,7 @@ impl Hands {
     {
         let next = seat.next();
         let partner = next.next();
-        Hands {
+        SeenHands {
             own: position.hand(seat, left),
             next: position.hand(next, left),
             partner: position.hand(partner, left),
@@ -213,7 +213,7 @@ pub fn own_counts(position: &Position, left: CardSet) -> Counts
     ensures few { own_count (record { position = position.now; left = left }) ≤ 52 }
     ensures state { IsState (record { position = position.now; left = left }) }
 {
-    let hands = Hands::of(position, left, position.to_play());
+    let hands = SeenHands::of(position, left, position.to_play());
     let trump = position.trump;
     let drawn = hands.drawn(trump);
     let ruffs = hands.ruffs(trump, drawn);
@@ -238,7 +238,7 @@ pub fn partners_counts(position: &Position, left: CardSet) -> Counts
         ≡ partners_of (record { position = position.now; left = left }) Clubs }
     ensures few { partners_count (record { position = position.now; left = left }) ≤ 52 }
 {
-    let hands = Hands::of(position, left, position.to_play().next().next());
+    let hands = SeenHands::of(position, left, position.to_play().next().next());
     let none = Ruffs::none();
     Counts {
         spades: hands.sure_of(&none, Suit::Spades),

@@ -6,4 +6,4 @@
 mod count;
 pub mod laws;
 
-pub use count::{Counts, can_lead_over, own_counts, partners_counts};
+pub use count::{Counts, SeenHands, can_lead_over, high_count, own_counts, partners_counts};

@@ -2,7 +2,7 @@ use Rattle.std.proofs.Common.{◌≡◌, false, sym, ap, ◌∙◌}
 use Rattle.trick_rules.specs.Play.{of_suit}
 use Rattle.sure_tricks.proofs.Looking.{suited_same}
 use Rattle.sure_tricks.proofs.Summing.{least_of}
-use Rattle.sure_tricks.proofs.count.Hands.drawn.Goals as goal
+use Rattle.sure_tricks.proofs.count.SeenHands.drawn.Goals as goal
 
 pub returns-in-Suit-clause-some : goal.returns-in-Suit-clause-some
 returns-in-Suit-clause-some c = λ suit e.

@@ -5,7 +5,7 @@ use Rattle.card_sets.specs.SetWords.{has_card, cards_where}
 use Rattle.trick_rules.specs.Play.{of_suit}
 use Rattle.sure_tricks.specs.Sure.{taken_from}
 use Rattle.sure_tricks.proofs.Looking.{none_taken, none_above, in_one_of}
-use Rattle.sure_tricks.proofs.count.Hands.sure_of.Goals as goal
+use Rattle.sure_tricks.proofs.count.SeenHands.sure_of.Goals as goal
 
 pub returns-then-is_empty : goal.returns-then-is_empty
 returns-then-is_empty c =
