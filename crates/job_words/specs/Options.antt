@@ -6,7 +6,16 @@ use Rattle.clap.specs.Walk.{Row, Text, first_of, is_empty, one_of}
 use Rattle.clap.specs.Simple.{matches_of}
 use Rattle.clap.specs.Faults.{fault_of}
 use Rattle.job_words.specs.declared.options.Options.{Options}
+use Rattle.job_words.specs.declared.options.SearchOptions.{SearchOptions}
 use Rattle.job_words.specs.Command.{option_command}
+
+-- what was given on how to search, except the number of nodes
+pub record SearchOptionValues : Type 0 where
+  pub workers : Option Text
+  pub shards : Option Text
+  pub room : Option Text
+  pub no_table : Bool
+  pub no_cuts : Bool
 
 -- the value of each option that was given, and whether each flag was
 pub record OptionValues : Type 0 where
@@ -20,11 +29,7 @@ pub record OptionValues : Type 0 where
   pub switch : Option Text
   pub log : Option Text
   pub nodes : Option Text
-  pub workers : Option Text
-  pub shards : Option Text
-  pub room : Option Text
-  pub no_table : Bool
-  pub no_cuts : Bool
+  pub search : SearchOptionValues
 
 -- a flag holds the text `true` if it was given
 abbrev pub has_flag : Text → List Row → Bool
@@ -43,11 +48,13 @@ options_at rows = record {
   switch = first_of (codes "switch") rows;
   log = first_of (codes "log") rows;
   nodes = first_of (codes "nodes") rows;
-  workers = first_of (codes "workers") rows;
-  shards = first_of (codes "shards") rows;
-  room = first_of (codes "room") rows;
-  no_table = has_flag (codes "no-table") rows;
-  no_cuts = has_flag (codes "no-cuts") rows;
+  search = record {
+    workers = first_of (codes "workers") rows;
+    shards = first_of (codes "shards") rows;
+    room = first_of (codes "room") rows;
+    no_table = has_flag (codes "no-table") rows;
+    no_cuts = has_flag (codes "no-cuts") rows;
+  };
 }
 
 -- the values in the words, where clap finds no fault in them
@@ -57,6 +64,15 @@ options_read words =
     then Some (options_at (matches_of option_command words)) else None
 
 -- the same without where they lie in memory
+abbrev pub search_options_of : SearchOptions → SearchOptionValues
+search_options_of o = record {
+  workers = option_map (λ s. s.now) o.workers;
+  shards = option_map (λ s. s.now) o.shards;
+  room = option_map (λ s. s.now) o.room;
+  no_table = o.no_table;
+  no_cuts = o.no_cuts;
+}
+
 abbrev pub options_of : Options → OptionValues
 options_of o = record {
   job = option_map (λ s. s.now) o.job;
@@ -69,9 +85,5 @@ options_of o = record {
   switch = option_map (λ s. s.now) o.switch;
   log = option_map (λ s. s.now) o.log;
   nodes = option_map (λ s. s.now) o.nodes;
-  workers = option_map (λ s. s.now) o.workers;
-  shards = option_map (λ s. s.now) o.shards;
-  room = option_map (λ s. s.now) o.room;
-  no_table = o.no_table;
-  no_cuts = o.no_cuts;
+  search = search_options_of o.search;
 }

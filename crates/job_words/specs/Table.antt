@@ -5,7 +5,7 @@ use Rattle.job_words.specs.declared.table.Job as jobs
 use Rattle.job_words.specs.declared.table.Use.{Use}
 use Rattle.job_words.specs.declared.table.Use.TheVariants.{Required, Allowed, Refused}
 use Rattle.job_words.specs.declared.table.Uses.{Uses}
-use Rattle.job_words.specs.Options.{OptionValues}
+use Rattle.job_words.specs.Options.{OptionValues, SearchOptionValues}
 
 -- no option but the job's name
 abbrev pub no_options : Uses
@@ -42,7 +42,7 @@ is_used_so Allowed given = true
 is_used_so Refused given = not given
 
 -- some option on how to search is given, except the number of nodes
-abbrev pub has_search : OptionValues → Bool
+abbrev pub has_search : SearchOptionValues → Bool
 has_search o = is_some o.workers || is_some o.shards || is_some o.room || o.no_table || o.no_cuts
 
 -- the options that are given are those that the uses want
@@ -51,4 +51,4 @@ keeps_to uses o = list_all (λ (option : Use × Bool). is_used_so option.0 optio
     ((uses.deal, is_some o.deal) ∷ (uses.layouts, is_some o.layouts) ∷ (uses.report, is_some o.report)
     ∷ (uses.moves, is_some o.moves) ∷ (uses.number, is_some o.number) ∷ (uses.layout, is_some o.layout)
     ∷ (uses.switch, is_some o.switch) ∷ (uses.log, is_some o.log) ∷ (uses.nodes, is_some o.nodes)
-    ∷ (uses.search, has_search o) ∷ [])
+    ∷ (uses.search, has_search o.search) ∷ [])

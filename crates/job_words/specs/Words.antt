@@ -28,23 +28,23 @@ job_in o = do
 -- the shards of the table and the room of each, for 262,144 entries in all at most
 unfoldable pub table_in : OptionValues → Option (ℕ × ℕ)
 table_in o = do
-  shards ← number_or 16 1 64 o.shards
-  room ← number_or 16384 1 65536 o.room
+  shards ← number_or 16 1 64 o.search.shards
+  room ← number_or 16384 1 65536 o.search.room
   if nat_le (shards * room) most_entries then Some (shards, room) else None
 
 -- how to search
 unfoldable pub search_in : OptionValues → Option Search
 search_in o = do
   nodes ← number_or 10000000 1 (2 ^ 64 - 1) o.nodes
-  workers ← number_or 1 1 64 o.workers
+  workers ← number_or 1 1 64 o.search.workers
   size ← table_in o
   Some (record {
     nodes = nodes;
     workers = workers;
     shards = size.0;
     room = size.1;
-    table = not o.no_table;
-    cuts = not o.no_cuts;
+    table = not o.search.no_table;
+    cuts = not o.search.no_cuts;
   })
 
 -- how many cards of declarer's side a search goes through

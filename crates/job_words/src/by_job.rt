@@ -52,8 +52,8 @@ fn table_in(options: &Options<'_>) -> Option<(u32, u32)>
     ensures limits { IfSome result (λ size. (1 ≤ size.0) × (size.0 ≤ 64) × (1 ≤ size.1)
         × (size.1 ≤ 65536) × (size.0 * size.1 ≤ most_entries)) }
 {
-    let shards = number_or(16, 1, 64, options.shards)?;
-    let room = number_or(16_384, 1, 65_536, options.room)?;
+    let shards = number_or(16, 1, 64, options.search.shards)?;
+    let room = number_or(16_384, 1, 65_536, options.search.room)?;
     if shards * room <= MOST_ENTRIES {
         Some((shards as u32, room as u32))
     } else {
@@ -67,15 +67,15 @@ fn search_in(options: &Options<'_>) -> Option<Search>
     ensures limits { IfSome result IsSearchWithinLimits }
 {
     let nodes = number_or(10_000_000, 1, u64::MAX, options.nodes)?;
-    let workers = number_or(1, 1, 64, options.workers)?;
+    let workers = number_or(1, 1, 64, options.search.workers)?;
     let (shards, room) = table_in(options)?;
     Some(Search {
         nodes,
         workers: workers as u32,
         shards,
         room,
-        table: !options.no_table,
-        cuts: !options.no_cuts,
+        table: !options.search.no_table,
+        cuts: !options.search.no_cuts,
     })
 }
 

@@ -9,6 +9,16 @@ use clap::error::ErrorKind;
 use clap::{Arg, ArgAction, ArgMatches, Command};
 use std::alloc::{AllocError, Global};
 
+/// What was given on how to search, except the number of nodes.
+#[derive(Clone, Copy)]
+pub(crate) struct SearchOptions<'a> {
+    pub(crate) workers: Option<&'a str>,
+    pub(crate) shards: Option<&'a str>,
+    pub(crate) room: Option<&'a str>,
+    pub(crate) no_table: bool,
+    pub(crate) no_cuts: bool,
+}
+
 /// The value of each option that was given, and whether each flag was.
 #[derive(Clone, Copy)]
 pub(crate) struct Options<'a> {
@@ -22,11 +32,7 @@ pub(crate) struct Options<'a> {
     pub(crate) switch: Option<&'a str>,
     pub(crate) log: Option<&'a str>,
     pub(crate) nodes: Option<&'a str>,
-    pub(crate) workers: Option<&'a str>,
-    pub(crate) shards: Option<&'a str>,
-    pub(crate) room: Option<&'a str>,
-    pub(crate) no_table: bool,
-    pub(crate) no_cuts: bool,
+    pub(crate) search: SearchOptions<'a>,
 }
 
 /// The options in the words, or None where clap finds a fault in them.
@@ -101,11 +107,13 @@ fn options_in<'a>(matches: &ArgMatches<'a>) -> Options<'a>
         switch: value_of(matches, "switch"),
         log: value_of(matches, "log"),
         nodes: value_of(matches, "nodes"),
-        workers: value_of(matches, "workers"),
-        shards: value_of(matches, "shards"),
-        room: value_of(matches, "room"),
-        no_table: has_flag(matches, "no-table"),
-        no_cuts: has_flag(matches, "no-cuts"),
+        search: SearchOptions {
+            workers: value_of(matches, "workers"),
+            shards: value_of(matches, "shards"),
+            room: value_of(matches, "room"),
+            no_table: has_flag(matches, "no-table"),
+            no_cuts: has_flag(matches, "no-cuts"),
+        },
     }
 }
 

@@ -1,9 +1,9 @@
 //! Which options each job requires, allows and refuses.
 ghost use Rattle.std.specs.Prelude.{◌≡◌};
-ghost use Rattle.job_words.specs.Options.{options_of};
+ghost use Rattle.job_words.specs.Options.{options_of, search_options_of};
 ghost use Rattle.job_words.specs.Table.{has_search, is_used_so, keeps_to, uses_by};
 
-use crate::options::Options;
+use crate::options::{Options, SearchOptions};
 
 /// The jobs that have names.
 #[derive(Clone, Copy)]
@@ -146,15 +146,15 @@ impl Uses {
             (self.switch, options.switch.is_some()),
             (self.log, options.log.is_some()),
             (self.nodes, options.nodes.is_some()),
-            (self.search, has_search(options)),
+            (self.search, has_search(&options.search)),
         ];
         uses.iter().all(|(wanted, given)| wanted.is_used_so(*given))
     }
 }
 
 // Whether an option on how to search is given, except the number of nodes.
-fn has_search(options: &Options<'_>) -> bool
-    ensures { result ≡ has_search (options_of options.now) }
+fn has_search(options: &SearchOptions<'_>) -> bool
+    ensures { result ≡ has_search (search_options_of options.now) }
 {
     options.workers.is_some()
         || options.shards.is_some()
