@@ -1,26 +1,27 @@
 -- What clap makes of the plain words, word by word.
-use Rattle.std.proofs.Common.{◌≡◌, ◌==◌, ◌-◌, ◌^◌, ℕ, Bool, true, false, not, List, [], ◌∷◌, Option, Some, None, refl, codes, arith}
-use Rattle.std.specs.Prelude.{fold}
+use Rattle.std.proofs.Common.{◌≡◌, ◌==◌, ◌-◌, ◌^◌, ℕ, Bool, true, false, not, List, [], ◌∷◌, Option, Some, None, refl, sym, ap, subst, codes, arith, ◌∙◌}
+use Rattle.std.specs.Prelude.{fold, is_some}
 use Rattle.std.specs.Str.{all_ascii_digits, bytes_eq}
 use Rattle.std.proofs.lemmas.Bool.{false≢true, ne_eqb}
 use Rattle.std.proofs.lemmas.Str.Parse.{tells_all_ascii_digits}
 use Rattle.clap.specs.Lexer.{long_of, short_of}
-use Rattle.clap.specs.Walk.{Row, Text, Waiting, Walk, idle, option, walked}
-use Rattle.clap.specs.Simple.{Shape, built, matches_of}
-use Rattle.clap.specs.Faults.{fault_of, turn_fault, walk_fault}
+use Rattle.clap.specs.Walk.{Names, Row, Rule, Text, Waiting, Walk, arg_by_id, finished, idle, most_values, nothing_held, option, rows_after, settled, walked}
+use Rattle.clap.specs.Simple.{App, Shape, argument_words, built, entered, matches_of, names_of}
+use Rattle.clap.specs.Faults.{built_fault, check_fault, defaults_fault, entered_fault, fault_of, settle_fault, turn_fault, walk_fault}
+use Rattle.clap.specs.Kinds.{Kinds, or_else}
 use Rattle.clap.specs.declared.parser.matches.ValueSource.TheVariants.{CommandLine}
 use Rattle.clap.specs.declared.builder.value_parser.Reading.TheVariants.{AsWritten}
 use Rattle.clap.proofs.OnLiterals.{clap_on_literals}
 use Rattle.trick_rules.specs.Nodes.{most_moves}
 use Rattle.job_words.specs.Command.{option_command}
-use Rattle.job_words.specs.Options.{OptionValues, options_at, options_read}
+use Rattle.job_words.specs.Options.{options_at, options_read}
 use Rattle.job_words.specs.Values.{file_named, is_value, job_named, number_in, number_read, number_or}
 use Rattle.job_words.specs.Table.{keeps_to}
 use Rattle.job_words.specs.declared.asks.Ask.TheVariants as asks
 use Rattle.job_words.specs.declared.asks.Ask.TheVariants.{OnLayouts, Boards, Made}
 use Rattle.job_words.specs.declared.asks.LayoutsJob.TheVariants.{Solve, Card, Match, Check, Fusion, Prove, Audit}
 use Rattle.job_words.specs.Plain.{audit_words, boards_words, card_words, check_words, fusion_words, list_words, made_words, match_words, plain_search, prove_words, solve_words}
-use Rattle.job_words.specs.Words.{ask_in, audit_in, boards_in, card_in, check_in, job_in, list_in, made_in, match_in, moves_in, on_layouts, prove_in, search_in, solve_in, switch_in, table_in, words_read}
+use Rattle.job_words.specs.Words.{ask_in, audit_in, boards_in, card_in, check_in, has_two_dashes, job_in, list_in, made_in, match_in, moves_in, on_layouts, prove_in, search_in, solve_in, switch_in, table_in, words_read}
 
 unfoldable pub shape : Shape
 unfolding option_command
@@ -46,19 +47,34 @@ at rows pending waiting = record {
   stopped = None;
 }
 
--- the words lead from one place to the other, without a fault
+abbrev start : Walk
+start = at [] None idle
+
+-- where the walk stands after an option and before its value, and after its value
+abbrev waits : List Row → Text → Walk
+waits rows name = at rows (Some (name, [])) (option name)
+
+abbrev has : List Row → Text → Text → Walk
+has rows name value = at rows (Some (name, value ∷ [])) idle
+
+-- the words, none of which is two dashes, lead from one place to the other, without a fault
 record Leads (from : Walk) (words : List Text) (to : Walk) : Type 0 where
+  dashes : has_two_dashes words ≡ false
   fault : walk_fault shape [] from words ≡ []
   walk : fold (walked shape.rules []) from words ≡ to
 
 ends : (w : Walk) → Leads w [] w
 unfolding walk_fault
-ends w = record { fault = refl; walk = refl }
+ends w = record { dashes = refl; fault = refl; walk = refl }
 
-steps : (from next to : Walk) (word : Text) (rest : List Text) → turn_fault shape [] from word ≡ [] → walked shape.rules [] from word ≡ next
+steps : (from next to : Walk) (word : Text) (rest : List Text) → bytes_eq word (codes "--") ≡ false → turn_fault shape [] from word ≡ [] → walked shape.rules [] from word ≡ next
     → Leads next rest to → Leads from (word ∷ rest) to
 unfolding walk_fault
-steps from next to word rest none is leads = record { fault = rw (none, is) leads.fault; walk = rw is leads.walk }
+steps from next to word rest dashes none is leads = record {
+  dashes = rw dashes leads.dashes;
+  fault = rw (none, is) leads.fault;
+  walk = rw is leads.walk;
+}
 
 -- a word that is a value: no dashes stand at its front
 record IsPlainWord (word : Text) : Type 0 where
@@ -74,281 +90,124 @@ plain_word (d ∷ ds) is = go (d == 45) refl is
     go true e no_dash = absurd (false≢true no_dash)
     go false e no_dash = record { dashes = rw e refl; long = rw e refl; short = rw e refl }
 
--- where the walk stands after an option and before its value, and after its value
-abbrev waits : List Row → Text → Walk
-waits rows name = at rows (Some (name, [])) (option name)
+-- an option that takes one value, and its value
+option_leads : (from : Walk) (rows : List Row) (name word value : Text) (rule : Rule) → bytes_eq word (codes "--") ≡ false → turn_fault shape [] from word ≡ [] → walked shape.rules [] from word ≡ waits rows name
+    → arg_by_id shape.rules name ≡ Some rule → most_values rule ≡ 1 → bytes_eq name rule.id ≡ true → is_value value ≡ true
+    → (rest : List Text) (to : Walk) → Leads (has rows name value) rest to → Leads from (word ∷ value ∷ rest) to
+unfolding walked
+option_leads from rows name word value rule dashes none is found one same value_is rest to leads =
+    let plain = plain_word value value_is in
+    steps from (waits rows name) to word (value ∷ rest) dashes none is
+    (steps (waits rows name) (has rows name value) to value rest plain.dashes (rw (plain.dashes, plain.long, plain.short) refl) (rw (plain.dashes, plain.long, plain.short, found, same, one) refl) leads)
 
-abbrev has : List Row → Text → Text → Walk
-has rows name value = at rows (Some (name, value ∷ [])) idle
+-- ---- words that are read
 
-module _ (word : Text) (plain : IsPlainWord word) (rows : List Row) where
-  job_value : (rest : List Text) (to : Walk) → Leads (has rows (codes "job") word) rest to → Leads (waits rows (codes "job")) (word ∷ rest) to
+-- what is wrong after the last word
+abbrev fault_after : App → Walk → Kinds
+fault_after a end =
+    or_else (entered_fault a end.stopped)
+    (or_else (settle_fault a.top.rules a.top.args_override_self end.held)
+    (or_else (defaults_fault (settled a.top.rules end.held).rows a.top.rules)
+    (check_fault a.top (finished a.top.rules end.held) (is_some (entered a end.stopped)))))
+
+no_fault : (a : App) (words : List Text) (end : Walk) → walk_fault a.top (names_of a) start words ≡ [] → fold (walked a.top.rules (names_of a)) start words ≡ end → fault_after a end ≡ []
+    → built_fault a nothing_held words ≡ []
+no_fault a words end fault is after = rw (fault, is) after
+
+all_words : (words : List Text) → argument_words option_command words ≡ words
+unfolding option_command
+all_words words = refl
+
+no_names : names_of (built option_command) ≡ []
+unfolding option_command
+no_names = refl
+
+read_as : (words : List Text) (rows : List Row) → has_two_dashes words ≡ false → fault_of option_command words ≡ [] → matches_of option_command words ≡ rows → words_read words ≡ ask_in (options_at rows)
+unfolding words_read options_read
+read_as words rows dashes none found = rw (dashes, none, found) refl
+
+asked : (words : List Text) (end : Walk) → Leads start words end → fault_after (built option_command) end ≡ [] → words_read words ≡ ask_in (options_at (finished shape.rules end.held))
+unfolding shape
+asked words end leads none =
+    let fault = subst (λ (names : Names). walk_fault shape names start words ≡ []) (sym no_names) leads.fault in
+    let walk = subst (λ (names : Names). fold (walked shape.rules names) start words ≡ end) (sym no_names) leads.walk in
+    read_as words (finished shape.rules end.held) leads.dashes
+    (ap (built_fault (built option_command) nothing_held) (all_words words) ∙ no_fault (built option_command) words end fault walk none)
+    (ap (rows_after shape.rules (names_of (built option_command))) (all_words words) ∙ ap (λ (w : Walk). finished shape.rules w.held) walk)
+
+-- ---- the options, each after what stands before it
+
+module _ (job : Text) (job_is : is_value job ≡ true) where
+  job_leads : (rest : List Text) (to : Walk) → Leads (has [] (codes "job") job) rest to → Leads start (codes "--job" ∷ job ∷ rest) to
   unfolding shape option_command clap_on_literals
-  job_value rest to = steps (waits rows (codes "job")) (has rows (codes "job") word) to word rest (rw (plain.dashes, plain.long, plain.short) refl) (rw (plain.dashes, plain.long, plain.short) refl)
+  job_leads = option_leads start [] (codes "job") (codes "--job") job _ refl refl refl refl refl refl job_is
 
-  deal_value : (rest : List Text) (to : Walk) → Leads (has rows (codes "deal") word) rest to → Leads (waits rows (codes "deal")) (word ∷ rest) to
-  unfolding shape option_command clap_on_literals
-  deal_value rest to = steps (waits rows (codes "deal")) (has rows (codes "deal") word) to word rest (rw (plain.dashes, plain.long, plain.short) refl) (rw (plain.dashes, plain.long, plain.short) refl)
-
-  layouts_value : (rest : List Text) (to : Walk) → Leads (has rows (codes "layouts") word) rest to → Leads (waits rows (codes "layouts")) (word ∷ rest) to
-  unfolding shape option_command clap_on_literals
-  layouts_value rest to = steps (waits rows (codes "layouts")) (has rows (codes "layouts") word) to word rest (rw (plain.dashes, plain.long, plain.short) refl) (rw (plain.dashes, plain.long, plain.short) refl)
-
-  report_value : (rest : List Text) (to : Walk) → Leads (has rows (codes "report") word) rest to → Leads (waits rows (codes "report")) (word ∷ rest) to
-  unfolding shape option_command clap_on_literals
-  report_value rest to = steps (waits rows (codes "report")) (has rows (codes "report") word) to word rest (rw (plain.dashes, plain.long, plain.short) refl) (rw (plain.dashes, plain.long, plain.short) refl)
-
-  moves_value : (rest : List Text) (to : Walk) → Leads (has rows (codes "moves") word) rest to → Leads (waits rows (codes "moves")) (word ∷ rest) to
-  unfolding shape option_command clap_on_literals
-  moves_value rest to = steps (waits rows (codes "moves")) (has rows (codes "moves") word) to word rest (rw (plain.dashes, plain.long, plain.short) refl) (rw (plain.dashes, plain.long, plain.short) refl)
-
-  number_value : (rest : List Text) (to : Walk) → Leads (has rows (codes "number") word) rest to → Leads (waits rows (codes "number")) (word ∷ rest) to
-  unfolding shape option_command clap_on_literals
-  number_value rest to = steps (waits rows (codes "number")) (has rows (codes "number") word) to word rest (rw (plain.dashes, plain.long, plain.short) refl) (rw (plain.dashes, plain.long, plain.short) refl)
-
-  log_value : (rest : List Text) (to : Walk) → Leads (has rows (codes "log") word) rest to → Leads (waits rows (codes "log")) (word ∷ rest) to
-  unfolding shape option_command clap_on_literals
-  log_value rest to = steps (waits rows (codes "log")) (has rows (codes "log") word) to word rest (rw (plain.dashes, plain.long, plain.short) refl) (rw (plain.dashes, plain.long, plain.short) refl)
-
-  layout_value : (rest : List Text) (to : Walk) → Leads (has rows (codes "layout") word) rest to → Leads (waits rows (codes "layout")) (word ∷ rest) to
-  unfolding shape option_command clap_on_literals
-  layout_value rest to = steps (waits rows (codes "layout")) (has rows (codes "layout") word) to word rest (rw (plain.dashes, plain.long, plain.short) refl) (rw (plain.dashes, plain.long, plain.short) refl)
-
--- the options, each after what stands before it
-module _ (job deal layouts : Text) where
   abbrev one_row : List Row
   one_row = row (codes "job") job ∷ []
 
-  abbrev two_rows : List Row
-  two_rows = row (codes "job") job ∷ row (codes "deal") deal ∷ []
-
-  abbrev three_rows : List Row
-  three_rows = row (codes "job") job ∷ row (codes "deal") deal ∷ row (codes "layouts") layouts ∷ []
-
-  job_option : (rest : List Text) (to : Walk) → Leads (waits [] (codes "job")) rest to
-      → Leads (at [] None idle) (codes "--job" ∷ rest) to
+  number_asked : (number : Text) → is_value number ≡ true → words_read (codes "--job" ∷ job ∷ codes "--number" ∷ number ∷ []) ≡ ask_in (options_at (row (codes "job") job ∷ row (codes "number") number ∷ []))
   unfolding shape option_command clap_on_literals
-  job_option rest to = steps (at [] None idle) (waits [] (codes "job")) to (codes "--job") rest refl refl
+  number_asked number number_is =
+      asked _ _ (job_leads _ _ (option_leads (has [] (codes "job") job) one_row (codes "number") (codes "--number") number _ refl refl refl refl refl refl number_is _ _ (ends _))) refl
 
-  deal_option : (rest : List Text) (to : Walk) → Leads (waits one_row (codes "deal")) rest to
-      → Leads (has [] (codes "job") job) (codes "--deal" ∷ rest) to
-  unfolding shape option_command clap_on_literals
-  deal_option rest to = steps (has [] (codes "job") job) (waits one_row (codes "deal")) to (codes "--deal") rest refl refl
+  module _ (deal : Text) (deal_is : is_value deal ≡ true) where
+    deal_leads : (rest : List Text) (to : Walk) → Leads (has one_row (codes "deal") deal) rest to → Leads start (codes "--job" ∷ job ∷ codes "--deal" ∷ deal ∷ rest) to
+    unfolding shape option_command clap_on_literals
+    deal_leads rest to leads = job_leads _ _ (option_leads (has [] (codes "job") job) one_row (codes "deal") (codes "--deal") deal _ refl refl refl refl refl refl deal_is rest to leads)
 
-  number_option : (rest : List Text) (to : Walk) → Leads (waits one_row (codes "number")) rest to
-      → Leads (has [] (codes "job") job) (codes "--number" ∷ rest) to
-  unfolding shape option_command clap_on_literals
-  number_option rest to = steps (has [] (codes "job") job) (waits one_row (codes "number")) to (codes "--number") rest refl refl
+    abbrev two_rows : List Row
+    two_rows = row (codes "job") job ∷ row (codes "deal") deal ∷ []
 
-  layouts_option : (rest : List Text) (to : Walk) → Leads (waits two_rows (codes "layouts")) rest to
-      → Leads (has one_row (codes "deal") deal) (codes "--layouts" ∷ rest) to
-  unfolding shape option_command clap_on_literals
-  layouts_option rest to = steps (has one_row (codes "deal") deal) (waits two_rows (codes "layouts")) to (codes "--layouts") rest refl refl
+    deal_asked : words_read (codes "--job" ∷ job ∷ codes "--deal" ∷ deal ∷ []) ≡ ask_in (options_at two_rows)
+    unfolding shape option_command clap_on_literals
+    deal_asked = asked _ _ (deal_leads _ _ (ends _)) refl
 
-  moves_option : (rest : List Text) (to : Walk) → Leads (waits three_rows (codes "moves")) rest to
-      → Leads (has two_rows (codes "layouts") layouts) (codes "--moves" ∷ rest) to
-  unfolding shape option_command clap_on_literals
-  moves_option rest to = steps (has two_rows (codes "layouts") layouts) (waits three_rows (codes "moves")) to (codes "--moves") rest refl refl
+    module _ (layouts : Text) (layouts_is : is_value layouts ≡ true) where
+      layouts_leads : (rest : List Text) (to : Walk) → Leads (has two_rows (codes "layouts") layouts) rest to
+          → Leads start (codes "--job" ∷ job ∷ codes "--deal" ∷ deal ∷ codes "--layouts" ∷ layouts ∷ rest) to
+      unfolding shape option_command clap_on_literals
+      layouts_leads rest to leads = deal_leads _ _ (option_leads (has one_row (codes "deal") deal) two_rows (codes "layouts") (codes "--layouts") layouts _ refl refl refl refl refl refl layouts_is rest to leads)
 
-  report_option : (rest : List Text) (to : Walk) → Leads (waits three_rows (codes "report")) rest to
-      → Leads (has two_rows (codes "layouts") layouts) (codes "--report" ∷ rest) to
-  unfolding shape option_command clap_on_literals
-  report_option rest to = steps (has two_rows (codes "layouts") layouts) (waits three_rows (codes "report")) to (codes "--report") rest refl refl
+      abbrev three_rows : List Row
+      three_rows = row (codes "job") job ∷ row (codes "deal") deal ∷ row (codes "layouts") layouts ∷ []
 
-  layout_option : (moves : Text) (rest : List Text) (to : Walk)
-      → Leads (waits (row (codes "job") job ∷ row (codes "deal") deal ∷ row (codes "layouts") layouts ∷ row (codes "moves") moves ∷ []) (codes "layout")) rest to
-      → Leads (has three_rows (codes "moves") moves) (codes "--layout" ∷ rest) to
-  unfolding shape option_command clap_on_literals
-  layout_option moves rest to = steps (has three_rows (codes "moves") moves) (waits (row (codes "job") job ∷ row (codes "deal") deal ∷ row (codes "layouts") layouts ∷ row (codes "moves") moves ∷ []) (codes "layout")) to (codes "--layout") rest refl refl
+      layouts_asked : words_read (codes "--job" ∷ job ∷ codes "--deal" ∷ deal ∷ codes "--layouts" ∷ layouts ∷ []) ≡ ask_in (options_at three_rows)
+      unfolding shape option_command clap_on_literals
+      layouts_asked = asked _ _ (layouts_leads _ _ (ends _)) refl
 
-  log_option : (report : Text) (rest : List Text) (to : Walk)
-      → Leads (waits (row (codes "job") job ∷ row (codes "deal") deal ∷ row (codes "layouts") layouts ∷ row (codes "report") report ∷ []) (codes "log")) rest to
-      → Leads (has three_rows (codes "report") report) (codes "--log" ∷ rest) to
-  unfolding shape option_command clap_on_literals
-  log_option report rest to = steps (has three_rows (codes "report") report) (waits (row (codes "job") job ∷ row (codes "deal") deal ∷ row (codes "layouts") layouts ∷ row (codes "report") report ∷ []) (codes "log")) to (codes "--log") rest refl refl
+      abbrev four_rows : Text → Text → List Row
+      four_rows name value = row (codes "job") job ∷ row (codes "deal") deal ∷ row (codes "layouts") layouts ∷ row name value ∷ []
 
--- the words of a walk from its start that ends with all words read
-abbrev reads : List Text → Walk → Type 0
-reads all to = Leads (at [] None idle) all to
+      moves_leads : (moves : Text) → is_value moves ≡ true → (rest : List Text) (to : Walk) → Leads (has three_rows (codes "moves") moves) rest to
+          → Leads start (codes "--job" ∷ job ∷ codes "--deal" ∷ deal ∷ codes "--layouts" ∷ layouts ∷ codes "--moves" ∷ moves ∷ rest) to
+      unfolding shape option_command clap_on_literals
+      moves_leads moves moves_is rest to leads = layouts_leads _ _ (option_leads (has two_rows (codes "layouts") layouts) three_rows (codes "moves") (codes "--moves") moves _ refl refl refl refl refl refl moves_is rest to leads)
 
--- no option is given
-abbrev no_values : OptionValues
-no_values = options_at []
+      report_leads : (report : Text) → is_value report ≡ true → (rest : List Text) (to : Walk) → Leads (has three_rows (codes "report") report) rest to
+          → Leads start (codes "--job" ∷ job ∷ codes "--deal" ∷ deal ∷ codes "--layouts" ∷ layouts ∷ codes "--report" ∷ report ∷ rest) to
+      unfolding shape option_command clap_on_literals
+      report_leads report report_is rest to leads = layouts_leads _ _ (option_leads (has two_rows (codes "layouts") layouts) three_rows (codes "report") (codes "--report") report _ refl refl refl refl refl refl report_is rest to leads)
 
--- the words with these values
-module _ (job deal : Text) where
-  abbrev list_options : OptionValues
-  list_options = record no_values { job = Some job; deal = Some deal }
+      moves_asked : (moves : Text) → is_value moves ≡ true → words_read (codes "--job" ∷ job ∷ codes "--deal" ∷ deal ∷ codes "--layouts" ∷ layouts ∷ codes "--moves" ∷ moves ∷ []) ≡ ask_in (options_at (four_rows (codes "moves") moves))
+      unfolding shape option_command clap_on_literals
+      moves_asked moves moves_is = asked _ _ (moves_leads moves moves_is _ _ (ends _)) refl
 
-  abbrev list_walk : Walk
-  list_walk = has (row (codes "job") job ∷ []) (codes "deal") deal
+      report_asked : (report : Text) → is_value report ≡ true → words_read (codes "--job" ∷ job ∷ codes "--deal" ∷ deal ∷ codes "--layouts" ∷ layouts ∷ codes "--report" ∷ report ∷ []) ≡ ask_in (options_at (four_rows (codes "report") report))
+      unfolding shape option_command clap_on_literals
+      report_asked report report_is = asked _ _ (report_leads report report_is _ _ (ends _)) refl
 
-  list_no_fault : (all : List Text) → reads all list_walk → fault_of option_command all ≡ []
-  unfolding shape option_command clap_on_literals
-  list_no_fault all leads = rw (leads.fault, leads.walk) refl
+      abbrev five_rows : Text → Text → Text → Text → List Row
+      five_rows name value next other = row (codes "job") job ∷ row (codes "deal") deal ∷ row (codes "layouts") layouts ∷ row name value ∷ row next other ∷ []
 
-  list_found : (all : List Text) → reads all list_walk → options_at (matches_of option_command all) ≡ list_options
-  unfolding shape option_command clap_on_literals
-  list_found all leads = rw leads.walk refl
+      layout_asked : (moves layout : Text) → is_value moves ≡ true → is_value layout ≡ true
+          → words_read (codes "--job" ∷ job ∷ codes "--deal" ∷ deal ∷ codes "--layouts" ∷ layouts ∷ codes "--moves" ∷ moves ∷ codes "--layout" ∷ layout ∷ []) ≡ ask_in (options_at (five_rows (codes "moves") moves (codes "layout") layout))
+      unfolding shape option_command clap_on_literals
+      layout_asked moves layout moves_is layout_is = asked _ _ (moves_leads moves moves_is _ _ (option_leads (has three_rows (codes "moves") moves) (four_rows (codes "moves") moves) (codes "layout") (codes "--layout") layout _ refl refl refl refl refl refl layout_is _ _ (ends _))) refl
 
-  list_leads : is_value job ≡ true → is_value deal ≡ true → reads (codes "--job" ∷ job ∷ codes "--deal" ∷ deal ∷ []) list_walk
-  list_leads job_is deal_is = job_option job deal [] _ _ (job_value job (plain_word job job_is) _ _ _ (deal_option job deal [] _ _ (deal_value deal (plain_word deal deal_is) _ _ _ (ends _))))
-
-  list_read : is_value job ≡ true → is_value deal ≡ true → options_read (codes "--job" ∷ job ∷ codes "--deal" ∷ deal ∷ []) ≡ Some list_options
-  unfolding options_read
-  list_read job_is deal_is =
-      let leads = list_leads job_is deal_is in
-      rw (list_no_fault _ leads, list_found _ leads) refl
-
--- the words with these values
-module _ (job deal layouts : Text) where
-  abbrev fusion_options : OptionValues
-  fusion_options = record no_values { job = Some job; deal = Some deal; layouts = Some layouts }
-
-  abbrev fusion_walk : Walk
-  fusion_walk = has (row (codes "job") job ∷ row (codes "deal") deal ∷ []) (codes "layouts") layouts
-
-  fusion_no_fault : (all : List Text) → reads all fusion_walk → fault_of option_command all ≡ []
-  unfolding shape option_command clap_on_literals
-  fusion_no_fault all leads = rw (leads.fault, leads.walk) refl
-
-  fusion_found : (all : List Text) → reads all fusion_walk → options_at (matches_of option_command all) ≡ fusion_options
-  unfolding shape option_command clap_on_literals
-  fusion_found all leads = rw leads.walk refl
-
-  fusion_leads : is_value job ≡ true → is_value deal ≡ true → is_value layouts ≡ true → reads (codes "--job" ∷ job ∷ codes "--deal" ∷ deal ∷ codes "--layouts" ∷ layouts ∷ []) fusion_walk
-  fusion_leads job_is deal_is layouts_is = job_option job deal layouts _ _ (job_value job (plain_word job job_is) _ _ _ (deal_option job deal layouts _ _ (deal_value deal (plain_word deal deal_is) _ _ _ (layouts_option job deal layouts _ _ (layouts_value layouts (plain_word layouts layouts_is) _ _ _ (ends _))))))
-
-  fusion_read : is_value job ≡ true → is_value deal ≡ true → is_value layouts ≡ true → options_read (codes "--job" ∷ job ∷ codes "--deal" ∷ deal ∷ codes "--layouts" ∷ layouts ∷ []) ≡ Some fusion_options
-  unfolding options_read
-  fusion_read job_is deal_is layouts_is =
-      let leads = fusion_leads job_is deal_is layouts_is in
-      rw (fusion_no_fault _ leads, fusion_found _ leads) refl
-
--- the words with these values
-module _ (job deal layouts moves : Text) where
-  abbrev searched_options : OptionValues
-  searched_options = record no_values { job = Some job; deal = Some deal; layouts = Some layouts; moves = Some moves }
-
-  abbrev searched_walk : Walk
-  searched_walk = has (row (codes "job") job ∷ row (codes "deal") deal ∷ row (codes "layouts") layouts ∷ []) (codes "moves") moves
-
-  searched_no_fault : (all : List Text) → reads all searched_walk → fault_of option_command all ≡ []
-  unfolding shape option_command clap_on_literals
-  searched_no_fault all leads = rw (leads.fault, leads.walk) refl
-
-  searched_found : (all : List Text) → reads all searched_walk → options_at (matches_of option_command all) ≡ searched_options
-  unfolding shape option_command clap_on_literals
-  searched_found all leads = rw leads.walk refl
-
-  searched_leads : is_value job ≡ true → is_value deal ≡ true → is_value layouts ≡ true → is_value moves ≡ true → reads (codes "--job" ∷ job ∷ codes "--deal" ∷ deal ∷ codes "--layouts" ∷ layouts ∷ codes "--moves" ∷ moves ∷ []) searched_walk
-  searched_leads job_is deal_is layouts_is moves_is = job_option job deal layouts _ _ (job_value job (plain_word job job_is) _ _ _ (deal_option job deal layouts _ _ (deal_value deal (plain_word deal deal_is) _ _ _ (layouts_option job deal layouts _ _ (layouts_value layouts (plain_word layouts layouts_is) _ _ _ (moves_option job deal layouts _ _ (moves_value moves (plain_word moves moves_is) _ _ _ (ends _))))))))
-
-  searched_read : is_value job ≡ true → is_value deal ≡ true → is_value layouts ≡ true → is_value moves ≡ true → options_read (codes "--job" ∷ job ∷ codes "--deal" ∷ deal ∷ codes "--layouts" ∷ layouts ∷ codes "--moves" ∷ moves ∷ []) ≡ Some searched_options
-  unfolding options_read
-  searched_read job_is deal_is layouts_is moves_is =
-      let leads = searched_leads job_is deal_is layouts_is moves_is in
-      rw (searched_no_fault _ leads, searched_found _ leads) refl
-
--- the words with these values
-module _ (job deal layouts moves layout : Text) where
-  abbrev match_options : OptionValues
-  match_options = record no_values { job = Some job; deal = Some deal; layouts = Some layouts; moves = Some moves; layout = Some layout }
-
-  abbrev match_walk : Walk
-  match_walk = has (row (codes "job") job ∷ row (codes "deal") deal ∷ row (codes "layouts") layouts ∷ row (codes "moves") moves ∷ []) (codes "layout") layout
-
-  match_no_fault : (all : List Text) → reads all match_walk → fault_of option_command all ≡ []
-  unfolding shape option_command clap_on_literals
-  match_no_fault all leads = rw (leads.fault, leads.walk) refl
-
-  match_found : (all : List Text) → reads all match_walk → options_at (matches_of option_command all) ≡ match_options
-  unfolding shape option_command clap_on_literals
-  match_found all leads = rw leads.walk refl
-
-  match_leads : is_value job ≡ true → is_value deal ≡ true → is_value layouts ≡ true → is_value moves ≡ true → is_value layout ≡ true → reads (codes "--job" ∷ job ∷ codes "--deal" ∷ deal ∷ codes "--layouts" ∷ layouts ∷ codes "--moves" ∷ moves ∷ codes "--layout" ∷ layout ∷ []) match_walk
-  match_leads job_is deal_is layouts_is moves_is layout_is = job_option job deal layouts _ _ (job_value job (plain_word job job_is) _ _ _ (deal_option job deal layouts _ _ (deal_value deal (plain_word deal deal_is) _ _ _ (layouts_option job deal layouts _ _ (layouts_value layouts (plain_word layouts layouts_is) _ _ _ (moves_option job deal layouts _ _ (moves_value moves (plain_word moves moves_is) _ _ _ (layout_option job deal layouts moves _ _ (layout_value layout (plain_word layout layout_is) _ _ _ (ends _))))))))))
-
-  match_read : is_value job ≡ true → is_value deal ≡ true → is_value layouts ≡ true → is_value moves ≡ true → is_value layout ≡ true → options_read (codes "--job" ∷ job ∷ codes "--deal" ∷ deal ∷ codes "--layouts" ∷ layouts ∷ codes "--moves" ∷ moves ∷ codes "--layout" ∷ layout ∷ []) ≡ Some match_options
-  unfolding options_read
-  match_read job_is deal_is layouts_is moves_is layout_is =
-      let leads = match_leads job_is deal_is layouts_is moves_is layout_is in
-      rw (match_no_fault _ leads, match_found _ leads) refl
-
--- the words with these values
-module _ (job deal layouts report : Text) where
-  abbrev check_options : OptionValues
-  check_options = record no_values { job = Some job; deal = Some deal; layouts = Some layouts; report = Some report }
-
-  abbrev check_walk : Walk
-  check_walk = has (row (codes "job") job ∷ row (codes "deal") deal ∷ row (codes "layouts") layouts ∷ []) (codes "report") report
-
-  check_no_fault : (all : List Text) → reads all check_walk → fault_of option_command all ≡ []
-  unfolding shape option_command clap_on_literals
-  check_no_fault all leads = rw (leads.fault, leads.walk) refl
-
-  check_found : (all : List Text) → reads all check_walk → options_at (matches_of option_command all) ≡ check_options
-  unfolding shape option_command clap_on_literals
-  check_found all leads = rw leads.walk refl
-
-  check_leads : is_value job ≡ true → is_value deal ≡ true → is_value layouts ≡ true → is_value report ≡ true → reads (codes "--job" ∷ job ∷ codes "--deal" ∷ deal ∷ codes "--layouts" ∷ layouts ∷ codes "--report" ∷ report ∷ []) check_walk
-  check_leads job_is deal_is layouts_is report_is = job_option job deal layouts _ _ (job_value job (plain_word job job_is) _ _ _ (deal_option job deal layouts _ _ (deal_value deal (plain_word deal deal_is) _ _ _ (layouts_option job deal layouts _ _ (layouts_value layouts (plain_word layouts layouts_is) _ _ _ (report_option job deal layouts _ _ (report_value report (plain_word report report_is) _ _ _ (ends _))))))))
-
-  check_read : is_value job ≡ true → is_value deal ≡ true → is_value layouts ≡ true → is_value report ≡ true → options_read (codes "--job" ∷ job ∷ codes "--deal" ∷ deal ∷ codes "--layouts" ∷ layouts ∷ codes "--report" ∷ report ∷ []) ≡ Some check_options
-  unfolding options_read
-  check_read job_is deal_is layouts_is report_is =
-      let leads = check_leads job_is deal_is layouts_is report_is in
-      rw (check_no_fault _ leads, check_found _ leads) refl
-
--- the words with these values
-module _ (job deal layouts report log : Text) where
-  abbrev audit_options : OptionValues
-  audit_options = record no_values { job = Some job; deal = Some deal; layouts = Some layouts; report = Some report; log = Some log }
-
-  abbrev audit_walk : Walk
-  audit_walk = has (row (codes "job") job ∷ row (codes "deal") deal ∷ row (codes "layouts") layouts ∷ row (codes "report") report ∷ []) (codes "log") log
-
-  audit_no_fault : (all : List Text) → reads all audit_walk → fault_of option_command all ≡ []
-  unfolding shape option_command clap_on_literals
-  audit_no_fault all leads = rw (leads.fault, leads.walk) refl
-
-  audit_found : (all : List Text) → reads all audit_walk → options_at (matches_of option_command all) ≡ audit_options
-  unfolding shape option_command clap_on_literals
-  audit_found all leads = rw leads.walk refl
-
-  audit_leads : is_value job ≡ true → is_value deal ≡ true → is_value layouts ≡ true → is_value report ≡ true → is_value log ≡ true → reads (codes "--job" ∷ job ∷ codes "--deal" ∷ deal ∷ codes "--layouts" ∷ layouts ∷ codes "--report" ∷ report ∷ codes "--log" ∷ log ∷ []) audit_walk
-  audit_leads job_is deal_is layouts_is report_is log_is = job_option job deal layouts _ _ (job_value job (plain_word job job_is) _ _ _ (deal_option job deal layouts _ _ (deal_value deal (plain_word deal deal_is) _ _ _ (layouts_option job deal layouts _ _ (layouts_value layouts (plain_word layouts layouts_is) _ _ _ (report_option job deal layouts _ _ (report_value report (plain_word report report_is) _ _ _ (log_option job deal layouts report _ _ (log_value log (plain_word log log_is) _ _ _ (ends _))))))))))
-
-  audit_read : is_value job ≡ true → is_value deal ≡ true → is_value layouts ≡ true → is_value report ≡ true → is_value log ≡ true → options_read (codes "--job" ∷ job ∷ codes "--deal" ∷ deal ∷ codes "--layouts" ∷ layouts ∷ codes "--report" ∷ report ∷ codes "--log" ∷ log ∷ []) ≡ Some audit_options
-  unfolding options_read
-  audit_read job_is deal_is layouts_is report_is log_is =
-      let leads = audit_leads job_is deal_is layouts_is report_is log_is in
-      rw (audit_no_fault _ leads, audit_found _ leads) refl
-
--- the words with these values
-module _ (job number : Text) where
-  abbrev made_options : OptionValues
-  made_options = record no_values { job = Some job; number = Some number }
-
-  abbrev made_walk : Walk
-  made_walk = has (row (codes "job") job ∷ []) (codes "number") number
-
-  made_no_fault : (all : List Text) → reads all made_walk → fault_of option_command all ≡ []
-  unfolding shape option_command clap_on_literals
-  made_no_fault all leads = rw (leads.fault, leads.walk) refl
-
-  made_found : (all : List Text) → reads all made_walk → options_at (matches_of option_command all) ≡ made_options
-  unfolding shape option_command clap_on_literals
-  made_found all leads = rw leads.walk refl
-
-  made_leads : is_value job ≡ true → is_value number ≡ true → reads (codes "--job" ∷ job ∷ codes "--number" ∷ number ∷ []) made_walk
-  made_leads job_is number_is = job_option job [] [] _ _ (job_value job (plain_word job job_is) _ _ _ (number_option job [] [] _ _ (number_value number (plain_word number number_is) _ _ _ (ends _))))
-
-  made_read : is_value job ≡ true → is_value number ≡ true → options_read (codes "--job" ∷ job ∷ codes "--number" ∷ number ∷ []) ≡ Some made_options
-  unfolding options_read
-  made_read job_is number_is =
-      let leads = made_leads job_is number_is in
-      rw (made_no_fault _ leads, made_found _ leads) refl
+      log_asked : (report log : Text) → is_value report ≡ true → is_value log ≡ true
+          → words_read (codes "--job" ∷ job ∷ codes "--deal" ∷ deal ∷ codes "--layouts" ∷ layouts ∷ codes "--report" ∷ report ∷ codes "--log" ∷ log ∷ []) ≡ ask_in (options_at (five_rows (codes "report") report (codes "log") log))
+      unfolding shape option_command clap_on_literals
+      log_asked report log report_is log_is = asked _ _ (report_leads report report_is _ _ (option_leads (has three_rows (codes "report") report) (four_rows (codes "report") report) (codes "log") (codes "--log") log _ refl refl refl refl refl refl log_is _ _ (ends _))) refl
 
 -- what writes a number is a value
 is_value-number_in : (least most : ℕ) (text : Text) (number : ℕ) → number_in least most text ≡ Some number → is_value text ≡ true
@@ -364,144 +223,57 @@ is_value-number_in least most (d ∷ ds) number is = go (all_ascii_digits (d ∷
         let none : None ≡ Some number = rw e at is in
         cc
 
--- the plain words of each job
+-- ---- the plain words of each job
 pub solve_asks : (deal layouts moves : List ℕ) (number : ℕ) → is_value deal ≡ true → is_value layouts ≡ true → number_in 1 most_moves moves ≡ Some number
     → words_read (solve_words deal layouts moves) ≡ Some (OnLayouts deal layouts (Solve number plain_search))
-unfolding words_read ask_in job_in on_layouts solve_in moves_in search_in table_in job_named keeps_to file_named number_or
+unfolding ask_in job_in on_layouts solve_in moves_in search_in table_in job_named keeps_to file_named number_or
 solve_asks deal layouts moves number deal_is layouts_is number_is =
-    let moves_is = is_value-number_in 1 most_moves moves number number_is in
-    rw (
-      (plain_word deal deal_is).dashes,
-      (plain_word layouts layouts_is).dashes,
-      (plain_word moves moves_is).dashes,
-      searched_read (codes "solve") deal layouts moves refl deal_is layouts_is moves_is,
-      number_is,
-      deal_is,
-      layouts_is,
-    ) refl
-
-pub card_asks : (deal layouts moves : List ℕ) (number : ℕ) → is_value deal ≡ true → is_value layouts ≡ true → number_in 1 most_moves moves ≡ Some number
-    → words_read (card_words deal layouts moves) ≡ Some (OnLayouts deal layouts (Card number plain_search))
-unfolding words_read ask_in job_in on_layouts card_in moves_in search_in table_in job_named keeps_to file_named number_or
-card_asks deal layouts moves number deal_is layouts_is number_is =
-    let moves_is = is_value-number_in 1 most_moves moves number number_is in
-    rw (
-      (plain_word deal deal_is).dashes,
-      (plain_word layouts layouts_is).dashes,
-      (plain_word moves moves_is).dashes,
-      searched_read (codes "card") deal layouts moves refl deal_is layouts_is moves_is,
-      number_is,
-      deal_is,
-      layouts_is,
-    ) refl
+    moves_asked (codes "solve") refl deal deal_is layouts layouts_is moves (is_value-number_in 1 most_moves moves number number_is) ∙ rw (number_is, deal_is, layouts_is) refl
 
 pub match_asks : (deal layouts moves layout : List ℕ) (number kept : ℕ) → is_value deal ≡ true → is_value layouts ≡ true → number_in 1 most_moves moves ≡ Some number → number_in 1 256 layout ≡ Some kept
     → words_read (match_words deal layouts moves layout) ≡ Some (OnLayouts deal layouts (Match number plain_search kept None))
-unfolding words_read ask_in job_in on_layouts match_in switch_in moves_in search_in table_in job_named keeps_to file_named number_or
+unfolding ask_in job_in on_layouts match_in switch_in moves_in search_in table_in job_named keeps_to file_named number_or
 match_asks deal layouts moves layout number kept deal_is layouts_is number_is kept_is =
-    let moves_is = is_value-number_in 1 most_moves moves number number_is in
-    let layout_is = is_value-number_in 1 256 layout kept kept_is in
-    rw (
-      (plain_word deal deal_is).dashes,
-      (plain_word layouts layouts_is).dashes,
-      (plain_word moves moves_is).dashes,
-      (plain_word layout layout_is).dashes,
-      match_read (codes "match") deal layouts moves layout refl deal_is layouts_is moves_is layout_is,
-      number_is,
-      kept_is,
-      deal_is,
-      layouts_is,
-    ) refl
+    layout_asked (codes "match") refl deal deal_is layouts layouts_is moves layout (is_value-number_in 1 most_moves moves number number_is) (is_value-number_in 1 256 layout kept kept_is)
+    ∙ rw (number_is, kept_is, deal_is, layouts_is) refl
 
-pub fusion_asks : (deal layouts : List ℕ) → is_value deal ≡ true → is_value layouts ≡ true
-    → words_read (fusion_words deal layouts) ≡ Some (OnLayouts deal layouts Fusion)
-unfolding words_read ask_in job_in on_layouts job_named keeps_to file_named number_or
-fusion_asks deal layouts deal_is layouts_is =
-    rw (
-      (plain_word deal deal_is).dashes,
-      (plain_word layouts layouts_is).dashes,
-      fusion_read (codes "fusion") deal layouts refl deal_is layouts_is,
-      deal_is,
-      layouts_is,
-    ) refl
+pub card_asks : (deal layouts moves : List ℕ) (number : ℕ) → is_value deal ≡ true → is_value layouts ≡ true → number_in 1 most_moves moves ≡ Some number
+    → words_read (card_words deal layouts moves) ≡ Some (OnLayouts deal layouts (Card number plain_search))
+unfolding ask_in job_in on_layouts card_in moves_in search_in table_in job_named keeps_to file_named number_or
+card_asks deal layouts moves number deal_is layouts_is number_is =
+    moves_asked (codes "card") refl deal deal_is layouts layouts_is moves (is_value-number_in 1 most_moves moves number number_is) ∙ rw (number_is, deal_is, layouts_is) refl
 
-pub list_asks : (deal : List ℕ) → is_value deal ≡ true
-    → words_read (list_words deal) ≡ Some (asks.List deal)
-unfolding words_read ask_in job_in list_in job_named keeps_to file_named number_or
-list_asks deal deal_is =
-    rw (
-      (plain_word deal deal_is).dashes,
-      list_read (codes "list") deal refl deal_is,
-      deal_is,
-    ) refl
+pub fusion_asks : (deal layouts : List ℕ) → is_value deal ≡ true → is_value layouts ≡ true → words_read (fusion_words deal layouts) ≡ Some (OnLayouts deal layouts Fusion)
+unfolding ask_in job_in on_layouts job_named keeps_to file_named number_or
+fusion_asks deal layouts deal_is layouts_is = layouts_asked (codes "fusion") refl deal deal_is layouts layouts_is ∙ rw (deal_is, layouts_is) refl
+
+pub list_asks : (deal : List ℕ) → is_value deal ≡ true → words_read (list_words deal) ≡ Some (asks.List deal)
+unfolding ask_in job_in list_in job_named keeps_to file_named number_or
+list_asks deal deal_is = deal_asked (codes "list") refl deal deal_is ∙ rw deal_is refl
 
 pub check_asks : (deal layouts report : List ℕ) → is_value deal ≡ true → is_value layouts ≡ true → is_value report ≡ true
     → words_read (check_words deal layouts report) ≡ Some (OnLayouts deal layouts (Check report))
-unfolding words_read ask_in job_in on_layouts check_in job_named keeps_to file_named number_or
-check_asks deal layouts report deal_is layouts_is report_is =
-    rw (
-      (plain_word deal deal_is).dashes,
-      (plain_word layouts layouts_is).dashes,
-      (plain_word report report_is).dashes,
-      check_read (codes "check") deal layouts report refl deal_is layouts_is report_is,
-      report_is,
-      deal_is,
-      layouts_is,
-    ) refl
+unfolding ask_in job_in on_layouts check_in job_named keeps_to file_named number_or
+check_asks deal layouts report deal_is layouts_is report_is = report_asked (codes "check") refl deal deal_is layouts layouts_is report report_is ∙ rw (report_is, deal_is, layouts_is) refl
 
-pub made_asks : (number : List ℕ) (value : ℕ) → number_in 0 (2 ^ 64 - 1) number ≡ Some value
-    → words_read (made_words number) ≡ Some (Made value plain_search)
-unfolding words_read ask_in job_in made_in search_in table_in job_named keeps_to file_named number_or
-made_asks number value number_is =
-    let digits_are = is_value-number_in 0 (2 ^ 64 - 1) number value number_is in
-    rw (
-      (plain_word number digits_are).dashes,
-      made_read (codes "made") number refl digits_are,
-      number_is,
-    ) refl
+pub made_asks : (number : List ℕ) (value : ℕ) → number_in 0 (2 ^ 64 - 1) number ≡ Some value → words_read (made_words number) ≡ Some (Made value plain_search)
+unfolding ask_in job_in made_in search_in table_in job_named keeps_to file_named number_or
+made_asks number value number_is = number_asked (codes "made") refl number (is_value-number_in 0 (2 ^ 64 - 1) number value number_is) ∙ rw number_is refl
 
 pub prove_asks : (deal layouts moves : List ℕ) (number : ℕ) → is_value deal ≡ true → is_value layouts ≡ true → number_in 1 most_moves moves ≡ Some number
     → words_read (prove_words deal layouts moves) ≡ Some (OnLayouts deal layouts (Prove number 10000000))
-unfolding words_read ask_in job_in on_layouts prove_in moves_in job_named keeps_to file_named number_or
+unfolding ask_in job_in on_layouts prove_in moves_in job_named keeps_to file_named number_or
 prove_asks deal layouts moves number deal_is layouts_is number_is =
-    let moves_is = is_value-number_in 1 most_moves moves number number_is in
-    rw (
-      (plain_word deal deal_is).dashes,
-      (plain_word layouts layouts_is).dashes,
-      (plain_word moves moves_is).dashes,
-      searched_read (codes "prove") deal layouts moves refl deal_is layouts_is moves_is,
-      number_is,
-      deal_is,
-      layouts_is,
-    ) refl
+    moves_asked (codes "prove") refl deal deal_is layouts layouts_is moves (is_value-number_in 1 most_moves moves number number_is) ∙ rw (number_is, deal_is, layouts_is) refl
 
 pub audit_asks : (deal layouts report log : List ℕ) → is_value deal ≡ true → is_value layouts ≡ true → is_value report ≡ true → is_value log ≡ true
     → words_read (audit_words deal layouts report log) ≡ Some (OnLayouts deal layouts (Audit report log))
-unfolding words_read ask_in job_in on_layouts audit_in job_named keeps_to file_named number_or
+unfolding ask_in job_in on_layouts audit_in job_named keeps_to file_named number_or
 audit_asks deal layouts report log deal_is layouts_is report_is log_is =
-    rw (
-      (plain_word deal deal_is).dashes,
-      (plain_word layouts layouts_is).dashes,
-      (plain_word report report_is).dashes,
-      (plain_word log log_is).dashes,
-      audit_read (codes "audit") deal layouts report log refl deal_is layouts_is report_is log_is,
-      report_is,
-      log_is,
-      deal_is,
-      layouts_is,
-    ) refl
+    log_asked (codes "audit") refl deal deal_is layouts layouts_is report log report_is log_is ∙ rw (report_is, log_is, deal_is, layouts_is) refl
 
 pub boards_asks : (deal layouts moves : List ℕ) (number : ℕ) → is_value deal ≡ true → is_value layouts ≡ true → number_in 1 most_moves moves ≡ Some number
     → words_read (boards_words deal layouts moves) ≡ Some (Boards (record { deal = deal; layouts = layouts }) number plain_search)
-unfolding words_read ask_in job_in boards_in moves_in search_in table_in job_named keeps_to file_named number_or
+unfolding ask_in job_in boards_in moves_in search_in table_in job_named keeps_to file_named number_or
 boards_asks deal layouts moves number deal_is layouts_is number_is =
-    let moves_is = is_value-number_in 1 most_moves moves number number_is in
-    rw (
-      (plain_word deal deal_is).dashes,
-      (plain_word layouts layouts_is).dashes,
-      (plain_word moves moves_is).dashes,
-      searched_read (codes "boards") deal layouts moves refl deal_is layouts_is moves_is,
-      number_is,
-      deal_is,
-      layouts_is,
-    ) refl
+    moves_asked (codes "boards") refl deal deal_is layouts layouts_is moves (is_value-number_in 1 most_moves moves number number_is) ∙ rw (number_is, deal_is, layouts_is) refl
