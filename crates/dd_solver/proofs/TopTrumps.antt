@@ -27,21 +27,14 @@ use Rattle.dd_solver.specs.Answers.{IsAnswer}
 -- each seat is the seat itself, its partner or an opponent
 pub each_seat : (x y : Seat) → ((y ≡ x) ⊎ (y ≡ seat_after 2 x)) ⊎ (is_declarers y ≡ not (is_declarers x))
 each_seat Declarer Declarer = inl (inl refl)
-each_seat Declarer Left = inr refl
 each_seat Declarer Dummy = inl (inr refl)
-each_seat Declarer Right = inr refl
-each_seat Left Declarer = inr refl
 each_seat Left Left = inl (inl refl)
-each_seat Left Dummy = inr refl
 each_seat Left Right = inl (inr refl)
-each_seat Dummy Declarer = inl (inr refl)
-each_seat Dummy Left = inr refl
 each_seat Dummy Dummy = inl (inl refl)
-each_seat Dummy Right = inr refl
-each_seat Right Declarer = inr refl
-each_seat Right Left = inl (inr refl)
-each_seat Right Dummy = inr refl
+each_seat Dummy Declarer = inl (inr refl)
 each_seat Right Right = inl (inl refl)
+each_seat Right Left = inl (inr refl)
+each_seat _ _ = inr refl
 
 -- these are all cards of the side's opponents
 abbrev pub HaveAll : State → Bool → List ℕ → Type 0

@@ -1,5 +1,6 @@
 -- A turn of a trick, and the next one.
 use Rattle.std.proofs.Common.{◌≡◌, ◌≢◌, ℕ, ◌<◌, Bool, true, false, ◌&&◌, ◌||◌, eqb, cond, None, [], ◌∷◌, length, refl, sym, subst, ◌∙◌, inl, inr, arith}
+use Rattle.std.proofs.Math.Bool.{and-true, or-false}
 use Rattle.std.proofs.lemmas.Bool.{cases_eq, eq-eqb, ne_eqb, or_right}
 use Rattle.card_sets.specs.SetWords.{has_card, cards_where}
 use Rattle.card_sets.proofs.Sets.{cards_where-agree}
@@ -34,15 +35,7 @@ in_play-put t c d can =
     ]
   where
     same : (a b e f : Bool) → (((a && true) || (b && true) || (e && true)) || (f || false)) ≡ ((a || b || e) || f)
-    same a b e f = rw (and_all a, and_all b, and_all e, or_none f) refl
-      where
-        and_all : (b : Bool) → (b && true) ≡ b
-        and_all true = refl
-        and_all false = refl
-
-        or_none : (b : Bool) → (b || false) ≡ b
-        or_none true = refl
-        or_none false = refl
+    same a b e f = rw (and-true a, and-true b, and-true e, or-false f) refl
 
 -- a card that doesn't end the trick leaves the same cards in play
 pub playing-after : (t : PositionValue) (c : ℕ) → IsSound t → CanPlay t c → length t.trick.cards ≢ 3 → cards_where (in_play t) ≡ cards_where (in_play (after_card t c))

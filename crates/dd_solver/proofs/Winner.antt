@@ -98,23 +98,11 @@ shorter c (x ∷ xs) h = elim (cases_eq x c) as (λ _. length (take_out c (x ∷
 -- ---- who won
 
 pub place_back : (leader : Seat) (k : ℕ) → k < 4 → places_on leader (seat_after k leader) ≡ k
-place_back Declarer zero h = refl
-place_back Declarer (suc zero) h = refl
-place_back Declarer (suc (suc zero)) h = refl
-place_back Declarer (suc (suc (suc zero))) h = refl
-place_back Left zero h = refl
-place_back Left (suc zero) h = refl
-place_back Left (suc (suc zero)) h = refl
-place_back Left (suc (suc (suc zero))) h = refl
-place_back Dummy zero h = refl
-place_back Dummy (suc zero) h = refl
-place_back Dummy (suc (suc zero)) h = refl
-place_back Dummy (suc (suc (suc zero))) h = refl
-place_back Right zero h = refl
-place_back Right (suc zero) h = refl
-place_back Right (suc (suc zero)) h = refl
-place_back Right (suc (suc (suc zero))) h = refl
-place_back seat (suc (suc (suc (suc k)))) h = absurd (omega arith)
+place_back leader zero h = elim leader as (λ seat. places_on seat (seat_after 0 seat) ≡ 0) [ Declarer ↦ refl | Left ↦ refl | Dummy ↦ refl | Right ↦ refl ]
+place_back leader (suc zero) h = elim leader as (λ seat. places_on seat (seat_after 1 seat) ≡ 1) [ Declarer ↦ refl | Left ↦ refl | Dummy ↦ refl | Right ↦ refl ]
+place_back leader (suc (suc zero)) h = elim leader as (λ seat. places_on seat (seat_after 2 seat) ≡ 2) [ Declarer ↦ refl | Left ↦ refl | Dummy ↦ refl | Right ↦ refl ]
+place_back leader (suc (suc (suc zero))) h = elim leader as (λ seat. places_on seat (seat_after 3 seat) ≡ 3) [ Declarer ↦ refl | Left ↦ refl | Dummy ↦ refl | Right ↦ refl ]
+place_back leader (suc (suc (suc (suc k)))) h = absurd (omega arith)
 
 absent_differs : (xs : List ℕ) (card : ℕ) → has_card xs card ≡ false → (k : ℕ) (d : ℕ) → k < length xs → get_or xs k d ≡ card → ⊥
 absent_differs [] card h k d low e = absurd (omega arith)

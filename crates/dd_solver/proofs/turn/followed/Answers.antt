@@ -2,6 +2,7 @@ use Rattle.std.proofs.Common.{◌≢◌, ◌<◌, length, sym, subst, ap, ◌∙
 use Rattle.trick_rules.specs.Positions.{PositionValue, IsSound}
 use Rattle.trick_rules.specs.Play.{CanPlay}
 use Rattle.trick_rules.proofs.Soundness.{after_short, after_card_sound, after_card-parts}
+use Rattle.trick_rules.proofs.Inside.{seen_as}
 use Rattle.dd_solver.proofs.turn.followed.Goals as goal
 
 pub with_card-requires : goal.with_card-requires
@@ -11,8 +12,7 @@ with_card-requires c =
 
 pub invariant_of-result : goal.invariant_of-result
 invariant_of-result c =
-    let p = c.position.inside in
-    let t : PositionValue = record { declarer = p.declarer; dummy = p.dummy; unseen = p.unseen; trick = p.trick; need = p.need; trump = p.trump } in
+    let t = seen_as c.position.inside in
     let card = c.args.card in
     let can : CanPlay t card = rw (← c.position.view_is) at c.requires.held in
     let goes_on : length t.trick.cards ≢ 3 = rw (← c.position.view_is) at c.requires.goes_on in
