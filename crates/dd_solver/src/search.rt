@@ -74,12 +74,13 @@ fn search_key(memo: &mut Memo, key: &Key) -> Answer
     if let Some(answer) = sure_answer(&position, key.left) {
         return answer;
     }
-    let answer = search_cards(memo, &Turn::of(&position, key.left, key.shape));
+    let answer = search_turn(memo, &Turn::of(&position, key.left, key.shape));
     memo.keep(key, &answer);
     answer
 }
 
-// The same at a turn, if the result is open. After a lead, a hand may head the suit led.
+// The same at a turn, if the result is open, by trying the cards. After a lead, a hand may head the
+// suit led.
 #[cycle(search)]
 fn search_turn(memo: &mut Memo, turn: &Turn) -> Answer
     requires turn { IsTurn turn.now }
@@ -92,17 +93,6 @@ fn search_turn(memo: &mut Memo, turn: &Turn) -> Answer
             return answer;
         }
     }
-    search_cards(memo, turn)
-}
-
-// The same by trying the cards.
-#[cycle(search)]
-fn search_cards(memo: &mut Memo, turn: &Turn) -> Answer
-    requires turn { IsTurn turn.now }
-    requires open { decided turn.now.position ≡ None }
-    ensures answer { IsAnswer (turn_state turn.now) result }
-    ensures limit { memo.new.most ≡ memo.old.most }
-{
     let ours = turn.position.is_ours();
     let legal = turn.position.legal_in(turn.left);
     let cards = one_of_equals(turn, legal);

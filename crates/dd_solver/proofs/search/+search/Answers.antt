@@ -35,8 +35,8 @@ search-search_key-answer-requires t c =
       (c.of-ranks.ensures.state, (c.of-ranks.ensures.shape, still.decided ∙ ap (λ (x : State). decided x.position) c.of-2.ensures.state ∙ sym c.decided.ensures ∙ c.in_default.is)),
     )
 
-pub search_cards-returns-clause-answer : goal.search_cards-returns-clause-answer
-search_cards-returns-clause-answer t c =
+pub search_turn-returns-clause-answer : goal.search_turn-returns-clause-answer
+search_turn-returns-clause-answer t c =
     let s = turn_state c.args.turn.now in
     let ours = c.is_ours-ours.result in
     answer-each s c.one_of_equals-cards.result c.with_lower_equals.result ours c.best_of-answer.result (record { made = not ours; counting = c.with_lower_equals.result })

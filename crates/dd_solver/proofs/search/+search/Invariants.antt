@@ -12,10 +12,7 @@ abbrev pub decreases-search_key : goal.decreases-search_key
 decreases-search_key l = 5 * cards_left (key_state l.key.now).position + 3
 
 abbrev pub decreases-search_turn : goal.decreases-search_turn
-decreases-search_turn l = 5 * cards_left l.turn.now.position + 3
-
-abbrev pub decreases-search_cards : goal.decreases-search_cards
-decreases-search_cards l = 5 * cards_left l.turn.now.position + 2
+decreases-search_turn l = 5 * cards_left l.turn.now.position + 2
 
 abbrev pub decreases-best_of : goal.decreases-best_of
 decreases-best_of l = 5 * cards_left l.turn.now.position + 1
