@@ -1,29 +1,29 @@
 -- A hand that heads the suit led, and the cards that follow.
-use Rattle.std.proofs.Common.{◌≡◌, ◌≢◌, ◌⊎◌, ℕ, suc, ◌+◌, ◌-◌, ◌<◌, ◌≤◌, Bool, true, false, not, ◌&&◌, ◌||◌, eqb, cond, nat_lt, Option, None, Some, List, [], ◌∷◌, length, filter, min, refl, sym, ap, ap₂, ◌∙◌, subst, inl, inr, arith}
+use Rattle.std.proofs.Common.{◌≡◌, ◌≢◌, ◌⊎◌, ℕ, suc, ◌+◌, ◌-◌, ◌<◌, ◌≤◌, Bool, true, false, not, ◌||◌, eqb, cond, nat_lt, Option, None, Some, List, [], ◌∷◌, length, filter, min, refl, sym, ap, ap₂, ◌∙◌, subst, inl, inr, arith}
 use Rattle.std.specs.Prelude.{MatchOption, IfSome}
 use Rattle.std.specs.List.{list_all}
 use Rattle.std.proofs.Math.Nat.{min-eq_left}
-use Rattle.std.proofs.lemmas.Bool.{cases_Bool, cases_eq, cases_lt, false≢true, both_ways, and_parts, or_left, or_right, eq-eqb, ltb-true, lt-ltb, le-ltb}
+use Rattle.std.proofs.lemmas.Bool.{false≢true, and_parts, or_left, or_right, eq-eqb, ltb-true}
 use Rattle.card_sets.specs.declared.card.Suit.{Suit}
 use Rattle.card_sets.specs.declared.card.Suit.TheVariants.{Spades, Hearts, Diamonds, Clubs}
 use Rattle.card_sets.specs.declared.seat.Seat.{Seat}
 use Rattle.card_sets.specs.declared.seat.Seat.TheVariants.{Declarer, Left, Dummy, Right}
 use Rattle.card_sets.specs.Cards.{suit_of, same_suit}
 use Rattle.card_sets.specs.SetWords.{has_card, cards_where, IsCardSet, IsSubset, IsLast}
-use Rattle.card_sets.proofs.Sets.{has_card-filter, has_card-below, has_card-cards_where, cards_where-agree, IsCardSet-filter, IsCardSet-cards_where, IsSubset-filter, filter-none}
+use Rattle.card_sets.proofs.Sets.{has_card-filter, has_card-below, has_card-cards_where, IsCardSet-filter, IsSubset-filter}
 use Rattle.card_sets.proofs.SetCounts.{length-IsSubset, length-le_52}
-use Rattle.card_sets.proofs.Suits.{same_suit-true, same_suit-refl}
+use Rattle.card_sets.proofs.Suits.{same_suit-true}
 use Rattle.trick_rules.specs.declared.trump.Trump.{Trump}
 use Rattle.trick_rules.specs.declared.trump.Trump.TheVariants.{NoTrump, Suit as Suited}
 use Rattle.trick_rules.specs.Positions.{PositionValue, State, seat_after, to_play, tricks_left, IsState}
 use Rattle.trick_rules.specs.Play.{of_suit, take_out, hand_of, is_declarers, is_trump}
 use Rattle.trick_rules.proofs.CardLists.{cards_from_list_all, list_all-from_cards}
-use Rattle.sure_tricks.specs.Sure.{above, top_count, high_count, AreHigh, AreSafe, AreSure}
+use Rattle.sure_tricks.specs.Sure.{top_count, high_count, AreHigh, AreSafe, AreSure}
 use Rattle.sure_tricks.specs.Headed.{HeadsSuitLed}
 use Rattle.sure_tricks.specs.declared.count.Counts.{Counts}
 use Rattle.sure_tricks.proofs.Hands.{Suffices, hand_set}
 use Rattle.sure_tricks.proofs.Holding.{suit_test}
-use Rattle.sure_tricks.proofs.Picking.{picked, in_suit, picked_high, by_suits}
+use Rattle.sure_tricks.proofs.Picking.{in_suit, picked_high, by_suits}
 use Rattle.sure_tricks.proofs.Headed.{only, safe_beyond}
 use Rattle.equivalent_positions.specs.Alike.{IsClosedUp, HasAnswer}
 use Rattle.equivalent_positions.proofs.RankWinners.{FirstCount}

@@ -1,5 +1,5 @@
 -- Stoppers found by looking at the hands, and what they answer where they count.
-use Rattle.std.proofs.Common.{◌≡◌, ◌≢◌, ◌⊎◌, ℕ, zero, suc, ◌+◌, ◌-◌, ◌*◌, ◌<◌, ◌≤◌, Bool, true, false, not, ◌&&◌, ◌||◌, max, eqb, nat_lt, Option, None, Some, List, [], ◌∷◌, length, filter, refl, sym, ap, ap₂, ◌∙◌, subst, inl, inr, arith}
+use Rattle.std.proofs.Common.{◌≡◌, ◌≢◌, ◌⊎◌, ℕ, zero, suc, ◌+◌, ◌<◌, ◌≤◌, Bool, true, false, not, ◌&&◌, ◌||◌, max, eqb, nat_lt, Option, None, Some, List, [], ◌∷◌, length, filter, refl, sym, ap, ap₂, ◌∙◌, subst, inl, inr, arith}
 use Rattle.std.specs.Prelude.{MatchOption, IfSome}
 use Rattle.std.proofs.lemmas.Bool.{and_parts, cases_Bool, cases_eq, ne_eqb, le-ltb, false≢true, eqb-true}
 use Rattle.card_sets.specs.declared.card.Suit.{Suit}
@@ -21,7 +21,7 @@ use Rattle.sure_tricks.proofs.Holding.{suit_test}
 use Rattle.sure_tricks.proofs.Stoppers.{card_had}
 use Rattle.equivalent_positions.specs.Alike.{IsClosedUp, HasAnswer}
 use Rattle.equivalent_positions.proofs.Stoppers.{our_failure_answers, their_failure_answers}
-use Rattle.dd_solver.specs.declared.hands.Hands.{Hands}
+use Rattle.sure_tricks.specs.declared.count.SeenHands.{SeenHands}
 use Rattle.dd_solver.specs.Closed.{up_from}
 use Rattle.dd_solver.specs.NeedsAll.{longer_of, rounds_in, IsHighestIn, AreHighest, CanKeep, DoOutlast}
 
@@ -144,7 +144,7 @@ covered_more cards counting rest later result card is fits within value covered 
 
 -- ---- what they answer
 
-module _ (s : State) (ok : IsState s) (x : Seat) (hands : Hands) (own : hands.own ≡ hand_of s x) (next : hands.next ≡ hand_of s (seat_after 1 x))
+module _ (s : State) (ok : IsState s) (x : Seat) (hands : SeenHands) (own : hands.own ≡ hand_of s x) (next : hands.next ≡ hand_of s (seat_after 1 x))
     (partner : hands.partner ≡ hand_of s (seat_after 2 x)) (last : hands.last ≡ hand_of s (seat_after 3 x)) (ours theirs all stoppers : List ℕ)
     (side : ours ≡ cards_where (λ c. has_card hands.own c || has_card hands.partner c)) (others : theirs ≡ cards_where (λ c. has_card hands.next c || has_card hands.last c))
     (held : IsSubset all theirs) (high : AreHighest all ours) (high' : AreHighest all theirs) (part : IsSubset stoppers all) (outlast : DoOutlast hands stoppers (tricks_left s.position)) where

@@ -1,5 +1,5 @@
 -- The hand that heads the suit led, the three others, and the sure cards that follow.
-use Rattle.std.specs.Prelude.{◌≡◌, ℕ, ◌+◌, ◌<◌, ◌≤◌, ◌||◌, Bool, true, false, List, [], ◌∷◌, if◌then◌else◌}
+use Rattle.std.specs.Prelude.{◌≡◌, ℕ, ◌+◌, ◌<◌, ◌≤◌, ◌||◌, Bool, true, List, [], ◌∷◌, if◌then◌else◌}
 use Rattle.card_sets.specs.declared.card.Suit.{Suit}
 use Rattle.card_sets.specs.declared.seat.Seat.{Seat}
 use Rattle.card_sets.specs.Cards.{suit_of, same_suit}

@@ -6,7 +6,7 @@ use Rattle.card_sets.specs.Cards.{suit_of}
 use Rattle.card_sets.specs.SetWords.{has_card}
 use Rattle.trick_rules.specs.Play.{of_suit}
 use Rattle.sure_tricks.specs.Stoppers.{has_suit}
-use Rattle.dd_solver.specs.declared.hands.Hands.{Hands}
+use Rattle.sure_tricks.specs.declared.count.SeenHands.{SeenHands}
 
 -- the highest card of a suit in a set
 pub record IsHighestIn (set : List ℕ) (suit : Suit) (card : ℕ) : Type 0 where
@@ -25,19 +25,19 @@ longer_of own partner stoppers suit = if has_suit stoppers suit then 0
     else max (length (of_suit suit own)) (length (of_suit suit partner))
 
 -- and in all suits
-abbrev pub rounds_in : Hands → List ℕ → ℕ
+abbrev pub rounds_in : SeenHands → List ℕ → ℕ
 rounds_in hands stoppers = longer_of hands.own hands.partner stoppers Spades
     + longer_of hands.own hands.partner stoppers Hearts
     + longer_of hands.own hands.partner stoppers Diamonds
     + longer_of hands.own hands.partner stoppers Clubs
 
 -- this hand can keep its stoppers until the other suits are used up: it has two at most, or room for them
-abbrev pub CanKeep : Hands → List ℕ → ℕ → List ℕ → Type 0
+abbrev pub CanKeep : SeenHands → List ℕ → ℕ → List ℕ → Type 0
 CanKeep hands stoppers tricks hand = (length (filter (has_card stoppers) hand) ≤ 2)
     ⊎ (length (filter (has_card stoppers) hand) + rounds_in hands stoppers ≤ tricks)
 
 -- these stoppers are there when the other suits are used up: both opponents can keep theirs
-pub record DoOutlast (hands : Hands) (stoppers : List ℕ) (tricks : ℕ) : Type 0 where
+pub record DoOutlast (hands : SeenHands) (stoppers : List ℕ) (tricks : ℕ) : Type 0 where
   pub lasting : rounds_in hands stoppers < tricks
   pub next : CanKeep hands stoppers tricks hands.next
   pub last : CanKeep hands stoppers tricks hands.last

@@ -12,10 +12,9 @@ ghost use Rattle.dd_solver.specs.Headed.{AreHandsOf, HeadsTrick, IsFollowed, is_
 ghost use Rattle.dd_solver.specs.Answers.{IsAnswer};
 
 use crate::answer::{Answer, joined, up_from};
-use crate::hands::Hands;
 use crate::sure::{rank_winners, without};
 use card_sets::{Card, CardSet, Suit};
-use sure_tricks::Counts;
+use sure_tricks::{Counts, SeenHands};
 use trick_rules::{Position, Trump};
 
 /// The hand of a seat that still has to play to the card led, and the three others.
@@ -158,7 +157,7 @@ impl FourHands {
         if all.total() < rest {
             return None;
         }
-        let seen = Hands {
+        let seen = SeenHands {
             own,
             next: self.third,
             partner: self.partner,

@@ -1,7 +1,8 @@
 //! Move ordering of leads: the honours of a suit, and who has them.
 
-use crate::hands::{Hands, has_two};
+use crate::hands::has_two;
 use card_sets::{CardSet, Suit};
+use sure_tricks::SeenHands;
 
 /// The highest cards of a suit that are in play, each as a set: empty if there are fewer.
 #[derive(Drop)]
@@ -49,7 +50,7 @@ pub(crate) enum Finesse {
 }
 
 impl Finesse {
-    pub(crate) fn of(hands: &Hands, honours: &Honours, suit: Suit) -> Finesse {
+    pub(crate) fn of(hands: &SeenHands, honours: &Honours, suit: Suit) -> Finesse {
         let last = hands.last.of_suit(suit);
         let partner = hands.partner.of_suit(suit);
         if holds(last, honours.best) || holds(last, honours.second) {
@@ -77,7 +78,7 @@ pub(crate) enum Lower {
 }
 
 impl Lower {
-    pub(crate) fn of(hands: &Hands, honours: &Honours, suit: Suit) -> Lower {
+    pub(crate) fn of(hands: &SeenHands, honours: &Honours, suit: Suit) -> Lower {
         let second = holds(hands.partner, honours.second);
         let third = holds(hands.partner, honours.third);
         if second && third {

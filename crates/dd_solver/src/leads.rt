@@ -3,10 +3,11 @@
 ghost use Rattle.std.specs.Prelude.{◌≡◌, ◌≤◌, true, [], MatchOption};
 ghost use Rattle.card_sets.specs.SetWords.{has_card};
 
-use crate::hands::{Hands, has_two};
+use crate::hands::{all_of, has_two};
 use crate::honours::{Finesse, Honours, holds};
 use crate::worths::Worths;
 use card_sets::{Card, CardSet, Suit};
+use sure_tricks::SeenHands;
 use trick_rules::{Position, Trump};
 
 /// What no two hands' choices weigh more than.
@@ -28,7 +29,7 @@ fn discards_of(hand: CardSet, suit: Suit) -> u16
 
 // How wide the opponents' choice of cards is in a suit: the cards that they may play to it, each
 // seven or, with trumps, ten.
-fn choices(hands: &Hands, trump: Trump, suit: Suit) -> u16
+fn choices(hands: &SeenHands, trump: Trump, suit: Suit) -> u16
     ensures { result ≤ 7650 }
 {
     let following = u16::from(hands.next.either(hands.last).of_suit(suit).count());
@@ -57,7 +58,7 @@ struct Ruffs {
 }
 
 impl Ruffs {
-    fn of(hands: &Hands, trump: Trump, suit: Suit) -> Ruffs {
+    fn of(hands: &SeenHands, trump: Trump, suit: Suit) -> Ruffs {
         Ruffs {
             opponents: can_ruff(hands.next, trump, suit) || can_ruff(hands.last, trump, suit),
             partner: can_ruff(hands.partner, trump, suit),
@@ -67,7 +68,7 @@ impl Ruffs {
 
 // The leads of a suit that win the trick for the side on lead. If partner has the best card or can
 // ruff, each lead may win, unless an opponent ruffs or the hand on lead has the best card.
-fn winners_of(hands: &Hands, ruffs: Ruffs, best: CardSet) -> CardSet {
+fn winners_of(hands: &SeenHands, ruffs: Ruffs, best: CardSet) -> CardSet {
     if ruffs.opponents {
         CardSet::empty()
     } else if holds(hands.own, best) {
@@ -81,7 +82,7 @@ fn winners_of(hands: &Hands, ruffs: Ruffs, best: CardSet) -> CardSet {
 
 // The card that is worth more than others of its suit though it may not win: of two touching
 // honours below the best card the higher, and with trumps the best card itself.
-fn honour_of(hands: &Hands, honours: &Honours, trump: Trump) -> CardSet {
+fn honour_of(hands: &SeenHands, honours: &Honours, trump: Trump) -> CardSet {
     if trump != Trump::NoTrump && holds(hands.own, honours.best) {
         honours.best
     } else if holds(hands.own, honours.second) && holds(hands.own, honours.third) {
@@ -106,7 +107,7 @@ struct SuitLeads {
 
 // What the places of a suit's cards add at no trump: less if partner can't follow suit or the last
 // hand has high cards, and more if the lead goes through the best card to partner's second best.
-fn no_trump_weight(hands: &Hands, honours: &Honours, suit: Suit) -> u16
+fn no_trump_weight(hands: &SeenHands, honours: &Honours, suit: Suit) -> u16
     ensures { result ≤ 50 }
 {
     let weight = if hands.partner.of_suit(suit).is_empty() {
@@ -122,7 +123,7 @@ fn no_trump_weight(hands: &Hands, honours: &Honours, suit: Suit) -> u16
 }
 
 // Whether a lead of this suit is a singleton, from a hand with trumps, to partner's best card.
-fn is_singleton_to_best(hands: &Hands, honours: &Honours, trumps: Suit, suit: Suit) -> bool {
+fn is_singleton_to_best(hands: &SeenHands, honours: &Honours, trumps: Suit, suit: Suit) -> bool {
     let partner = hands.partner.of_suit(suit);
     holds(partner, honours.best)
         && has_two(partner)
@@ -134,7 +135,7 @@ fn is_singleton_to_best(hands: &Hands, honours: &Honours, trumps: Suit, suit: Su
 // What they add with trumps: the same of high cards, less if an opponent can ruff, more if partner
 // can, and more for a singleton to partner's best card. If the opponents have no trumps, there are
 // none to draw.
-fn suit_weight(hands: &Hands, honours: &Honours, ruffs: Ruffs, trumps: Suit, suit: Suit) -> u16
+fn suit_weight(hands: &SeenHands, honours: &Honours, ruffs: Ruffs, trumps: Suit, suit: Suit) -> u16
     ensures { result ≤ 88 }
 {
     if trumps == suit && hands.next.either(hands.last).of_suit(trumps).is_empty() {
@@ -158,8 +159,8 @@ fn suit_weight(hands: &Hands, honours: &Honours, ruffs: Ruffs, trumps: Suit, sui
 }
 
 impl SuitLeads {
-    fn of(hands: &Hands, trump: Trump, suit: Suit) -> SuitLeads {
-        let honours = Honours::of(hands.all().of_suit(suit));
+    fn of(hands: &SeenHands, trump: Trump, suit: Suit) -> SuitLeads {
+        let honours = Honours::of(all_of(hands).of_suit(suit));
         let ruffs = Ruffs::of(hands, trump, suit);
         let places = match trump {
             Trump::NoTrump => no_trump_weight(hands, &honours, suit),
@@ -223,7 +224,7 @@ impl LeadWeights {
         leads: CardSet,
         best_leads: CardSet,
     ) -> LeadWeights {
-        let hands = Hands::of(position, left, position.to_play());
+        let hands = SeenHands::of(position, left, position.to_play());
         let mut weights = LeadWeights {
             leads,
             weights: [0; 13],

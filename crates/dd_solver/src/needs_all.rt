@@ -11,8 +11,8 @@ ghost use Rattle.dd_solver.specs.NeedsAll.{longer_of, rounds_in, IsHighestIn, Ar
 ghost use Rattle.dd_solver.specs.Answers.{IsAnswer};
 
 use crate::answer::{Answer, with_up};
-use crate::hands::Hands;
 use card_sets::{Card, CardSet, Suit};
+use sure_tricks::SeenHands;
 use trick_rules::{Position, Trump};
 
 // Whether the side on lead needs all the tricks, at no trump.
@@ -68,55 +68,52 @@ fn stoppers_of(ours: CardSet, theirs: CardSet) -> CardSet
     spades.either(hearts).either(diamonds.either(clubs))
 }
 
-impl Hands {
-    // How often the side can lead or follow to a suit that isn't stopped.
-    fn longer(&self, stoppers: CardSet, suit: Suit) -> u8
-        ensures value { result ≡ longer_of self.now.own self.now.partner stoppers suit }
-        ensures few { result ≤ 52 }
-    {
-        if !stoppers.of_suit(suit).is_empty() {
-            return 0;
-        }
-        let own = self.own.of_suit(suit).count();
-        let partner = self.partner.of_suit(suit).count();
-        own.max(partner)
+// How often the side can lead or follow to a suit that isn't stopped.
+fn longer(hands: &SeenHands, stoppers: CardSet, suit: Suit) -> u8
+    ensures value { result ≡ longer_of hands.now.own hands.now.partner stoppers suit }
+    ensures few { result ≤ 52 }
+{
+    if !stoppers.of_suit(suit).is_empty() {
+        return 0;
     }
-
-    // Whether the stoppers are still there when the suits that aren't stopped are used up.
-    fn do_outlast(&self, stoppers: CardSet, tricks: u8) -> bool
-        ensures { IsTrue result → DoOutlast self.now stoppers tricks }
-    {
-        let major = self.longer(stoppers, Suit::Spades) + self.longer(stoppers, Suit::Hearts);
-        let minor = self.longer(stoppers, Suit::Diamonds) + self.longer(stoppers, Suit::Clubs);
-        let rounds = major + minor;
-        if rounds >= tricks {
-            return false;
-        }
-        let next = self.next.both(stoppers).count();
-        let last = self.last.both(stoppers).count();
-        // A hand with two can keep the right one to the end.
-        next.max(last) <= 2.max(tricks - rounds)
-    }
-
-    // Of these stoppers, some that outlast the other suits too: fewer cards that count make an
-    // answer that holds for more positions.
-    fn fewest(&self, stoppers: CardSet, tricks: u8) -> CardSet
-        requires { DoOutlast self.now stoppers tricks }
-        ensures outlast { DoOutlast self.now result tricks }
-        ensures within { IsSubset result stoppers }
-    {
-        let mut kept = stoppers;
-        let mut rest = stoppers;
-        while let Some(card) = rest.pop_first() {
-            let fewer = kept.without(card);
-            if self.do_outlast(fewer, tricks) {
-                kept = fewer;
-            }
-        }
-        kept
-    }
+    let own = hands.own.of_suit(suit).count();
+    let partner = hands.partner.of_suit(suit).count();
+    own.max(partner)
 }
 
+// Whether the stoppers are still there when the suits that aren't stopped are used up.
+fn do_outlast(hands: &SeenHands, stoppers: CardSet, tricks: u8) -> bool
+    ensures { IsTrue result → DoOutlast hands.now stoppers tricks }
+{
+    let major = longer(hands, stoppers, Suit::Spades) + longer(hands, stoppers, Suit::Hearts);
+    let minor = longer(hands, stoppers, Suit::Diamonds) + longer(hands, stoppers, Suit::Clubs);
+    let rounds = major + minor;
+    if rounds >= tricks {
+        return false;
+    }
+    let next = hands.next.both(stoppers).count();
+    let last = hands.last.both(stoppers).count();
+    // A hand with two can keep the right one to the end.
+    next.max(last) <= 2.max(tricks - rounds)
+}
+
+// Of these stoppers, some that outlast the other suits too: fewer cards that count make an
+// answer that holds for more positions.
+fn fewest(hands: &SeenHands, stoppers: CardSet, tricks: u8) -> CardSet
+    requires { DoOutlast hands.now stoppers tricks }
+    ensures outlast { DoOutlast hands.now result tricks }
+    ensures within { IsSubset result stoppers }
+{
+    let mut kept = stoppers;
+    let mut rest = stoppers;
+    while let Some(card) = rest.pop_first() {
+        let fewer = kept.without(card);
+        if do_outlast(hands, fewer, tricks) {
+            kept = fewer;
+        }
+    }
+    kept
+}
 // The cards with all higher ones of their suits.
 fn with_higher(cards: CardSet) -> CardSet
     ensures closed { IsClosedUp result }
@@ -141,15 +138,15 @@ pub(crate) fn needs_all_answer(position: &Position, left: CardSet) -> Option<Ans
     if !needs_all(position) {
         return None;
     }
-    let hands = Hands::of(position, left, position.to_play());
+    let hands = SeenHands::of(position, left, position.to_play());
     let ours = hands.own.either(hands.partner);
     let stoppers = stoppers_of(ours, hands.next.either(hands.last));
     let tricks = position.tricks_left();
-    if stoppers.is_empty() || !hands.do_outlast(stoppers, tricks) {
+    if stoppers.is_empty() || !do_outlast(&hands, stoppers, tricks) {
         return None;
     }
     Some(Answer {
         made: !position.is_ours(),
-        counting: with_higher(hands.fewest(stoppers, tricks)),
+        counting: with_higher(fewest(&hands, stoppers, tricks)),
     })
 }

@@ -12,9 +12,9 @@ ghost use Rattle.dd_solver.specs.Sure.{AreWinnersIn, AreWinners};
 ghost use Rattle.dd_solver.specs.Answers.{IsAnswer};
 
 use crate::answer::{Answer, joined, up_from};
-use crate::hands::Hands;
+use crate::hands::{all_of, most_of_others};
 use card_sets::{CardSet, Suit};
-use sure_tricks::{Counts, can_lead_over, own_counts, partners_counts};
+use sure_tricks::{Counts, SeenHands, can_lead_over, own_counts, partners_counts};
 use trick_rules::{Position, Trump};
 
 // Whether this many tricks of the side on lead are enough for what it wants.
@@ -50,7 +50,7 @@ pub(crate) fn highest_of(hand: CardSet, suit: Suit, many: u8) -> CardSet
 
 // The rank winners of a suit among this many of a hand's highest cards, with all higher ones: once
 // no other hand has a card of the suit, the ranks of the rest don't matter.
-fn winners_in(hands: &Hands, suit: Suit, many: u8) -> CardSet
+fn winners_in(hands: &SeenHands, suit: Suit, many: u8) -> CardSet
     requires { IsCardSet hands.now.own }
     ensures closed { IsClosedUp result }
     ensures next { AreWinnersIn suit many hands.now.own hands.now.next result }
@@ -60,11 +60,11 @@ fn winners_in(hands: &Hands, suit: Suit, many: u8) -> CardSet
     if many == 0 {
         return CardSet::empty();
     }
-    highest_of(hands.own, suit, many.min(hands.most_of_others(suit)))
+    highest_of(hands.own, suit, many.min(most_of_others(hands, suit)))
 }
 
 // The rank winners of each suit, as many of the hand's highest cards as are counted.
-pub(crate) fn rank_winners(hands: &Hands, counts: &Counts) -> CardSet
+pub(crate) fn rank_winners(hands: &SeenHands, counts: &Counts) -> CardSet
     requires { IsCardSet hands.now.own }
     ensures closed { IsClosedUp result }
     ensures next { AreWinners counts.now hands.now.own hands.now.next result }
@@ -168,18 +168,18 @@ fn may_be_enough(position: &Position, left: CardSet) -> bool {
     if position.trump == Trump::NoTrump {
         return true;
     }
-    let hands = Hands::of(position, left, position.to_play());
-    let headed = suits_headed(hands.own, hands.all());
+    let hands = SeenHands::of(position, left, position.to_play());
+    let headed = suits_headed(hands.own, all_of(&hands));
     are_enough(position, hands.own.both(headed).count())
 }
 
 // Whether the hand on lead has a card of a suit of which its partner has the best card. If not, it
 // can't lead over to a sure card.
 fn may_lead_over(position: &Position, left: CardSet) -> bool {
-    let hands = Hands::of(position, left, position.to_play());
+    let hands = SeenHands::of(position, left, position.to_play());
     !hands
         .own
-        .is_disjoint(suits_headed(hands.partner, hands.all()))
+        .is_disjoint(suits_headed(hands.partner, all_of(&hands)))
 }
 
 // The answer if the sure cards of both hands of the side on lead settle it at no trump.
@@ -208,8 +208,11 @@ fn joint_answer(position: &Position, left: CardSet, own: &Counts) -> Option<Answ
         return None;
     }
     let seat = position.to_play();
-    let ours = rank_winners(&Hands::of(position, left, seat), own);
-    let theirs = rank_winners(&Hands::of(position, left, seat.next().next()), &partners);
+    let ours = rank_winners(&SeenHands::of(position, left, seat), own);
+    let theirs = rank_winners(
+        &SeenHands::of(position, left, seat.next().next()),
+        &partners,
+    );
     Some(Answer {
         made: position.is_ours(),
         counting: joined(ours, theirs),
@@ -229,7 +232,7 @@ pub(crate) fn sure_answer(position: &Position, left: CardSet) -> Option<Answer>
     let own = own_counts(position, left);
     if are_enough(position, own.total()) {
         let needed = needed_of(position, &own);
-        let hands = Hands::of(position, left, position.to_play());
+        let hands = SeenHands::of(position, left, position.to_play());
         return Some(Answer {
             made: position.is_ours(),
             counting: rank_winners(&hands, &needed),

@@ -1,9 +1,9 @@
 //! Move ordering of leads: what a lead is worth if it wins the trick, and if it doesn't.
 ghost use Rattle.std.specs.Prelude.{◌≤◌};
 
-use crate::hands::Hands;
 use crate::honours::{Honours, Lower, holds};
 use card_sets::Suit;
+use sure_tricks::SeenHands;
 use trick_rules::Trump;
 
 /// What leads of a suit are worth.
@@ -22,7 +22,7 @@ pub(crate) struct Worths {
 
 // With no trumps, a card that loses is worth more if the opponents have the best card, and more if
 // the side has the next two, most of all if partner has them.
-fn no_trump_worths(hands: &Hands, honours: &Honours, suit: Suit) -> Worths {
+fn no_trump_worths(hands: &SeenHands, honours: &Honours, suit: Suit) -> Worths {
     let lower = match Lower::of(hands, honours, suit) {
         Lower::Partners => 30,
         Lower::Split => 20,
@@ -43,7 +43,7 @@ fn no_trump_worths(hands: &Hands, honours: &Honours, suit: Suit) -> Worths {
 
 // With trumps, a suit is worth most if partner has the best card, and next if the hand on lead has
 // it, above all with partner's second best.
-fn suit_worths(hands: &Hands, honours: &Honours, suit: Suit) -> Worths {
+fn suit_worths(hands: &SeenHands, honours: &Honours, suit: Suit) -> Worths {
     let lower = match Lower::of(hands, honours, suit) {
         Lower::Partners => 8,
         Lower::Split => 25,
@@ -68,7 +68,7 @@ fn suit_worths(hands: &Hands, honours: &Honours, suit: Suit) -> Worths {
 }
 
 impl Worths {
-    pub(crate) fn of(hands: &Hands, honours: &Honours, trump: Trump, suit: Suit) -> Worths {
+    pub(crate) fn of(hands: &SeenHands, honours: &Honours, trump: Trump, suit: Suit) -> Worths {
         match trump {
             Trump::NoTrump => no_trump_worths(hands, honours, suit),
             Trump::Suit(_) => suit_worths(hands, honours, suit),

@@ -1,6 +1,5 @@
-use Rattle.std.proofs.Common.{sym, subst, ◌∙◌, ap}
-use Rattle.trick_rules.specs.Positions.{PositionValue, State, IsSound, IsState, to_play}
-use Rattle.trick_rules.specs.Play.{is_declarers}
+use Rattle.std.proofs.Common.{subst, ap}
+use Rattle.trick_rules.specs.Positions.{PositionValue, State, IsSound, IsState}
 use Rattle.dd_solver.specs.Headed.{HeadsTrick, IsFollowed}
 use Rattle.dd_solver.proofs.HeadingHand.{heading_answers, enough}
 use Rattle.dd_solver.proofs.headed.FourHands.answer.Goals as goal

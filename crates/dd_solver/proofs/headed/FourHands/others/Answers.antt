@@ -1,5 +1,5 @@
 use Rattle.std.proofs.Common.{◌||◌, ap, ◌∙◌}
-use Rattle.card_sets.specs.SetWords.{has_card, cards_where}
+use Rattle.card_sets.specs.SetWords.{has_card}
 use Rattle.card_sets.proofs.Sets.{has_card-cards_where, cards_where-agree}
 use Rattle.dd_solver.proofs.headed.FourHands.others.Goals as goal
 

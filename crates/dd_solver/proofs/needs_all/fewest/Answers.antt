@@ -1,7 +1,7 @@
 use Rattle.std.proofs.Common.{sym, ap, ◌∙◌}
 use Rattle.card_sets.specs.SetWords.{has_card}
 use Rattle.trick_rules.proofs.CardLists.{take_out-low}
-use Rattle.dd_solver.proofs.hands.Hands.fewest.Goals as goal
+use Rattle.dd_solver.proofs.needs_all.fewest.Goals as goal
 
 pub loop-card-init : goal.loop-card-init
 loop-card-init c = record { outlast = c.requires; within = λ card h. h }
