@@ -16,6 +16,7 @@ ghost use Rattle.pbn_deal.specs.Rows.{
 use crate::board::Played;
 use crate::course::Course;
 use crate::fault::{BoardFault, BoardRefusal};
+use crate::rotation::turned;
 use crate::section::Entry;
 use card_sets::{Card, CardSet, Seat};
 use std::alloc::Global;
@@ -53,13 +54,7 @@ fn split_row(entries: &[Entry]) -> ([Entry; 4], &[Entry])
 fn in_turn(first: Seat, leader: Seat, row: [Entry; 4]) -> [Entry; 4]
     ensures { result ≡ in_turn first leader row }
 {
-    let [a, b, c, d] = row;
-    match places_on(first, leader) {
-        0 => [a, b, c, d],
-        1 => [b, c, d, a],
-        2 => [c, d, a, b],
-        _ => [d, a, b, c],
-    }
+    turned(row, places_on(first, leader))
 }
 
 // The first entry that is a card.
