@@ -138,11 +138,23 @@ IsHandRead-shown seen now_seen hand word rest empty shown empty-is none reading 
 
 -- ---- hands one after another
 
-pub repeats-start : (seen cards : List ℕ) → seen ≡ [] → repeats seen cards ≡ has_repeat cards
-repeats-start seen cards none = ap (λ s. repeats s cards) none ∙ repeats-none cards
+-- no card is in two of the hands before these cards, and their cards are seen
+pub record AreDealt (before : List ℕ → List ℕ) (seen : List ℕ) : Type 0 where
+  rest : (cards : List ℕ) → has_repeat (before cards) ≡ repeats seen cards
 
-pub repeats-front : (seen cards rest : List ℕ) → repeats seen cards ≡ true → repeats seen (cards ++ rest) ≡ true
-repeats-front seen cards rest repeated = repeats-append seen (seen ++ cards) cards rest (with_cards seen cards) ∙ ap (λ b. b || repeats (seen ++ cards) rest) repeated
+pub none_dealt : {seen : List ℕ} → seen ≡ [] → AreDealt (λ cards. cards) seen
+none_dealt none = record { rest = λ cards. sym (ap (λ s. repeats s cards) none ∙ repeats-none cards) }
 
-pub repeats-rest : (seen more cards rest : List ℕ) → repeats seen cards ≡ false → Adds seen more cards → repeats seen (cards ++ rest) ≡ repeats more rest
-repeats-rest seen more cards rest new adds = repeats-append seen more cards rest adds ∙ ap (λ b. b || repeats more rest) new
+-- one hand more
+pub more_dealt : {before : List ℕ → List ℕ} {seen : List ℕ} (hand next : List ℕ) → AreDealt before seen → repeats seen hand ≡ false → Adds seen next hand → AreDealt (λ cards. before (hand ++ cards)) next
+more_dealt {seen = seen} hand next dealt new adds = record {
+  rest = λ cards. dealt.rest (hand ++ cards) ∙ repeats-append seen next hand cards adds ∙ ap (λ b. b || repeats next cards) new;
+}
+
+-- a hand that repeats a card
+pub hand_repeats : {before : List ℕ → List ℕ} {seen : List ℕ} (hand cards : List ℕ) → AreDealt before seen → repeats seen hand ≡ true → has_repeat (before (hand ++ cards)) ≡ true
+hand_repeats {seen = seen} hand cards dealt repeated =
+    dealt.rest (hand ++ cards) ∙ repeats-append seen (seen ++ hand) hand cards (with_cards seen hand) ∙ ap (λ b. b || repeats (seen ++ hand) cards) repeated
+
+pub all_dealt : {before : List ℕ → List ℕ} {seen : List ℕ} → AreDealt before seen → has_repeat (before []) ≡ false
+all_dealt dealt = dealt.rest []

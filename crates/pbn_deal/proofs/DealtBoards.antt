@@ -1,5 +1,5 @@
 -- A board that a sound deal gives is dealt well.
-use Rattle.std.proofs.Common.{◌≡◌, ℕ, ◌+◌, ◌≤◌, Bool, true, false, not, cond, List, Option, None, Some, length, refl, sym, ap, ap₂, ◌∙◌, arith}
+use Rattle.std.proofs.Common.{◌≡◌, ℕ, ◌+◌, ◌≤◌, Bool, true, false, not, cond, List, Option, None, Some, length, refl, ap, ap₂, ◌∙◌, arith}
 use Rattle.std.specs.Prelude.{filter, IfSome, ◌&&◌, ◌||◌, ◌==◌}
 use Rattle.std.proofs.lemmas.Bool.{eqb-true}
 use Rattle.card_sets.specs.declared.seat.Seat.{Seat}
@@ -7,7 +7,7 @@ use Rattle.card_sets.specs.declared.seat.Seat.TheVariants.{Left, Dummy, Right}
 use Rattle.card_sets.specs.declared.seat.Compass.{Compass}
 use Rattle.card_sets.specs.declared.seat.Compass.TheVariants.{N, E, S, W}
 use Rattle.card_sets.specs.SetWords.{has_card, cards_where, IsCardSet, IsSubset, Apart}
-use Rattle.card_sets.proofs.Sets.{has_card-cards_where, cards_where-agree, filter-cards_where, IsCardSet-cards_where, has_card-below, Apart-sym}
+use Rattle.card_sets.proofs.Sets.{has_card-cards_where, filter-cards_where, IsCardSet-cards_where, has_card-below, Apart-sym}
 use Rattle.bit_lists.specs.Bits.{below}
 use Rattle.trick_rules.specs.declared.trump.Trump.{Trump}
 use Rattle.card_sets.proofs.SetCounts.{length-minus, length-either}

@@ -1,5 +1,5 @@
 -- A board: the hands of declarer's side as they were dealt, and the play so far.
-use Rattle.std.specs.Prelude.{◌≡◌, ℕ, ◌*◌, ◌≤◌, Bool, true, Option, None, Some, List, [], ◌∷◌, ◌++◌, length, ◌==◌, if◌then◌else◌, IfSome}
+use Rattle.std.specs.Prelude.{◌≡◌, ℕ, ◌*◌, ◌≤◌, Bool, true, Option, None, Some, List, [], ◌∷◌, length, ◌==◌, if◌then◌else◌, IfSome}
 use Rattle.card_sets.specs.declared.seat.Seat.{Seat}
 use Rattle.card_sets.specs.declared.seat.Seat.TheVariants.{Declarer, Left, Dummy, Right}
 use Rattle.card_sets.specs.declared.seat.Compass.{Compass}

@@ -6,7 +6,7 @@ use Rattle.pbn_deal.specs.declared.fault.BoardFault.TheVariants.{PlayCard}
 use Rattle.pbn_deal.specs.declared.fault.BoardRefusal.{BoardRefusal}
 use Rattle.pbn_deal.specs.declared.fault.BoardRefusal.TheVariants.{Fault, Memory}
 use Rattle.pbn_deal.specs.declared.mark.Mark.{Mark}
-use Rattle.pbn_deal.specs.declared.mark.Mark.TheVariants.{End, Plus, Gap, Note, Card, Other}
+use Rattle.pbn_deal.specs.declared.mark.Mark.TheVariants.{End, Plus, Note, Card, Other}
 use Rattle.pbn_deal.specs.declared.section.Entry.{Entry}
 use Rattle.pbn_deal.specs.Marks.{mark_of}
 
