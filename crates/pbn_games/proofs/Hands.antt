@@ -1,6 +1,7 @@
 -- The cards that a seat has played, one play after another.
 use Rattle.std.proofs.Common.{◌≡◌, ◌==◌, ◌<◌, ◌+◌, ◌&&◌, ◌||◌, ℕ, Bool, true, false, List, [], ◌∷◌, ◌++◌, length, take, get_or, slice_get, Some, append_assoc, refl, sym, ap, ◌∙◌}
 use Rattle.std.specs.List.{list_any}
+use Rattle.std.proofs.Math.Bool.{or-false}
 use Rattle.std.proofs.lemmas.List.{take_more}
 use Rattle.std.proofs.lemmas.Option.{get_or_from_slice_get, slice_get_within}
 use Rattle.std.proofs.lemmas.List.Folds.{list_any-append}
@@ -12,30 +13,15 @@ use Rattle.trick_rules.specs.Positions.{seat_place}
 use Rattle.pbn_deal.specs.declared.board.Played.{Played}
 use Rattle.pbn_games.specs.GameText.{played_by}
 
-or_false : (b : Bool) → (b || false) ≡ b
-or_false true = refl
-or_false false = refl
-
 abbrev is_its : Seat → ℕ → Played → Bool
 is_its seat card play = (seat_place play.seat == seat_place seat) && (card == play.card)
 
 other_place : (a b : Seat) → (a ≡ b → ⊥) → (seat_place a == seat_place b) ≡ false
 other_place Declarer Declarer differ = absurd (differ refl)
-other_place Declarer Left differ = refl
-other_place Declarer Dummy differ = refl
-other_place Declarer Right differ = refl
-other_place Left Declarer differ = refl
 other_place Left Left differ = absurd (differ refl)
-other_place Left Dummy differ = refl
-other_place Left Right differ = refl
-other_place Dummy Declarer differ = refl
-other_place Dummy Left differ = refl
 other_place Dummy Dummy differ = absurd (differ refl)
-other_place Dummy Right differ = refl
-other_place Right Declarer differ = refl
-other_place Right Left differ = refl
-other_place Right Dummy differ = refl
 other_place Right Right differ = absurd (differ refl)
+other_place _ _ differ = refl
 
 same_place : (a b : Seat) → a ≡ b → (seat_place a == seat_place b) ≡ true
 same_place Declarer b same = ap (λ (s : Seat). 0 == seat_place s) (sym same)
@@ -48,7 +34,7 @@ module _ (plays : List Played) (seat : Seat) (i : ℕ) (play : Played) (low : i 
   one_more card =
       ap (list_any (is_its seat card)) (take_more plays i play low ∙ ap (λ x. take i plays ++ x ∷ []) (sym is))
       ∙ list_any-append (is_its seat card) (take i plays) (play ∷ [])
-      ∙ ap (λ b. list_any (is_its seat card) (take i plays) || b) (or_false (is_its seat card play))
+      ∙ ap (λ b. list_any (is_its seat card) (take i plays) || b) (or-false (is_its seat card play))
 
   pub its_card : (cards : List ℕ) → play.seat ≡ seat → cards ≡ played_by (take i plays) seat
       → cards_where (λ c. has_card cards c || (c == play.card)) ≡ played_by (take (i + 1) plays) seat
@@ -60,7 +46,7 @@ module _ (plays : List Played) (seat : Seat) (i : ℕ) (play : Played) (low : i 
   pub another_s_card : (cards : List ℕ) → (play.seat ≡ seat → ⊥) → cards ≡ played_by (take i plays) seat → cards ≡ played_by (take (i + 1) plays) seat
   another_s_card cards differ so_far =
       so_far ∙ cards_where-agree (λ c. list_any (is_its seat c) (take i plays)) (λ c. list_any (is_its seat c) (take (i + 1) plays)) (λ c below.
-      sym (or_false (list_any (is_its seat c) (take i plays)))
+      sym (or-false (list_any (is_its seat c) (take i plays)))
       ∙ ap (λ b. list_any (is_its seat c) (take i plays) || (b && (c == play.card))) (sym (other_place play.seat seat differ))
       ∙ sym (one_more c))
 

@@ -6,6 +6,7 @@ ghost use Rattle.pbn_games.specs.PlayRows.{by_columns as columns_of, winner_from
 use byte_text::Text;
 use card_letters::letters_of;
 use card_sets::{Card, Seat};
+use pbn_deal::turned;
 use std::alloc::AllocError;
 use trick_rules::{Trick, Trump, places_on, winner};
 
@@ -14,13 +15,7 @@ use trick_rules::{Trick, Trump, places_on, winner};
 fn by_columns(first: Seat, leader: Seat, trick: [Card; 4]) -> [Card; 4]
     ensures { result ≡ columns_of first leader trick }
 {
-    let [a, b, c, d] = trick;
-    match places_on(leader, first) {
-        0 => [a, b, c, d],
-        1 => [b, c, d, a],
-        2 => [c, d, a, b],
-        _ => [d, a, b, c],
-    }
+    turned(trick, places_on(leader, first))
 }
 
 // Appends a card and what comes after it.

@@ -1,4 +1,4 @@
-use Rattle.std.proofs.Common.{ap, arith}
+use Rattle.std.proofs.Common.{arith}
 use Rattle.pbn_games.proofs.LastRow.{next_trick, at_most_one}
 use Rattle.pbn_games.proofs.rows.tricks_won.Goals as goal
 
