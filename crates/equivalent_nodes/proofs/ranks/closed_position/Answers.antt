@@ -1,13 +1,13 @@
 use Rattle.std.proofs.Common.{sym, ap, subst, ◌∙◌}
 use Rattle.trick_rules.specs.Positions.{PositionValue, IsSound}
+use Rattle.trick_rules.proofs.Inside.{seen_as}
 use Rattle.equivalent_nodes.specs.Ranks.{with_gaps_closed_in}
 use Rattle.equivalent_nodes.proofs.Relative.{position_is}
 use Rattle.equivalent_nodes.proofs.ranks.closed_position.Goals as goal
 
 pub invariant_of-result : goal.invariant_of-result
 invariant_of-result c =
-    let p = c.position.inside in
-    let t : PositionValue = record { declarer = p.declarer; dummy = p.dummy; unseen = p.unseen; trick = p.trick; need = p.need; trump = p.trump } in
+    let t = seen_as c.position.inside in
     subst IsSound
     (sym (position_is t c.args.gaps c.with_gaps_closed.result c.with_gaps_closed-2.result c.with_gaps_closed-3.result c.copy.result
     c.with_gaps_closed.ensures c.with_gaps_closed-2.ensures c.with_gaps_closed-3.ensures c.copy.ensures))
@@ -15,8 +15,7 @@ invariant_of-result c =
 
 pub returns : goal.returns
 returns c =
-    let p = c.position.inside in
-    let t : PositionValue = record { declarer = p.declarer; dummy = p.dummy; unseen = p.unseen; trick = p.trick; need = p.need; trump = p.trump } in
+    let t = seen_as c.position.inside in
     position_is t c.args.gaps c.with_gaps_closed.result c.with_gaps_closed-2.result c.with_gaps_closed-3.result c.copy.result
     c.with_gaps_closed.ensures c.with_gaps_closed-2.ensures c.with_gaps_closed-3.ensures c.copy.ensures
     ∙ ap (λ (u : PositionValue). with_gaps_closed_in c.args.gaps u) c.position.view_is
