@@ -1,15 +1,15 @@
 -- A trick that is taken back by a card: the hands, and that the position before is sound.
-use Rattle.std.proofs.Common.{◌≡◌, ◌≢◌, ◌⊎◌, inl, inr, ℕ, zero, suc, ◌+◌, ◌*◌, ◌<◌, ◌≤◌, Bool, true, false, not, ◌&&◌, List, [], ◌∷◌, ◌++◌, length, get_or, All, AllPairs, refl, sym, ap, ap₂, ◌∙◌, subst, arith}
+use Rattle.std.proofs.Common.{◌≡◌, ◌≢◌, ◌⊎◌, inl, inr, ℕ, suc, ◌+◌, ◌<◌, ◌≤◌, Bool, true, false, not, ◌&&◌, List, [], ◌∷◌, ◌++◌, length, get_or, All, AllPairs, refl, sym, ap, ap₂, ◌∙◌, subst, arith, rules}
 use Rattle.std.specs.Prelude.{◌==◌, ◌||◌, if◌then◌else◌}
 use Rattle.std.proofs.lemmas.Bool.{false≢true, both_ways, cases_eq, eq-eqb, eqb-true, ne_eqb, or_cases, or_parts, false_from_ne_true}
 use Rattle.std.proofs.lemmas.List.{length_push, get_or_push, get_or_append_left}
 use Rattle.std.proofs.lemmas.List.Elements.{All-get_or, All-from_get_or}
-use Rattle.card_sets.specs.SetWords.{has_card, cards_where, IsCardSet, Apart}
+use Rattle.card_sets.specs.SetWords.{has_card, IsCardSet, Apart}
 use Rattle.card_sets.specs.declared.seat.Seat.{Seat}
 use Rattle.card_sets.specs.declared.seat.Seat.TheVariants.{Declarer, Left, Dummy, Right}
 use Rattle.card_sets.proofs.Sets.{has_card-cards_where, cards_where-agree, filter-cards_where, IsCardSet-cards_where, has_card-below, has_card-push}
 use Rattle.card_sets.proofs.SetCounts.{length-put_in, take_out-absent}
-use Rattle.trick_rules.specs.Positions.{PositionValue, seat_after, to_play, IsSound}
+use Rattle.trick_rules.specs.Positions.{PositionValue, seat_after, IsSound}
 use Rattle.trick_rules.specs.Play.{after_card, put_card, take_out, held_by, CanPlay}
 use Rattle.trick_rules.proofs.Soundness.{after_short}
 use Rattle.trick_rules.proofs.Turns.{count_in, same_seat, count_in-suc}
@@ -257,23 +257,7 @@ module _ (table : Table) (before : List ℕ) (card : ℕ) (within : card < 52)
 -- its parts make it sound
 pub sound_of-parts : (table : Table) (cards : List ℕ) → IsCardSet table.declarer → IsCardSet table.dummy → IsCardSet table.unseen → table.need ≤ 13 → length cards < 4 → All (λ c. c < 52) cards
     → AreHandsApart (position_of table cards) → HaveSizes (position_of table cards) → IsTrickApart (position_of table cards) → IsSound (position_of table cards)
-sound_of-parts table cards d m u need short low apart sizes trick = record {
-  declarer_set = d;
-  dummy_set = m;
-  unseen_set = u;
-  declarer_dummy = apart.declarer_dummy;
-  declarer_unseen = apart.declarer_unseen;
-  dummy_unseen = apart.dummy_unseen;
-  trick_declarer = trick.declarer;
-  trick_dummy = trick.dummy;
-  trick_unseen = trick.unseen;
-  trick_short = short;
-  trick_cards = low;
-  trick_differs = trick.differs;
-  need_fits = need;
-  dummy_count = sizes.dummy;
-  unseen_count = sizes.unseen;
-}
+sound_of-parts table cards d m u need short low apart sizes trick = search rules
 
 -- ---- the step of taking back
 

@@ -1,5 +1,5 @@
 -- What the numbers of a question say.
-use Rattle.std.specs.Prelude.{◌≡◌, ◌≤◌, ◌<◌, ◌^◌, ℕ, List, map, take, length, All}
+use Rattle.std.specs.Prelude.{◌≡◌, ◌≤◌, ℕ, List, map, take}
 use Rattle.bit_lists.specs.Bits.{has_bit}
 use Rattle.card_sets.specs.Cards.{suit_place}
 use Rattle.card_sets.specs.SetWords.{cards_where}

@@ -1,4 +1,3 @@
-use Rattle.std.proofs.Common.{◌≡◌, sym, ◌∙◌}
 use Rattle.trick_rules.specs.Positions.{PositionValue}
 use Rattle.bit_questions.specs.declared.question.Question.{Question}
 use Rattle.bit_questions.specs.declared.fault.QuestionFault.{QuestionFault}

@@ -2,7 +2,7 @@ use Rattle.std.proofs.Common.{◌≡◌, ◌++◌, ◌∷◌, [], true, false, r
 use Rattle.std.proofs.lemmas.Bool.{false≢true}
 use Rattle.trick_rules.specs.Positions.{IsSound}
 use Rattle.bit_questions.specs.Tables.{position_of}
-use Rattle.bit_questions.proofs.TakenBack.{free_of-sound, sound_of-later, can_play_back, after_back_is}
+use Rattle.bit_questions.proofs.TakenBack.{sound_of-later, can_play_back, after_back_is}
 use Rattle.bit_questions.proofs.table.Table.+position.Goals as goal
 
 pub play-requires : goal.play-requires
