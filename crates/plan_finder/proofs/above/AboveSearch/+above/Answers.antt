@@ -63,24 +63,18 @@ at_declarer-returns-in_err-union-clause-costs g t c =
     paid_memory ⊥ c.args.node.now (c.args.moves - 1) paid c.args.moves size c.from_residual-in_err-union.result c.from_residual-in_err-union.ensures.1
 
 pub at_declarer-cards-preserved : goal.at_declarer-cards-preserved
-at_declarer-cards-preserved g t c =
-    let taken = c.in-Some.ensures.taken in
-    let same = above_more g.met.S.FrontStore.grown_more c.cards.invariant.same c.in_ok-won.ensures.same in
-    record {
-      so = ours_above_more c.args.node.now (c.args.moves - 1) c.args.target.now c.cards.invariant.so taken c.in_ok-child.ensures.node c.in_ok-won.won c.union.new.self c.in_ok-won.ensures.above c.in_ok-union.ensures.ok c.in_ok-union.ensures.width;
-      paid = paid_more ⊥ c.args.node.now (c.args.moves - 1) c.cards.invariant.paid taken c.in_ok-child.ensures.node c.in_ok-won.won c.in_ok-won.ensures.costs;
-      same = record { store = same.store; budget = same.budget; nodes = same.nodes; grown = same.grown };
-    }
+at_declarer-cards-preserved g t c = record {
+  so = ours_above_more c.args.node.now (c.args.moves - 1) c.args.target.now c.cards.invariant.so c.in-Some.ensures.taken c.in_ok-child.ensures.node c.in_ok-won.won c.union.new.self c.in_ok-won.ensures.above c.in_ok-union.ensures.ok c.in_ok-union.ensures.width;
+  paid = paid_more ⊥ c.args.node.now (c.args.moves - 1) c.cards.invariant.paid c.in-Some.ensures.taken c.in_ok-child.ensures.node c.in_ok-won.won c.in_ok-won.ensures.costs;
+  same = (let same = above_more g.met.S.FrontStore.grown_more c.cards.invariant.same c.in_ok-won.ensures.same in record { store = same.store; budget = same.budget; nodes = same.nodes; grown = same.grown });
+}
 
 pub at_declarer-cards-preserved-else-is_complete : goal.at_declarer-cards-preserved-else-is_complete
-at_declarer-cards-preserved-else-is_complete g t c =
-    let taken = c.in-Some.ensures.taken in
-    let same = above_more g.met.S.FrontStore.grown_more c.cards.invariant.same c.in_ok-won.ensures.same in
-    record {
-      so = ours_above_more c.args.node.now (c.args.moves - 1) c.args.target.now c.cards.invariant.so taken c.in_ok-child.ensures.node c.in_ok-won.won c.union.new.self c.in_ok-won.ensures.above c.in_ok-union.ensures.ok c.in_ok-union.ensures.width;
-      paid = paid_more ⊥ c.args.node.now (c.args.moves - 1) c.cards.invariant.paid taken c.in_ok-child.ensures.node c.in_ok-won.won c.in_ok-won.ensures.costs;
-      same = record { store = same.store; budget = same.budget; nodes = same.nodes; grown = same.grown };
-    }
+at_declarer-cards-preserved-else-is_complete g t c = record {
+  so = ours_above_more c.args.node.now (c.args.moves - 1) c.args.target.now c.cards.invariant.so c.in-Some.ensures.taken c.in_ok-child.ensures.node c.in_ok-won.won c.union.new.self c.in_ok-won.ensures.above c.in_ok-union.ensures.ok c.in_ok-union.ensures.width;
+  paid = paid_more ⊥ c.args.node.now (c.args.moves - 1) c.cards.invariant.paid c.in-Some.ensures.taken c.in_ok-child.ensures.node c.in_ok-won.won c.in_ok-won.ensures.costs;
+  same = (let same = above_more g.met.S.FrontStore.grown_more c.cards.invariant.same c.in_ok-won.ensures.same in record { store = same.store; budget = same.budget; nodes = same.nodes; grown = same.grown });
+}
 
 pub at_declarer-returns-in_err-union-clause-same : goal.at_declarer-returns-in_err-union-clause-same
 at_declarer-returns-in_err-union-clause-same g t c = above_more g.met.S.FrontStore.grown_more c.cards.invariant.same c.in_ok-won.ensures.same
@@ -185,24 +179,18 @@ at_defender-returns-in_err-add-clause-costs g t c =
     paid_memory ⊥ c.args.node.now c.args.moves paid c.args.moves size c.from_residual-in_err-add.result c.from_residual-in_err-add.ensures.1
 
 pub at_defender-cards-preserved : goal.at_defender-cards-preserved
-at_defender-cards-preserved g t c =
-    let taken = taken_first _ _ _ c.in-Some.ensures.value in
-    let found = subst (λ (t : Vector). AreAbove c.in_ok-child.child c.args.moves t c.in_ok-won.won) c.restrict-part.ensures c.in_ok-won.ensures.above in
-    record {
-      so = theirs_above_more c.args.node.now c.args.moves c.args.target.now c.cards.invariant.so taken c.in_ok-child.ensures.node c.in_ok-child.mask c.in_ok-child.ensures.mask c.requires.width c.add.new.self c.in_ok-won.won c.width.ensures.a_node found c.in_ok-add.ensures.front c.in_ok-add.ensures.width c.in_ok-add.ensures.covered;
-      paid = paid_more ⊥ c.args.node.now c.args.moves c.cards.invariant.paid taken c.in_ok-child.ensures.node c.in_ok-won.won c.in_ok-won.ensures.costs;
-      same = above_more g.met.S.FrontStore.grown_more c.cards.invariant.same c.in_ok-won.ensures.same;
-    }
+at_defender-cards-preserved g t c = record {
+  so = theirs_above_more c.args.node.now c.args.moves c.args.target.now c.cards.invariant.so (taken_first _ _ _ c.in-Some.ensures.value) c.in_ok-child.ensures.node c.in_ok-child.mask c.in_ok-child.ensures.mask c.requires.width c.add.new.self c.in_ok-won.won c.width.ensures.a_node (subst (λ (t : Vector). AreAbove c.in_ok-child.child c.args.moves t c.in_ok-won.won) c.restrict-part.ensures c.in_ok-won.ensures.above) c.in_ok-add.ensures.front c.in_ok-add.ensures.width c.in_ok-add.ensures.covered;
+  paid = paid_more ⊥ c.args.node.now c.args.moves c.cards.invariant.paid (taken_first _ _ _ c.in-Some.ensures.value) c.in_ok-child.ensures.node c.in_ok-won.won c.in_ok-won.ensures.costs;
+  same = above_more g.met.S.FrontStore.grown_more c.cards.invariant.same c.in_ok-won.ensures.same;
+}
 
 pub at_defender-cards-preserved-in_ok-add : goal.at_defender-cards-preserved-in_ok-add
-at_defender-cards-preserved-in_ok-add g t c =
-    let taken = taken_first _ _ _ c.in-Some.ensures.value in
-    let found = subst (λ (t : Vector). AreAbove c.in_ok-child.child c.args.moves t c.in_ok-won.won) c.restrict-part.ensures c.in_ok-won.ensures.above in
-    record {
-      so = theirs_above_more c.args.node.now c.args.moves c.args.target.now c.cards.invariant.so taken c.in_ok-child.ensures.node c.in_ok-child.mask c.in_ok-child.ensures.mask c.requires.width c.add.new.self c.in_ok-won.won c.width.ensures.a_node found c.in_ok-add.ensures.front c.in_ok-add.ensures.width c.in_ok-add.ensures.covered;
-      paid = paid_more ⊥ c.args.node.now c.args.moves c.cards.invariant.paid taken c.in_ok-child.ensures.node c.in_ok-won.won c.in_ok-won.ensures.costs;
-      same = above_more g.met.S.FrontStore.grown_more c.cards.invariant.same c.in_ok-won.ensures.same;
-    }
+at_defender-cards-preserved-in_ok-add g t c = record {
+  so = theirs_above_more c.args.node.now c.args.moves c.args.target.now c.cards.invariant.so (taken_first _ _ _ c.in-Some.ensures.value) c.in_ok-child.ensures.node c.in_ok-child.mask c.in_ok-child.ensures.mask c.requires.width c.add.new.self c.in_ok-won.won c.width.ensures.a_node (subst (λ (t : Vector). AreAbove c.in_ok-child.child c.args.moves t c.in_ok-won.won) c.restrict-part.ensures c.in_ok-won.ensures.above) c.in_ok-add.ensures.front c.in_ok-add.ensures.width c.in_ok-add.ensures.covered;
+  paid = paid_more ⊥ c.args.node.now c.args.moves c.cards.invariant.paid (taken_first _ _ _ c.in-Some.ensures.value) c.in_ok-child.ensures.node c.in_ok-won.won c.in_ok-won.ensures.costs;
+  same = above_more g.met.S.FrontStore.grown_more c.cards.invariant.same c.in_ok-won.ensures.same;
+}
 
 pub at_defender-returns-in_err-add-clause-same : goal.at_defender-returns-in_err-add-clause-same
 at_defender-returns-in_err-add-clause-same g t c = above_more g.met.S.FrontStore.grown_more c.cards.invariant.same c.in_ok-won.ensures.same
