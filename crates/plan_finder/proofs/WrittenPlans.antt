@@ -95,7 +95,7 @@ stands_grown n moves vector text more start end s = record {
 
 slot_grown : (text more : List ℕ) (slot : Option WrittenPlan) → SlotStands text slot → SlotStands (text ++ more) slot
 slot_grown text more None s = s
-slot_grown text more (Some w) s = stands_grown w.node w.moves w.vector text more w.start w.end s
+slot_grown text more (Some w) s = stands_grown w.key.node w.key.moves w.key.vector text more w.lines.start w.lines.end s
 
 pub all_grown : (text more : List ℕ) (slots : List (Option WrittenPlan)) → AllStand text slots → AllStand (text ++ more) slots
 all_grown text more slots all = All-weaker (SlotStands text) (SlotStands (text ++ more)) (slot_grown text more) slots all

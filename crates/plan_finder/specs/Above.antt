@@ -15,10 +15,3 @@ pub record AreAbove (n : NodeValue) (moves : ℕ) (target : Vector) (found : Fro
   pub front : IsFrontAt n moves whole
   pub part : IsPartAbove target whole.vectors found.vectors
   pub width : found.width ≡ length n.lefts
-
--- a node, a number of moves, a target, and the vectors that were found above it
-pub record KeptAboveValue : Type 0 where
-  pub node : NodeValue
-  pub moves : ℕ
-  pub target : Vector
-  pub front : FrontValue

@@ -39,7 +39,7 @@ pub record EndsWritten (n : NodeValue) (moves : ℕ) (vector : Vector) (text : L
 
 -- what is in a slot stands in the text
 abbrev pub SlotStands : List ℕ → Option WrittenPlan → Type 0
-SlotStands text slot = IfSome slot (λ w. StandsWritten w.node w.moves w.vector text w.start w.end)
+SlotStands text slot = IfSome slot (λ w. StandsWritten w.key.node w.key.moves w.key.vector text w.lines.start w.lines.end)
 
 abbrev pub AllStand : List ℕ → List (Option WrittenPlan) → Type 0
 AllStand text slots = All (SlotStands text) slots

@@ -7,10 +7,12 @@ mod above;
 mod choice;
 mod digest;
 mod finder;
+mod kept_above;
 mod memo;
 mod plan_lines;
 mod rules;
 mod searches;
+mod vector_at;
 mod writer;
 mod written;
 

@@ -1,12 +1,13 @@
 //! What searches above targets have found already.
-ghost use Rattle.std.specs.Prelude.{◌≡◌, IsTrue, IfOk, IfSome};
+ghost use Rattle.std.specs.Prelude.{IfOk, IfSome};
 ghost use Rattle.plan_finder.specs.Above.{AreAbove};
 
 use crate::above::VectorsAbove;
 use crate::digest::digest;
+use crate::kept_above::KeptAbove;
+use crate::vector_at::VectorAt;
 use pareto_fronts::Front;
 use std::alloc::{AllocError, Global};
-use std::marker::Model;
 use trick_rules::Node;
 use win_vectors::WinVector;
 
@@ -17,58 +18,6 @@ const MOST_SLOTS: usize = 65_536;
 
 /// The most vectors of a find that is kept.
 const MOST_KEPT_VECTORS: usize = 256;
-
-/// A node, a number of moves, a target, and the vectors of the node's front that dominate it.
-#[derive(Drop)]
-pub struct KeptAbove {
-    node: Node,
-    moves: u8,
-    target: WinVector,
-    front: Front,
-}
-
-impl Model for KeptAbove {
-    ghost use Rattle.plan_finder.specs.Above.{KeptAboveValue, AreAbove};
-
-    ghost Value = { KeptAboveValue };
-
-    ghost view = { λ kept. record {
-      node = kept.node;
-      moves = kept.moves;
-      target = kept.target;
-      front = kept.front;
-    } };
-
-    ghost invariant = { λ kept. AreAbove kept.node kept.moves kept.target kept.front };
-}
-
-impl KeptAbove {
-    fn new(node: Node, moves: u8, target: WinVector, front: Front) -> KeptAbove
-        requires { AreAbove node moves target front }
-    {
-        KeptAbove {
-            node,
-            moves,
-            target,
-            front,
-        }
-    }
-
-    fn front(&self) -> &Front
-        ensures { AreAbove self.now.node self.now.moves self.now.target result.now }
-    {
-        &self.front
-    }
-
-    // Whether it is of this node, these moves and this target.
-    fn is_of(&self, node: &Node, moves: u8, target: &WinVector) -> bool
-        ensures node { IsTrue result → self.now.node ≡ node.now }
-        ensures moves { IsTrue result → self.now.moves ≡ moves }
-        ensures target { IsTrue result → self.now.target ≡ target.now }
-    {
-        self.moves == moves && self.target.equals(*target) && self.node.equals(node)
-    }
-}
 
 /// What searches above targets have found, each in a slot that depends on its node, its moves and
 /// its target.
@@ -108,7 +57,7 @@ impl AboveMemo {
         }
         let place = (digest(node, moves, target) % self.slots.len() as u64) as usize;
         match &self.slots[place] {
-            Some(kept) if kept.is_of(node, moves, target) => kept.front().copy().ok(),
+            Some(kept) if kept.key().is_of(node, moves, target) => kept.front().copy().ok(),
             _ => None,
         }
     }
@@ -139,7 +88,12 @@ impl AboveMemo {
             return Ok(());
         }
         self.make_slots()?;
-        let kept = KeptAbove::new(node.copy(self.alloc)?, moves, *target, found.copy()?);
+        let key = VectorAt {
+            node: node.copy(self.alloc)?,
+            moves,
+            vector: *target,
+        };
+        let kept = KeptAbove::new(key, found.copy()?);
         if !self.slots.is_empty() {
             let place = digest(node, moves, target) % self.slots.len() as u64;
             self.slots[place as usize] = Some(kept);

@@ -16,9 +16,11 @@ ghost use Rattle.plan_finder.specs.Written.{IsPlanWritten, StandsWritten, EndsWr
 
 use crate::digest::digest;
 use crate::memo::AboveMemo;
+use crate::vector_at::VectorAt;
 use std::alloc::{AllocError, Global};
 use std::marker::Model;
 use std::mem;
+use std::ops::Range;
 use trick_rules::Node;
 use win_vectors::WinVector;
 
@@ -33,26 +35,12 @@ const MOST_NARROW: usize = 200;
 /// How many bytes a short text has at most.
 const SHORT: usize = 65_536;
 
-/// A node, a number of moves, a vector, and the places at which the lines of the plan that is
-/// chosen for it begin and end.
+/// The places between which the lines of the plan that is chosen for a vector stand, kept under that
+/// vector.
 #[derive(Drop)]
 struct WrittenPlan {
-    node: Node,
-    moves: u8,
-    vector: WinVector,
-    start: usize,
-    end: usize,
-}
-
-impl WrittenPlan {
-    // Whether it is of this node, these moves and this vector.
-    fn is_of(&self, node: &Node, moves: u8, vector: &WinVector) -> bool
-        ensures node { IsTrue result → self.now.node ≡ node.now }
-        ensures moves { IsTrue result → self.now.moves ≡ moves }
-        ensures vector { IsTrue result → self.now.vector ≡ vector.now }
-    {
-        self.moves == moves && self.vector.equals(*vector) && self.node.equals(node)
-    }
+    key: VectorAt,
+    lines: Range<usize>,
 }
 
 /// Texts of plans, written one behind another. Parts that plans have in common are found once, and
@@ -165,16 +153,18 @@ impl PlanWriter {
     }
 
     // The place of the plan for a vector of a node with `moves` moves, if it is remembered.
-    fn place_of(&self, node: &Node, moves: u8, vector: &WinVector) -> Option<(usize, usize)>
+    fn place_of(&self, node: &Node, moves: u8, vector: &WinVector) -> Option<Range<usize>>
         ensures { IfSome result (λ range.
-            StandsWritten node.now moves vector.now self.now range.0 range.1) }
+            StandsWritten node.now moves vector.now self.now range.start range.end) }
     {
         if self.slots.is_empty() {
             return None;
         }
         let place = (digest(node, moves, vector) % self.slots.len() as u64) as usize;
         match &self.slots[place] {
-            Some(found) if found.is_of(node, moves, vector) => Some((found.start, found.end)),
+            Some(found) if found.key.is_of(node, moves, vector) => {
+                Some(found.lines.start..found.lines.end)
+            }
             _ => None,
         }
     }
@@ -190,10 +180,10 @@ impl PlanWriter {
             → IsPlanWritten node.now moves vector.now self.old self.new) }
         ensures unchanged { IfOk result (λ known. known ≡ false → self.new ≡ self.old) }
     {
-        let Some((start, end)) = self.place_of(node, moves, vector) else {
+        let Some(lines) = self.place_of(node, moves, vector) else {
             return Ok(false);
         };
-        self.text.extend_from_within(start..end)?;
+        self.text.extend_from_within(lines)?;
         Ok(true)
     }
 
@@ -223,12 +213,14 @@ impl PlanWriter {
         ensures { self.new ≡ self.old }
     {
         self.make_slots()?;
-        let written = WrittenPlan {
+        let key = VectorAt {
             node: node.copy(self.alloc)?,
             moves,
             vector: *vector,
-            start,
-            end: self.text.len(),
+        };
+        let written = WrittenPlan {
+            key,
+            lines: start..self.text.len(),
         };
         if !self.slots.is_empty() {
             let place = digest(node, moves, vector) % self.slots.len() as u64;
