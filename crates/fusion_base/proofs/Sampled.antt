@@ -2,6 +2,7 @@
 use Rattle.std.proofs.Common.{◌≡◌, ℕ, suc, ◌+◌, ◌-◌, ◌<◌, ◌≤◌, Bool, true, false, not, ◌&&◌, ◌||◌, ◌==◌, eqb, List, [], ◌∷◌, ◌++◌, map, filter, take, set, replicate, length, get_or, All, inl, inr, refl, sym, ap, subst, ◌∙◌, arith, append_assoc, append-nil, length-append}
 use Rattle.std.specs.List.{list_any}
 use Rattle.std.proofs.lemmas.List.{length-map, length-take, length-replicate, take_all, map_more, get_or-map}
+use Rattle.std.proofs.Math.Bool.{and-true, and-false}
 use Rattle.std.proofs.lemmas.Bool.{eq-eqb, eqb-true, ne_eqb, cases_eq, false_from_ne_true}
 use Rattle.card_sets.specs.SetWords.{has_card, cards_where, IsCardSet}
 use Rattle.card_sets.proofs.Sets.{has_card-cards_where, cards_where-agree, filter-cards_where, IsCardSet-cards_where, has_card-below, tail-after}
@@ -78,19 +79,11 @@ module _ (n : NodeValue) (left : List ℕ) where
       alone : has_card rest card ≡ false
       alone = false_from_ne_true (has_card rest card) (λ h. absurd (omega (arith, tail-after card rest (subst IsCardSet e set) card h)))
 
-      none : (a : Bool) → (a && false) ≡ false
-      none true = refl
-      none false = refl
-
-      all : (a : Bool) → (a && true) ≡ a
-      all true = refl
-      all false = refl
-
       gone : (c : ℕ) → ((has_card (choices n) c && (has_card (card ∷ rest) c || makes_after c)) && not (c == card)) ≡ (has_card (choices n) c && (has_card rest c || makes_after c))
       gone c =
           elim (cases_eq c card) as (λ _. ((has_card (choices n) c && (has_card (card ∷ rest) c || makes_after c)) && not (c == card)) ≡ (has_card (choices n) c && (has_card rest c || makes_after c))) [
-            | inl same ↦ rw (same, eq-eqb card card refl, alone, failed) (none (has_card (choices n) card && true) ∙ sym (none (has_card (choices n) card)))
-            | inr other ↦ rw (ne_eqb c card other, ne_eqb card c (λ f. other (sym f))) (all (has_card (choices n) c && (has_card rest c || makes_after c)))
+            | inl same ↦ rw (same, eq-eqb card card refl, alone, failed) (and-false (has_card (choices n) card && true) ∙ sym (and-false (has_card (choices n) card)))
+            | inr other ↦ rw (ne_eqb c card other, ne_eqb card c (λ f. other (sym f))) (and-true (has_card (choices n) c && (has_card rest c || makes_after c)))
           ]
 
   pub sifted-all : (rest : List ℕ) → rest ≡ [] → sifted rest ≡ cards_that_make n left
