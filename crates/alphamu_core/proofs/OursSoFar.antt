@@ -1,8 +1,7 @@
 -- The first of declarer's cards, and what they win.
-use Rattle.std.proofs.Common.{◌≡◌, ◌∙◌, ◌-◌, ◌<◌, ◌+◌, ◌*◌, ℕ, suc, true, false, Option, None, Some, IfSome, List, [], ◌∷◌, ◌++◌, length, Contains, sym, ap, subst}
+use Rattle.std.proofs.Common.{◌≡◌, ◌∙◌, ◌-◌, ℕ, suc, true, false, Option, None, Some, IfSome, List, [], ◌∷◌, ◌++◌, length, Contains, sym, ap, subst}
 use Rattle.win_vectors.specs.Fronts.{Vector, CoversAll, IsFrontOf}
 use Rattle.pareto_fronts.specs.FrontValue.{FrontValue}
-use Rattle.trick_rules.specs.Play.{cards_left}
 use Rattle.trick_rules.specs.Nodes.{NodeValue, IsNode, choices, child}
 use Rattle.strategy_games.specs.Plans.{stops, IsFront, IsBelow}
 use Rattle.strategy_games.specs.Joins.{WinsByCard}
@@ -21,7 +20,7 @@ use Rattle.alphamu_core.specs.Kept.{AreEnough, IsTaken}
 use Rattle.alphamu_core.proofs.Bounds.{upper_covers}
 use Rattle.alphamu_core.proofs.Standing.{enough_cards}
 use Rattle.alphamu_core.proofs.Trying.{IsTrying, trying_none, trying_more, trying_all}
-use Rattle.alphamu_core.proofs.OpenNodes.{some_moves, is_open, fewer_by_five, length-our_child}
+use Rattle.alphamu_core.proofs.OpenNodes.{some_moves, is_open, length-our_child}
 
 -- the cards that were tried, with so many moves after each, and the front of what they win
 pub record OursSoFar (n : NodeValue) (below : ℕ) (cards : List ℕ) (best : FrontValue) : Type 0 where
@@ -72,9 +71,6 @@ module _ (n : NodeValue) (below : ℕ) where
       ours_next = so.trying.rest card taken.among
 
       module _ {m : NodeValue} (is_child : m ≡ child n card) where
-        pub ours_fewer : IsNode n → 5 * cards_left m.position + 4 < 5 * cards_left n.position
-        ours_fewer sound = fewer_by_five n m card sound ours_next is_child
-
         pub ours_width : bridge.is_ours n ≡ true → best.width ≡ length m.lefts
         ours_width ours =
             so.width ∙ sym (ap (λ (m : NodeValue). length m.lefts) is_child ∙ length-our_child n card ours (has_card-from_Contains (choices n) card ours_next))

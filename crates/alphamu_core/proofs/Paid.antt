@@ -3,6 +3,7 @@ use Rattle.std.proofs.Common.{◌≡◌, ◌+◌, ◌≤◌, ℕ, List, [], Resu
 use Rattle.trick_rules.specs.Nodes.{NodeValue, choices, child}
 use Rattle.strategy_games.specs.Plans.{tree_size}
 use Rattle.strategy_tree.specs.Bridge.{bridge}
+use Rattle.strategy_tree.proofs.BridgeNodes.{tree_size-positive}
 use Rattle.alphamu_core.specs.declared.answers.SearchFault.{SearchFault}
 use Rattle.alphamu_core.specs.declared.answers.SearchFault.TheVariants.{Spent, Memory}
 use Rattle.alphamu_core.specs.Costs.{Costs}
@@ -26,6 +27,11 @@ costs_memory {T} Each whole before after result is low within = passed_on Each w
   never_rises = low;
   falls = within;
 })
+
+-- one that wants memory when the node itself was paid for, and nothing else
+pub costs_memory_first : {T : Type 0} (Each : Type 0) (n : NodeValue) (moves left now : ℕ) (result : Result T SearchFault) → IsErrAnd result (λ e. e ≡ Memory) → now ≡ left → Costs Each (tree_size bridge n moves) (left + 1) now result
+costs_memory_first Each n moves left now result is same =
+    let some = tree_size-positive n moves in costs_memory Each (tree_size bridge n moves) (left + 1) now result is (omega arith) (omega arith)
 
 -- a search that has its answer once the node itself was paid for
 pub costs_one : {T : Type 0} (Each : Type 0) (whole before after : ℕ) (found : T) → (Each → whole ≡ 1) → 1 ≤ whole → after + 1 ≡ before → Costs Each whole before after (Ok found)

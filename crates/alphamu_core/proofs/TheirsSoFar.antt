@@ -7,7 +7,6 @@ use Rattle.win_vectors.specs.Vectors.{ones_of, either_of, spread_of}
 use Rattle.win_vectors.specs.Fronts.{Vector, CoversAll, IsFrontOf, IsReduced, meets, spreads}
 use Rattle.pareto_fronts.specs.FrontValue.{FrontValue}
 use Rattle.front_join.specs.JoinerValue.{JoinerValue}
-use Rattle.trick_rules.specs.Play.{cards_left}
 use Rattle.trick_rules.specs.Nodes.{NodeValue, IsNode, states, choices, child, child_mask, is_legal}
 use Rattle.trick_rules.proofs.PlayLaws as play
 use Rattle.strategy_games.specs.Plans.{stops, IsFront, IsBelow}
@@ -19,7 +18,7 @@ use Rattle.strategy_tree.proofs.Rules.{going_on, settled}
 use Rattle.strategy_tree.proofs.BridgeLaws.{one_front, steps, cuts}
 use Rattle.strategy_tree.proofs.BridgeNodes.{mask-bridge, length-states, length-child_lefts}
 use Rattle.front_table.specs.Proven.{IsFrontAt}
-use Rattle.alphamu_core.proofs.OpenNodes.{some_moves, is_open, fewer_by_five}
+use Rattle.alphamu_core.proofs.OpenNodes.{some_moves, is_open}
 use Rattle.alphamu_core.specs.Kept.{AreEnough, IsTaken}
 use Rattle.alphamu_core.proofs.Standing.{StandForAll, enough_replies}
 use Rattle.alphamu_core.proofs.Trying.{IsTrying, trying_none, trying_more, trying_all}
@@ -125,9 +124,6 @@ module _ (n : NodeValue) (moves : ℕ) where
       theirs_next = so.trying.rest card taken.among
 
       module _ {m : NodeValue} (is_child : m ≡ child n card) where
-        pub theirs_fewer : IsNode n → 5 * cards_left m.position + 4 < 5 * cards_left n.position
-        theirs_fewer sound = fewer_by_five n m card sound theirs_next is_child
-
         pub theirs_width : (won : FrontValue) (bits : Vector) → bits ≡ child_mask n card → IsFrontAt m moves won → won.width ≡ ones_of bits
         theirs_width won bits is_mask found = found.width ∙ ap (λ (m : NodeValue). length m.lefts) is_child ∙ length-child_lefts n card ∙ ap ones_of (sym is_mask)
 

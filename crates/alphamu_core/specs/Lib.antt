@@ -7,3 +7,4 @@ pub mod CutDown
 pub mod Judging
 pub mod Kept
 pub mod TreeSearches
+pub mod Asked

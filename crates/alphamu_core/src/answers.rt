@@ -23,6 +23,9 @@ pub enum SearchFault {
     Memory,
 }
 
+/// What a search ends with.
+pub type Answer = Result<Found, SearchFault>;
+
 impl From<AllocError> for SearchFault {
     ghost use Rattle.std.specs.Prelude.{◌≡◌};
     ghost use Rattle.alphamu_core.specs.declared.answers.SearchFault.TheVariants.{Memory};

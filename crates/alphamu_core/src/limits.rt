@@ -10,12 +10,11 @@ ghost use Rattle.cut_rules.specs.declared.CutRules.{CutRules};
 ghost use Rattle.cut_rules.specs.Rules.{no_cuts};
 ghost use Rattle.equivalent_nodes.specs.Ranks.{AreEquivalent};
 ghost use Rattle.alphamu_core.specs.Findings.{IsAnswer};
-ghost use Rattle.alphamu_core.specs.Judging.{IsKnown};
+ghost use Rattle.alphamu_core.specs.Asked.{IsAsked};
 ghost use Rattle.alphamu_core.specs.Limits.{IsLimit, IsUnknown, IsUpperBound, IsUnionOf};
 ghost use Rattle.alphamu_core.specs.TreeSearches.{IsSameSearch};
 
 use crate::answers::Found;
-use crate::known::Known;
 use crate::results::{Question, results};
 use crate::tree_search::TreeSearch;
 use cut_rules::cut;
@@ -40,39 +39,27 @@ pub enum Limit {
 impl<S: FrontStore> TreeSearch<'_, S> {
     /// The answer from the store, under the node's key, or by an upper bound; or else the upper
     /// bound, if the rules ask for one.
-    pub fn limit(
-        &mut self,
-        node: &Node,
-        key: &Node,
-        moves: u8,
-        alpha: &Front,
-        known: Known,
-    ) -> Result<Limit, AllocError>
-        requires width { alpha.now.width ≡ length node.now.lefts }
-        requires known { IsKnown node.now known }
-        requires goes_on { stops bridge node.now moves ≡ false }
-        requires key { AreEquivalent node.now key.now }
-        ensures limit { IfOk result (IsLimit node.now moves alpha.now.vectors self.old.rules) }
+    pub fn limit(&mut self, question: &Question, key: &Node, moves: u8) -> Result<Limit, AllocError>
+        requires asked { IsAsked self.old.rules question.now }
+        requires goes_on { stops bridge question.now.node.now moves ≡ false }
+        requires key { AreEquivalent question.now.node.now key.now }
+        ensures limit { IfOk result (IsLimit question.now.node.now moves
+            question.now.alpha.now.vectors self.old.rules) }
         ensures unknown { self.old.rules ≡ no_cuts → S.blind ≡ true → IfOk result IsUnknown }
         ensures unpaid { self.new.budget.now.left ≡ self.old.budget.now.left }
         ensures same { IsSameSearch S.grown self.old self.new }
     {
+        let node = question.node;
         if let Some(front) = self.scratch.known(self.store, node, key, moves)? {
             return Ok(Limit::Settled(Found::Exact(front)));
         }
         if let Some(previous) = self.previous(node, key, moves)? {
-            return by_previous(self.alloc, node, moves, alpha, previous);
+            return by_previous(self.alloc, question, moves, previous);
         }
         if !self.rules.bound {
             return Ok(Limit::Open);
         }
-        let question = Question {
-            node,
-            known,
-            alpha,
-            rules: self.rules,
-        };
-        by_double_dummy(self.alloc, self.solver, &question, moves)
+        by_double_dummy(self.alloc, self.solver, question, moves)
     }
 
     // The front with a move less, if the rules use it and the store has it.
@@ -95,23 +82,22 @@ impl<S: FrontStore> TreeSearch<'_, S> {
 // some vector of that front.
 fn by_previous(
     alloc: Global,
-    node: &Node,
+    question: &Question,
     moves: u8,
-    alpha: &Front,
     previous: Front,
 ) -> Result<Limit, AllocError>
-    requires width { alpha.now.width ≡ length node.now.lefts }
-    requires goes_on { stops bridge node.now moves ≡ false }
-    requires previous { IsFrontAt node.now (moves - 1) previous }
-    requires a_node { IsNode node.now }
-    ensures { (rules : CutRules) → rules ≢ no_cuts
-        → IfOk result (IsLimit node.now moves alpha.now.vectors rules) }
+    requires width { question.now.alpha.now.width ≡ length question.now.node.now.lefts }
+    requires goes_on { stops bridge question.now.node.now moves ≡ false }
+    requires previous { IsFrontAt question.now.node.now (moves - 1) previous }
+    requires a_node { IsNode question.now.node.now }
+    ensures { (rules : CutRules) → rules ≢ no_cuts → IfOk result (IsLimit question.now.node.now
+        moves question.now.alpha.now.vectors rules) }
 {
-    if cut(&previous, alpha) {
+    if cut(&previous, question.alpha) {
         return Ok(Limit::Settled(Found::Below));
     }
     let made = union_of(&previous);
-    by_results(alloc, node, moves, made, previous)
+    by_results(alloc, question.node, moves, made, previous)
 }
 
 // The vector with a 1 at each layout at which some vector of the front has 1.
@@ -133,8 +119,7 @@ fn by_double_dummy(
     question: &Question,
     moves: u8,
 ) -> Result<Limit, AllocError>
-    requires width { question.now.alpha.now.width ≡ length question.now.node.now.lefts }
-    requires known { IsKnown question.now.node.now question.now.known }
+    requires asked { IsAsked question.now.rules question.now }
     requires goes_on { stops bridge question.now.node.now moves ≡ false }
     requires bound { question.now.rules.bound ≡ true }
     ensures { IfOk result (IsLimit question.now.node.now moves
@@ -168,22 +153,18 @@ fn by_results(
     Ok(Limit::Upper(made, upper))
 }
 
-/// Where plans stop: double dummy's results, or below.
-pub fn leaf(
-    alloc: Global,
-    solver: &mut Solver,
-    question: &Question,
-    moves: u8,
-) -> Result<Found, AllocError>
-    requires width { question.now.alpha.now.width ≡ length question.now.node.now.lefts }
-    requires known { IsKnown question.now.node.now question.now.known }
-    requires stopped { stops bridge question.now.node.now moves ≡ true }
-    ensures { IfOk result (IsAnswer question.now.node.now moves question.now.alpha.now.vectors
-        question.now.rules) }
-{
-    match results(solver, question) {
-        Some(made) => Ok(Found::Exact(single(alloc, made)?)),
-        None => Ok(Found::Below),
+impl Question<'_> {
+    /// Where plans stop: double dummy's results, or below.
+    pub fn leaf(&self, alloc: Global, solver: &mut Solver, moves: u8) -> Result<Found, AllocError>
+        requires asked { IsAsked self.now.rules self.now }
+        requires stopped { stops bridge self.now.node.now moves ≡ true }
+        ensures { IfOk result (IsAnswer self.now.node.now moves self.now.alpha.now.vectors
+            self.now.rules) }
+    {
+        match results(solver, self) {
+            Some(made) => Ok(Found::Exact(single(alloc, made)?)),
+            None => Ok(Found::Below),
+        }
     }
 }
 

@@ -12,8 +12,8 @@ use pareto_fronts::Front;
 use trick_rules::Node;
 use win_vectors::WinVector;
 
-/// What is asked of double dummy: the results at a node, if they aren't known already. If the rules
-/// allow a cut, they needn't be found if alpha dominates them.
+/// What is asked of a node: its front, and of double dummy the results there, if they aren't known
+/// already. If the rules allow a cut, neither need be found if alpha dominates it.
 #[derive(Drop)]
 pub struct Question<'a> {
     pub node: &'a Node,

@@ -4,15 +4,16 @@ ghost use Rattle.strategy_games.specs.Plans.{stops};
 ghost use Rattle.strategy_tree.specs.Bridge.{bridge};
 ghost use Rattle.cut_rules.specs.Rules.{no_cuts};
 ghost use Rattle.alphamu_core.specs.Findings.{IsAnswer, IsExactOfWidth};
+ghost use Rattle.alphamu_core.specs.Asked.{IsAsked, IsAnswerTo};
 ghost use Rattle.alphamu_core.specs.Judging.{IsKnown};
 ghost use Rattle.alphamu_core.specs.Limits.{IsLimit, IsUpperBound, IsUnited, IsReached};
 ghost use Rattle.alphamu_core.specs.TreeSearches.{IsSameSearch, Pays, PaysBelow};
 
-use crate::answers::{Found, SearchFault};
+use crate::answers::{Answer, Found};
 use crate::kept::{cards_to_try, take_highest};
 use crate::keys::store_key;
 use crate::known::Known;
-use crate::limits::{Limit, leaf};
+use crate::limits::Limit;
 use crate::offers::offer;
 use crate::part::{cut_down, fill};
 use crate::results::Question;
@@ -28,13 +29,7 @@ use win_vectors::WinVector;
 impl<S: FrontStore> TreeSearch<'_, S> {
     /// Enters a node, for which the budget pays, and answers for it.
     #[cycle(walk)]
-    pub fn visit(
-        &mut self,
-        node: Node,
-        moves: u8,
-        alpha: &Front,
-        known: Known,
-    ) -> Result<Found, SearchFault>
+    pub fn visit(&mut self, node: Node, moves: u8, alpha: &Front, known: Known) -> Answer
         requires width { alpha.now.width ≡ length node.lefts }
         requires known { IsKnown node known }
         ensures answer { IfOk result (IsAnswer node moves alpha.now.vectors self.old.rules) }
@@ -44,116 +39,101 @@ impl<S: FrontStore> TreeSearch<'_, S> {
         ensures same_budget { self.new.budget.ghost_name ≡ self.old.budget.ghost_name }
     {
         self.budget.enter()?;
+        let question = Question {
+            node: &node,
+            known,
+            alpha,
+            rules: self.rules,
+        };
         if node.stops(moves) {
-            let question = Question {
-                node: &node,
-                known,
-                alpha,
-                rules: self.rules,
-            };
-            Ok(leaf(self.alloc, self.solver, &question, moves)?)
+            Ok(question.leaf(self.alloc, self.solver, moves)?)
         } else {
-            self.open(node, moves, alpha, known)
+            self.open(&question, moves)
         }
     }
 
     // Answers for a node where play goes on, which is paid for.
     #[cycle(walk)]
-    fn open(
-        &mut self,
-        node: Node,
-        moves: u8,
-        alpha: &Front,
-        known: Known,
-    ) -> Result<Found, SearchFault>
-        requires width { alpha.now.width ≡ length node.lefts }
-        requires known { IsKnown node known }
-        requires goes_on { stops bridge node moves ≡ false }
-        ensures answer { IfOk result (IsAnswer node moves alpha.now.vectors self.old.rules) }
-        ensures costs { PaysBelow S.blind node moves self.old self.new result }
+    fn open(&mut self, question: &Question, moves: u8) -> Answer
+        requires asked { IsAsked self.old.rules question.now }
+        requires goes_on { stops bridge question.now.node.now moves ≡ false }
+        ensures answer { IfOk result (IsAnswerTo self.old.rules question.now moves) }
+        ensures costs { PaysBelow S.blind question.now.node.now moves self.old self.new result }
         ensures same { IsSameSearch S.grown self.old self.new }
     {
-        let key = store_key(self.alloc, &node, self.rules)?;
-        let answer = match self.limit(&node, &key, moves, alpha, known)? {
+        let key = store_key(self.alloc, question.node, self.rules)?;
+        let answer = match self.limit(question, &key, moves)? {
             Limit::Settled(found) => return Ok(found),
-            Limit::Upper(made, upper) => self.in_made(&node, moves, alpha, made, upper),
-            Limit::Open => self.by_cards(&node, moves, alpha, &None, Known::Nothing),
+            Limit::Upper(made, upper) => self.in_made(question, moves, made, upper),
+            Limit::Open => self.by_cards(question, moves, &None),
         };
-        offer(self.store, &node, key, moves, &answer);
+        offer(self.store, question.node, key, moves, &answer);
         answer
     }
 
     // Answers by the layouts that double dummy makes: no strategy wins another.
     #[cycle(walk)]
-    fn in_made(
-        &mut self,
-        node: &Node,
-        moves: u8,
-        alpha: &Front,
-        made: WinVector,
-        upper: Front,
-    ) -> Result<Found, SearchFault>
-        requires width { alpha.now.width ≡ length node.now.lefts }
-        requires goes_on { stops bridge node.now moves ≡ false }
-        requires limit { IsLimit node.now moves alpha.now.vectors self.old.rules
-            (Limit.Upper made upper) }
-        ensures answer { IfOk result (IsAnswer node.now moves alpha.now.vectors self.old.rules) }
-        ensures costs { PaysBelow S.blind node.now moves self.old self.new result }
+    fn in_made(&mut self, question: &Question, moves: u8, made: WinVector, upper: Front) -> Answer
+        requires asked { IsAsked self.old.rules question.now }
+        requires goes_on { stops bridge question.now.node.now moves ≡ false }
+        requires limit { IsLimit question.now.node.now moves question.now.alpha.now.vectors
+            self.old.rules (Limit.Upper made upper) }
+        ensures answer { IfOk result (IsAnswerTo self.old.rules question.now moves) }
+        ensures costs { PaysBelow S.blind question.now.node.now moves self.old self.new result }
         ensures same { IsSameSearch S.grown self.old self.new }
     {
-        let part = cut_down(self.alloc, node, moves, alpha, made, upper)?;
-        let found = self.by_cards(&part.node, moves, &part.alpha, &part.upper, Known::AllMade)?;
+        let part = cut_down(
+            self.alloc,
+            question.node,
+            moves,
+            question.alpha,
+            made,
+            upper,
+        )?;
+        let in_part = Question {
+            node: &part.node,
+            known: Known::AllMade,
+            alpha: &part.alpha,
+            rules: self.rules,
+        };
+        let found = self.by_cards(&in_part, moves, &part.upper)?;
         Ok(fill(self.alloc, found, made)?)
     }
 
-    // Answers by the fronts after the cards, where each layout is known to be made, or nothing is.
+    // Answers by the fronts after the cards.
     #[cycle(walk)]
-    fn by_cards(
-        &mut self,
-        node: &Node,
-        moves: u8,
-        alpha: &Front,
-        upper: &Option<Front>,
-        known: Known,
-    ) -> Result<Found, SearchFault>
-        requires width { alpha.now.width ≡ length node.now.lefts }
-        requires known { IsKnown node.now known }
-        requires goes_on { stops bridge node.now moves ≡ false }
-        requires upper { IfSome upper.now (IsUpperBound node.now moves) }
+    fn by_cards(&mut self, question: &Question, moves: u8, upper: &Option<Front>) -> Answer
+        requires asked { IsAsked self.old.rules question.now }
+        requires goes_on { stops bridge question.now.node.now moves ≡ false }
+        requires upper { IfSome upper.now (IsUpperBound question.now.node.now moves) }
         requires none { self.old.rules ≡ no_cuts → upper.now ≡ None }
-        ensures answer { IfOk result (IsAnswer node.now moves alpha.now.vectors self.old.rules) }
-        ensures costs { PaysBelow S.blind node.now moves self.old self.new result }
+        ensures answer { IfOk result (IsAnswerTo self.old.rules question.now moves) }
+        ensures costs { PaysBelow S.blind question.now.node.now moves self.old self.new result }
         ensures same { IsSameSearch S.grown self.old self.new }
     {
-        if node.is_ours() {
-            self.at_declarer(node, moves, alpha, upper)
+        if question.node.is_ours() {
+            self.at_declarer(question, moves, upper)
         } else {
-            self.at_defender(node, moves, alpha, known)
+            self.at_defender(question, moves)
         }
     }
 
     // The best of the fronts after each card of declarer's side, each with a move less, until they
     // cover the upper bound. The node itself is paid for.
     #[cycle(walk)]
-    fn at_declarer(
-        &mut self,
-        node: &Node,
-        moves: u8,
-        alpha: &Front,
-        upper: &Option<Front>,
-    ) -> Result<Found, SearchFault>
-        requires goes_on { stops bridge node.now moves ≡ false }
-        requires ours { bridge.is_ours node.now ≡ true }
-        requires upper { IfSome upper.now (IsUpperBound node.now moves) }
+    fn at_declarer(&mut self, question: &Question, moves: u8, upper: &Option<Front>) -> Answer
+        requires goes_on { stops bridge question.now.node.now moves ≡ false }
+        requires ours { bridge.is_ours question.now.node.now ≡ true }
+        requires upper { IfSome upper.now (IsUpperBound question.now.node.now moves) }
         requires none { self.old.rules ≡ no_cuts → upper.now ≡ None }
-        ensures answer { IfOk result (IsAnswer node.now moves alpha.now.vectors self.old.rules) }
-        ensures costs { PaysBelow S.blind node.now moves self.old self.new result }
+        ensures answer { IfOk result (IsAnswerTo self.old.rules question.now moves) }
+        ensures costs { PaysBelow S.blind question.now.node.now moves self.old self.new result }
         ensures same { IsSameSearch S.grown self.old self.new }
     {
-        let mut front = Front::new(self.alloc, node.width());
-        let mut cards = cards_to_try(node, self.rules);
+        let mut front = Front::new(self.alloc, question.node.width());
+        let mut cards = cards_to_try(question.node, self.rules);
         'cards: while let Some(card) = take_highest(&mut cards) {
-            let (child, _) = node.child(self.alloc, card)?;
+            let (child, _) = question.node.child(self.alloc, card)?;
             let found = self.visit(child, moves - 1, &front, Known::Nothing)?;
             unite(&mut front, &found)?;
             if is_reached(upper, &front) {
@@ -167,32 +147,25 @@ impl<S: FrontStore> TreeSearch<'_, S> {
     // A layout that is made is made still after the card.
     // The node itself is paid for.
     #[cycle(walk)]
-    fn at_defender(
-        &mut self,
-        node: &Node,
-        moves: u8,
-        alpha: &Front,
-        known: Known,
-    ) -> Result<Found, SearchFault>
-        requires width { alpha.now.width ≡ length node.now.lefts }
-        requires known { IsKnown node.now known }
-        requires goes_on { stops bridge node.now moves ≡ false }
-        requires theirs { bridge.is_ours node.now ≡ false }
-        ensures answer { IfOk result (IsAnswer node.now moves alpha.now.vectors self.old.rules) }
-        ensures costs { PaysBelow S.blind node.now moves self.old self.new result }
+    fn at_defender(&mut self, question: &Question, moves: u8) -> Answer
+        requires asked { IsAsked self.old.rules question.now }
+        requires goes_on { stops bridge question.now.node.now moves ≡ false }
+        requires theirs { bridge.is_ours question.now.node.now ≡ false }
+        ensures answer { IfOk result (IsAnswerTo self.old.rules question.now moves) }
+        ensures costs { PaysBelow S.blind question.now.node.now moves self.old self.new result }
         ensures same { IsSameSearch S.grown self.old self.new }
     {
-        let mut joiner = Joiner::new(self.alloc, node.width());
-        let mut cards = cards_to_try(node, self.rules);
+        let mut joiner = Joiner::new(self.alloc, question.node.width());
+        let mut cards = cards_to_try(question.node, self.rules);
         'cards: while let Some(card) = cards.pop_first() {
-            let (child, mask) = node.child(self.alloc, card)?;
+            let (child, mask) = question.node.child(self.alloc, card)?;
             let none = Front::new(self.alloc, child.width());
-            let won = match self.visit(child, moves, &none, known)? {
+            let won = match self.visit(child, moves, &none, question.known)? {
                 Found::Exact(won) => won,
                 Found::Below => unreachable!(),
             };
             joiner.add(&won, &mask)?;
-            if self.rules.early && cut(joiner.optimistic(), alpha) {
+            if self.rules.early && cut(joiner.optimistic(), question.alpha) {
                 return Ok(Found::Below);
             }
         }

@@ -12,24 +12,24 @@ abbrev pub decreases-visit : goal.decreases-visit
 decreases-visit g l = 5 * cards_left l.node.position + 4
 
 abbrev pub decreases-open : goal.decreases-open
-decreases-open g l = 5 * cards_left l.node.position + 3
+decreases-open g l = 5 * cards_left l.question.now.node.now.position + 3
 
 abbrev pub decreases-in_made : goal.decreases-in_made
-decreases-in_made g l = 5 * cards_left l.node.now.position + 2
+decreases-in_made g l = 5 * cards_left l.question.now.node.now.position + 2
 
 abbrev pub decreases-by_cards : goal.decreases-by_cards
-decreases-by_cards g l = 5 * cards_left l.node.now.position + 1
+decreases-by_cards g l = 5 * cards_left l.question.now.node.now.position + 1
 
 abbrev pub decreases-at_declarer : goal.decreases-at_declarer
-decreases-at_declarer g l = 5 * cards_left l.node.now.position
+decreases-at_declarer g l = 5 * cards_left l.question.now.node.now.position
 
 abbrev pub decreases-at_defender : goal.decreases-at_defender
-decreases-at_defender g l = 5 * cards_left l.node.now.position
+decreases-at_defender g l = 5 * cards_left l.question.now.node.now.position
 
 abbrev pub invariant-at_declarer-cards : goal.invariant-at_declarer-cards
 invariant-at_declarer-cards g l = record {
-  so : OursSoFar l.node (l.moves - 1) l.cards l.front;
-  paid : HasPaid (EntersEach l.fn.self.rules g.S.FrontStore.blind) l.node (l.moves - 1) l.cards l.fn.self.budget.now.left l.self.budget.now.left;
+  so : OursSoFar l.question.node.now (l.moves - 1) l.cards l.front;
+  paid : HasPaid (EntersEach l.fn.self.rules g.S.FrontStore.blind) l.question.node.now (l.moves - 1) l.cards l.fn.self.budget.now.left l.self.budget.now.left;
   same : IsSameSearch g.S.FrontStore.grown l.fn.self l.self;
 }
 
@@ -38,8 +38,8 @@ decreases-at_declarer-cards g l = length l.cards
 
 abbrev pub invariant-at_defender-cards : goal.invariant-at_defender-cards
 invariant-at_defender-cards g l = record {
-  so : TheirsSoFar l.node l.moves l.cards l.joiner;
-  paid : HasPaid (EntersEach l.fn.self.rules g.S.FrontStore.blind) l.node l.moves l.cards l.fn.self.budget.now.left l.self.budget.now.left;
+  so : TheirsSoFar l.question.node.now l.moves l.cards l.joiner;
+  paid : HasPaid (EntersEach l.fn.self.rules g.S.FrontStore.blind) l.question.node.now l.moves l.cards l.fn.self.budget.now.left l.self.budget.now.left;
   same : IsSameSearch g.S.FrontStore.grown l.fn.self l.self;
 }
 
