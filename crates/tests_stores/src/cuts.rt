@@ -136,28 +136,33 @@ fn over<S: FrontStore>(
     entered(rt, alloc, store, node, moves, Cuts { alpha, rules })
 }
 
+// Fails unless a search of the node after S2, with a move and each cut, enters this many nodes and
+// finds that alpha covers what is won. Alpha has the vectors with these bits.
+fn assert_below(
+    rt: &impl Abort,
+    alloc: Global,
+    alpha: &[[bool; 2]],
+    nodes: u64,
+) -> Result<(), Fail> {
+    let node = after(rt, alloc, &guess(rt, alloc)?, 0)?;
+    let alpha = front_of(rt, alloc, alpha)?;
+    let found = after_alpha(rt, alloc, &mut NoStore, &node, 1, &alpha);
+    assert_eq!(rt; found, (nodes, false));
+    Ok(())
+}
+
 // After S7 declarer wins one layout or the other, so that the two vectors of alpha cover what is
 // left: 1 + (1 + 2). Else SQ and SA are entered too.
 #[test]
 fn early_cut(rt: HostRuntime) -> Result<(), Fail> {
-    let alloc = rt.alloc();
-    let node = after(&rt, alloc, &guess(&rt, alloc)?, 0)?;
-    let alpha = front_of(&rt, alloc, &[[true, false], [false, true]])?;
-    let found = after_alpha(&rt, alloc, &mut NoStore, &node, 1, &alpha);
-    assert_eq!(rt; found, (4, false));
-    Ok(())
+    assert_below(&rt, rt.alloc(), &[[true, false], [false, true]], 4)
 }
 
 // Alpha wins both layouts, and double dummy can't win more. Else S7 and what follows it are entered
 // before the early cut.
 #[test]
 fn cut_by_double_dummy(rt: HostRuntime) -> Result<(), Fail> {
-    let alloc = rt.alloc();
-    let node = after(&rt, alloc, &guess(&rt, alloc)?, 0)?;
-    let alpha = front_of(&rt, alloc, &[[true, true]])?;
-    let found = after_alpha(&rt, alloc, &mut NoStore, &node, 1, &alpha);
-    assert_eq!(rt; found, (1, false));
-    Ok(())
+    assert_below(&rt, rt.alloc(), &[[true, true]], 1)
 }
 
 // With a move the node wins one layout or the other, which alpha covers. With two it can't win more,
@@ -228,30 +233,49 @@ fn a_card_that_reaches_the_bound(rt: HostRuntime) -> Result<(), Fail> {
     Ok(())
 }
 
+/// The node that a search begins at: the root where one trick is needed, or the node after S2.
+#[derive(Clone, Copy)]
+enum Start {
+    Root,
+    AfterTwo,
+}
+
+// Fails unless these searches, one after another over one store and with no cuts, enter this many
+// nodes. Each has its start and its moves.
+fn assert_over_one_store(
+    rt: &impl Abort,
+    alloc: Global,
+    searches: &[(Start, u8, u64)],
+) -> Result<(), Fail> {
+    let root = guess(rt, alloc)?;
+    let two = after(rt, alloc, &root, 0)?;
+    let mut store = LocalStore::new(alloc, 64);
+    for (start, moves, nodes) in searches {
+        let found = match start {
+            Start::Root => over(rt, alloc, &mut store, &root, *moves),
+            Start::AfterTwo => over(rt, alloc, &mut store, &two, *moves),
+        };
+        assert_eq!(rt; found, (*nodes, true));
+    }
+    Ok(())
+}
+
 // Of the 1 + 10 + 10 nodes below the root the store spares all but the first after S2.
 #[test]
 fn an_inner_node_is_looked_up(rt: HostRuntime) -> Result<(), Fail> {
-    let alloc = rt.alloc();
-    let node = guess(&rt, alloc)?;
-    let mut store = LocalStore::new(alloc, 64);
-    let two = after(&rt, alloc, &node, 0)?;
-    assert_eq!(rt; over(&rt, alloc, &mut NoStore, &node, 2), (21, true));
-    assert_eq!(rt; over(&rt, alloc, &mut store, &two, 1), (10, true));
-    assert_eq!(rt; over(&rt, alloc, &mut store, &node, 2), (12, true));
-    Ok(())
+    let searches = [(Start::AfterTwo, 1, 10), (Start::Root, 2, 12)];
+    assert_over_one_store(&rt, rt.alloc(), &searches)
 }
 
 // A search of the root leaves the front after S2 in the store, and its own.
 #[test]
 fn an_inner_node_is_put(rt: HostRuntime) -> Result<(), Fail> {
-    let alloc = rt.alloc();
-    let node = guess(&rt, alloc)?;
-    let mut store = LocalStore::new(alloc, 64);
-    assert_eq!(rt; over(&rt, alloc, &mut store, &node, 2), (21, true));
-    let two = after(&rt, alloc, &node, 0)?;
-    assert_eq!(rt; over(&rt, alloc, &mut store, &two, 1), (1, true));
-    assert_eq!(rt; over(&rt, alloc, &mut store, &node, 2), (1, true));
-    Ok(())
+    let searches = [
+        (Start::Root, 2, 21),
+        (Start::AfterTwo, 1, 1),
+        (Start::Root, 2, 1),
+    ];
+    assert_over_one_store(&rt, rt.alloc(), &searches)
 }
 
 // S4 in place of S5: the cards in play lie alike, so the store has the front already. Else the root
