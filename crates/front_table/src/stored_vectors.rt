@@ -33,21 +33,6 @@ fn narrowed(
     Ok(stored)
 }
 
-// Puts the vectors into an empty front.
-fn fill_narrow(vectors: &[NarrowVector], out: &mut Front)
-    requires width { HaveWidth out.old.width vectors.now }
-    requires reduced { IsReduced vectors.now vectors.now }
-    requires empty { out.old.vectors ≡ [] }
-    requires room { length vectors.now ≤ out.old.room }
-    ensures vectors { out.new.vectors ≡ vectors.now }
-    ensures width { out.new.width ≡ out.old.width }
-    ensures room { out.new.room ≡ out.old.room }
-{
-    for vector in vectors {
-        out.append(vector.widen());
-    }
-}
-
 /// Puts the vectors into an empty front that has room for them. They must be their own reduced
 /// list.
 pub fn fill_empty(vectors: &[WinVector], out: &mut Front)
@@ -87,7 +72,12 @@ impl StoredVectors {
     {
         out.clear();
         match self {
-            StoredVectors::Narrow(vectors) => fill_narrow(vectors.as_slice(), out),
+            StoredVectors::Narrow(narrow) => {
+                let vectors = narrow.as_slice();
+                for vector in vectors {
+                    out.append(vector.widen());
+                }
+            }
             StoredVectors::Wide(vectors) => fill_empty(vectors.as_slice(), out),
         }
     }

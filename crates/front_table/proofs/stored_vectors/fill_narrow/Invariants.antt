@@ -1,5 +1,0 @@
-use Rattle.front_table.proofs.Filling.{IsFilled}
-use Rattle.front_table.proofs.stored_vectors.fill_narrow.Given as goal
-
-abbrev pub invariant-loop-vector : goal.invariant-loop-vector
-invariant-loop-vector l = IsFilled l.vectors l.fn.out l.vector-index l.out
