@@ -16,9 +16,10 @@ use Rattle.strategy_tree.proofs.Winning.{wins-Stop, wins_each-Reply}
 use Rattle.strategy_check.specs.Following.{CanFollow, CanFollowEach, win_each}
 use Rattle.strategy_check.proofs.Followed.{followed_state, follow_Play, follow_Hear, follow_Reply, follow_later}
 use Rattle.told_plans.specs.Follows.{answer_to, rest_after}
+use Rattle.told_plans.proofs.Answered.{first_answer}
 use Rattle.told_layouts.specs.Places.{IsPlace, GivesUp, IsGivenUpAt}
 use Rattle.told_layouts.specs.Losing.{LosesWhatItGivesUp}
-use Rattle.told_layouts.proofs.Placed.{played, first_answer, all_answer, replied_once}
+use Rattle.told_layouts.proofs.Placed.{played, all_answer, replied_once}
 
 -- what a plan wins, double dummy makes
 made : (plan : Plan ℕ) (s : State) → CanFollow plan s → wins bridge plan s ≡ true → makes s ≡ true

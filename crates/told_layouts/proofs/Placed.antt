@@ -1,5 +1,5 @@
 -- The places of a step, and the tests of them.
-use Rattle.std.proofs.Common.{◌≡◌, ◌∙◌, ◌==◌, ◌&&◌, ◌||◌, ◌<◌, ℕ, Bool, true, cond, Some, None, List, [], ◌∷◌, refl, sym, ap, subst, inl, inr, true≢false, arith}
+use Rattle.std.proofs.Common.{◌≡◌, ◌∙◌, ◌&&◌, ◌||◌, ◌<◌, ℕ, Bool, true, cond, Some, None, List, [], ◌∷◌, refl, sym, ap, subst, inl, inr, true≢false, arith}
 use Rattle.std.proofs.lemmas.Bool.{cases_eq, cases_Bool, eq-eqb, ne_eqb, and_parts, and_from, or_left, or_right}
 use Rattle.card_sets.specs.SetWords.{has_card, IsCardSet}
 use Rattle.card_sets.proofs.Sets.{tail-after, IsCardSet-tail, IsCardSet-cards_where}
@@ -10,6 +10,7 @@ use Rattle.strategy_tree.specs.Bridge.{bridge}
 use Rattle.strategy_check.specs.Following.{CanFollow, CanFollowEach}
 use Rattle.strategy_check.proofs.Followed.{follow_Play, follow_Hear, follow_Reply, follow_later}
 use Rattle.told_plans.specs.Follows.{answer_to, rest_after}
+use Rattle.told_plans.proofs.Answered.{first_answer, later_answer, replied}
 use Rattle.told_layouts.specs.Places.{IsPlace, CanReach, IsWonFrom}
 use Rattle.told_layouts.specs.Looking.{somewhere, somewhere_below}
 
@@ -17,20 +18,6 @@ some_same : {A : Type 0} (x y : A) → Some x ≡ Some y → x ≡ y
 some_same x y h = cc
 
 -- ---- the answer to a card
-
-pub first_answer : (card : ℕ) (q : Plan ℕ) (later : Replies ℕ) → answer_to (Reply card q later) card ≡ Some q
-first_answer card q later = ap (λ (b : Bool). cond b (Some q) (answer_to later card)) (eq-eqb card card refl)
-
-later_answer : (c card : ℕ) (q : Plan ℕ) (later : Replies ℕ) → (c ≡ card → ⊥) → answer_to (Reply c q later) card ≡ answer_to later card
-later_answer c card q later other = ap (λ (b : Bool). cond b (Some q) (answer_to later card)) (ne_eqb c card other)
-
-replied : (rs : Replies ℕ) (card : ℕ) (q : Plan ℕ) → answer_to rs card ≡ Some q → has_card (cards_of rs) card ≡ true
-replied NoReply card q is = absurd cc
-replied (Reply c p later) card q is =
-    elim (cases_eq c card) [
-      | inl same ↦ ap (λ b. b || has_card (cards_of later) card) (eq-eqb c card same)
-      | inr other ↦ or_right (c == card) (has_card (cards_of later) card) (replied later card q (sym (later_answer c card p later other) ∙ is))
-    ]
 
 -- what a later reply answers, all of them do, since each card is replied to once
 pub all_answer : (c card : ℕ) (p q : Plan ℕ) (later : Replies ℕ) → IsCardSet (cards_of (Reply c p later)) → answer_to later card ≡ Some q → answer_to (Reply c p later) card ≡ Some q

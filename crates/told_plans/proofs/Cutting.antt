@@ -1,7 +1,7 @@
 -- A told plan cut down at its node is the plan.
-use Rattle.std.proofs.Common.{◌≡◌, ◌∙◌, ◌<◌, ◌==◌, ◌||◌, ℕ, zero, suc, Bool, true, false, cond, Option, Some, None, List, [], ◌∷◌, refl, sym, ap, ap₂, subst, inl, inr, arith}
+use Rattle.std.proofs.Common.{◌≡◌, ◌∙◌, ◌<◌, ◌||◌, ℕ, zero, suc, Bool, true, false, cond, Option, Some, None, List, [], ◌∷◌, refl, sym, ap, ap₂, subst, arith}
 use Rattle.std.specs.Prelude.{option_and_then}
-use Rattle.std.proofs.lemmas.Bool.{cases_eq, eq-eqb, ne_eqb, or_right}
+use Rattle.std.proofs.lemmas.Bool.{eq-eqb}
 use Rattle.std.specs.List.{list_any}
 use Rattle.card_sets.specs.SetWords.{has_card, IsCardSet}
 use Rattle.card_sets.proofs.Sets.{has_card-below, tail-after, IsCardSet-tail, IsCardSet-cards_where}
@@ -11,6 +11,7 @@ use Rattle.strategy_tree.specs.Bridge.{bridge}
 use Rattle.told_plans.specs.Follows.{Action, Stops, Plays, Waits, action, answer_to, does_after}
 use Rattle.told_plans.specs.Told.{Told, Branches, ToldStop, ToldPlay, ToldHear, NoBranch, Branch, Group, AreGroups, IsTold, AreTold}
 use Rattle.told_plans.specs.Cuts.{with_reply, replies_to, cut, cut_branch}
+use Rattle.told_plans.proofs.Answered.{first_answer, later_answer, replied}
 use Rattle.told_plans.proofs.Keeping.{IsWithin, within_trans, group_with, groups_keep}
 
 some_same : {A : Type 0} (x y : A) → Some x ≡ Some y → x ≡ y
@@ -78,29 +79,13 @@ told_with (Branch cards told branches) groups n card g h is =
 
 -- ---- the law
 
--- the first reply to a card is its answer, if the cards differ
-first_answer : (card : ℕ) (q : Plan ℕ) (rs : Replies ℕ) → answer_to (Reply card q rs) card ≡ Some q
-first_answer card q rs = ap (λ (b : Bool). cond b (Some q) (answer_to rs card)) (eq-eqb card card refl)
-
-later_answer : (c card : ℕ) (q : Plan ℕ) (rs : Replies ℕ) → (c ≡ card → ⊥) → answer_to (Reply c q rs) card ≡ answer_to rs card
-later_answer c card q rs other = ap (λ (b : Bool). cond b (Some q) (answer_to rs card)) (ne_eqb c card other)
-
--- the cards that have an answer
-among : (rs : Replies ℕ) (card : ℕ) (r : Plan ℕ) → answer_to rs card ≡ Some r → has_card (cards_of rs) card ≡ true
-among NoReply card r is = absurd cc
-among (Reply d x later) card r is =
-    elim (cases_eq d card) [
-      | inl same ↦ ap (λ b. b || has_card (cards_of later) card) (eq-eqb d card same)
-      | inr other ↦ or_right (d == card) (has_card (cards_of later) card) (among later card r (sym (later_answer d card x later other) ∙ is))
-    ]
-
 -- each reply is within the answer to its card
 abbrev AreWithin : Replies ℕ → Replies ℕ → Type 0
 AreWithin rs ps = (card : ℕ) (q : Plan ℕ) → answer_to rs card ≡ Some q → (p : Plan ℕ) × (answer_to ps card ≡ Some p) × IsWithin q p
 
 within_later : (c : ℕ) (q : Plan ℕ) (rs ps : Replies ℕ) → IsCardSet (cards_of (Reply c q rs)) → AreWithin (Reply c q rs) ps → AreWithin rs ps
 within_later c q rs ps a_set each card r is =
-    let past : c < card = tail-after c (cards_of rs) a_set card (among rs card r is) in
+    let past : c < card = tail-after c (cards_of rs) a_set card (replied rs card r is) in
     each card r (later_answer c card q rs (λ same. absurd (omega arith)) ∙ is)
 
 stop_cut : (told : Told) (p : Plan ℕ) (n : NodeValue) → p ≡ Stop → IsTold told p → cut told n ≡ Stop

@@ -5,4 +5,5 @@ pub mod Joining
 pub mod ToldMeanings
 pub mod Telling
 pub mod Keeping
+pub mod Answered
 pub mod Cutting

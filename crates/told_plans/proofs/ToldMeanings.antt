@@ -1,5 +1,5 @@
 -- The equations of `told_of`.
-use Rattle.std.proofs.Common.{◌≡◌, ℕ, suc, ◌+◌, ◌<◌, length, get_or, drop, drop-cons, arith, List, [], ◌∷◌, map, refl, sym, ap, ◌∙◌, Vec, Global, Box}
+use Rattle.std.proofs.Common.{◌≡◌, ℕ, suc, ◌+◌, ◌<◌, length, get_or, drop, drop-cons, arith, List, ◌∷◌, map, sym, ap, ◌∙◌, Vec, Global, Box}
 use Rattle.std.proofs.Math.Path.{fun_ext}
 use Rattle.told_plans.specs.Told as told
 use Rattle.told_plans.specs.ToldMeaning.{Telling, told_step, branch_step, branches_from, told_of, telling_of, branches_of}
