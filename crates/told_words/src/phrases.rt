@@ -90,22 +90,28 @@ pub const TURNS: [Turn; 16] = [
 pub fn push_seat(out: &mut Text, declarer: Compass, seat: Seat) -> Result<(), AllocError>
     ensures { OnOk result (out.new ≡ out.old ++ seat_name declarer seat) }
 {
+    out.push(seat_name(declarer, seat))
+}
+
+fn seat_name(declarer: Compass, seat: Seat) -> &'static [u8]
+    ensures { result.now ≡ seat_name declarer seat }
+{
     match seat {
-        Seat::Declarer => push_compass(out, declarer),
-        Seat::Left => push_compass(out, declarer.next()),
-        Seat::Dummy => push_compass(out, declarer.next().next()),
-        Seat::Right => push_compass(out, declarer.next().next().next()),
+        Seat::Declarer => compass_name(declarer),
+        Seat::Left => compass_name(declarer.next()),
+        Seat::Dummy => compass_name(declarer.next().next()),
+        Seat::Right => compass_name(declarer.next().next().next()),
     }
 }
 
-fn push_compass(out: &mut Text, place: Compass) -> Result<(), AllocError>
-    ensures { OnOk result (out.new ≡ out.old ++ compass_name place) }
+fn compass_name(place: Compass) -> &'static [u8]
+    ensures { result.now ≡ compass_name place }
 {
     match place {
-        Compass::N => out.push(b"North"),
-        Compass::E => out.push(b"East"),
-        Compass::S => out.push(b"South"),
-        Compass::W => out.push(b"West"),
+        Compass::N => b"North",
+        Compass::E => b"East",
+        Compass::S => b"South",
+        Compass::W => b"West",
     }
 }
 
@@ -129,25 +135,16 @@ fn push_cards(out: &mut Text, cards: CardSet) -> Result<(), AllocError>
     Ok(())
 }
 
-fn push_order(out: &mut Text, manner: Manner) -> Result<(), AllocError>
-    ensures { OnOk result (out.new ≡ out.old ++ order_word manner) }
+// The words for a manner: those of an order to declarer, and those of what a defender does.
+fn words(manner: Manner) -> (&'static [u8], &'static [u8])
+    ensures order { result.0.now ≡ order_word manner }
+    ensures verb { result.1.now ≡ verb manner }
 {
     match manner {
-        Manner::Lead => out.push(b"lead "),
-        Manner::Follow => out.push(b"play "),
-        Manner::Ruff => out.push(b"ruff with "),
-        Manner::Throw => out.push(b"throw "),
-    }
-}
-
-fn push_verb(out: &mut Text, manner: Manner) -> Result<(), AllocError>
-    ensures { OnOk result (out.new ≡ out.old ++ verb manner) }
-{
-    match manner {
-        Manner::Lead => out.push(b" leads "),
-        Manner::Follow => out.push(b" plays "),
-        Manner::Ruff => out.push(b" ruffs with "),
-        Manner::Throw => out.push(b" throws "),
+        Manner::Lead => (b"lead ", b" leads "),
+        Manner::Follow => (b"play ", b" plays "),
+        Manner::Ruff => (b"ruff with ", b" ruffs with "),
+        Manner::Throw => (b"throw ", b" throws "),
     }
 }
 
@@ -156,7 +153,8 @@ fn push_own(out: &mut Text, manner: Manner, cards: CardSet, from: &[u8]) -> Resu
     ensures { OnOk result
         (out.new ≡ out.old ++ (order_word manner ++ cards_text cards ++ from.now)) }
 {
-    push_order(out, manner)?;
+    let (order, _) = words(manner);
+    out.push(order)?;
     push_cards(out, cards)?;
     out.push(from)
 }
@@ -174,8 +172,9 @@ fn push_phrase(
         Seat::Declarer => push_own(out, turn.manner, cards, b" from hand"),
         Seat::Dummy => push_own(out, turn.manner, cards, b" from dummy"),
         Seat::Left | Seat::Right => {
+            let (_, verb) = words(turn.manner);
             push_seat(out, declarer, turn.seat)?;
-            push_verb(out, turn.manner)?;
+            out.push(verb)?;
             push_cards(out, cards)
         }
     }
