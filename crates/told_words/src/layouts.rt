@@ -5,6 +5,7 @@ ghost use Rattle.told_words.specs.Numbers.{has_layout, has_one, number_text, lay
 
 use byte_text::Text;
 use std::alloc::{AllocError, Global};
+use told_layouts::StepLayouts;
 use win_vectors::WinVector;
 
 // Whether the layout of this number, from 1, is one of these.
@@ -89,18 +90,13 @@ fn push_between(out: &mut Text, won: WinVector, lost: WinVector) -> Result<(), A
 }
 
 /// Appends in which layouts the contract is made from a step, and in which it fails.
-pub fn push_outcome(
-    out: &mut Text,
-    alloc: Global,
-    won: WinVector,
-    lost: WinVector,
-) -> Result<(), AllocError>
-    ensures { OnOk result (out.new ≡ out.old ++ outcome_text won lost) }
+pub fn push_outcome(out: &mut Text, alloc: Global, layouts: &StepLayouts) -> Result<(), AllocError>
+    ensures { OnOk result (out.new ≡ out.old ++ outcome_text layouts.now.won layouts.now.lost) }
 {
     out.push(b" (")?;
-    push_some(out, alloc, b"made in ", won)?;
-    push_between(out, won, lost)?;
-    push_some(out, alloc, b"fails in ", lost)?;
+    push_some(out, alloc, b"made in ", layouts.won)?;
+    push_between(out, layouts.won, layouts.lost)?;
+    push_some(out, alloc, b"fails in ", layouts.lost)?;
     out.push(b")")
 }
 

@@ -28,28 +28,6 @@ pub fn push_indent(out: &mut Text, depth: u8) -> Result<(), AllocError>
     Ok(())
 }
 
-/// Appends what comes before the next words of a line.
-pub fn push_before(out: &mut Text, line: Line) -> Result<(), AllocError>
-    ensures { OnOk result (out.new ≡ out.old ++ before line) }
-{
-    if line.begun {
-        out.push(b"; ")
-    } else {
-        out.push(b" ")
-    }
-}
-
-/// Appends the end of a line.
-pub fn push_line_end(out: &mut Text, line: Line) -> Result<(), AllocError>
-    ensures { OnOk result (out.new ≡ out.old ++ line_end line) }
-{
-    if line.begun {
-        out.push(b".\n")
-    } else {
-        out.push(b"\n")
-    }
-}
-
 /// Appends who won the trick, if it is known.
 pub fn push_winner(out: &mut Text, line: Line, winner: Option<Seat>) -> Result<(), AllocError>
     ensures { OnOk result (out.new ≡ out.old ++ winner_text line winner) }
@@ -57,12 +35,26 @@ pub fn push_winner(out: &mut Text, line: Line, winner: Option<Seat>) -> Result<(
     let Some(seat) = winner else {
         return Ok(());
     };
-    push_before(out, line)?;
+    out.push(line.before())?;
     push_seat(out, line.declarer, seat)?;
     out.push(b" wins the trick")
 }
 
 impl Line {
+    /// What comes before its next words.
+    pub fn before(self) -> &'static [u8]
+        ensures { result.now ≡ before self }
+    {
+        if self.begun { b"; " } else { b" " }
+    }
+
+    /// Its end.
+    pub fn end(self) -> &'static [u8]
+        ensures { result.now ≡ line_end self }
+    {
+        if self.begun { b".\n" } else { b"\n" }
+    }
+
     /// The line with words on it.
     pub fn going_on(self) -> Line
         ensures { result ≡ going_on self }

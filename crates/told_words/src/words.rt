@@ -8,7 +8,7 @@ ghost use Rattle.told_words.specs.Phrases.{end_text};
 ghost use Rattle.told_words.specs.Words.{before, line_end, winner_text, played_text, condition, front_end, steps_text, next_text, branch_lines, told_text};
 
 use crate::layouts::{push_given_up, push_outcome};
-use crate::lines::{Line, push_before, push_indent, push_line_end, push_winner};
+use crate::lines::{Line, push_indent, push_winner};
 use crate::phrases::{push_end, push_turn};
 use crate::steps::{Step, Strategy};
 use crate::turns::winner_at;
@@ -106,7 +106,7 @@ impl Writer {
             ++ front_end (layouts_of strategy.now) step.now) }
     {
         let layouts = self.layouts(strategy, step);
-        push_outcome(&mut self.text, self.alloc, layouts.won, layouts.lost)?;
+        push_outcome(&mut self.text, self.alloc, &layouts)?;
         self.push(b":")
     }
 
@@ -145,7 +145,7 @@ impl Writer {
         ensures { OnOk result (self.new ≡ self.old ++ (before line ++ end_text step.now.places
             ++ codes ".\n")) }
     {
-        push_before(&mut self.text, line)?;
+        self.push(line.before())?;
         push_end(&mut self.text, &step.places)?;
         self.push(b".\n")
     }
@@ -154,7 +154,7 @@ impl Writer {
     fn push_played(&mut self, line: Line, cards: CardSet, step: &Step) -> Result<(), AllocError>
         ensures { OnOk result (self.new ≡ self.old ++ played_text line cards step.now) }
     {
-        push_before(&mut self.text, line)?;
+        self.push(line.before())?;
         push_turn(&mut self.text, line.declarer, cards, &step.places)
     }
 
@@ -169,7 +169,7 @@ impl Writer {
     fn end_line(&mut self, line: Line) -> Result<(), AllocError>
         ensures { OnOk result (self.new ≡ self.old ++ line_end line) }
     {
-        push_line_end(&mut self.text, line)
+        self.push(line.end())
     }
 
     // Appends a card of declarer's side, what it gives up, and what follows.
