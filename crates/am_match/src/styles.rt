@@ -1,5 +1,5 @@
 //! Defenders that play by one rule.
-ghost use Rattle.std.specs.Prelude.{◌≡◌, ◌≤◌, ℕ, List, [], ◌∷◌, ◌++◌, Option, Some, true, MatchOption, IfOk, IfErr, slice_get};
+ghost use Rattle.std.specs.Prelude.{◌≡◌, ◌≢◌, ◌≤◌, ℕ, List, [], ◌∷◌, ◌++◌, Option, Some, true, IfOk, IfErr, slice_get};
 ghost use Rattle.card_sets.specs.SetWords.{has_card};
 
 use crate::defender::Defender;
@@ -87,10 +87,7 @@ impl Defender for HighCard {
     ghost heard = { λ high. Some high };
 
     fn choose(&mut self, position: &Position, hand: CardSet, _layout: u16) -> Card {
-        let Some(last) = last_of(legal(position, hand)) else {
-            unreachable!()
-        };
-        last
+        last_of(legal(position, hand))
     }
 
     fn saw(&mut self, card: Card) -> Result<(), AllocError> {
@@ -102,17 +99,21 @@ impl Defender for HighCard {
     }
 }
 
-// The last card of a set in card order.
-fn last_of(cards: CardSet) -> Option<Card>
-    ensures { MatchOption result (cards ≡ []) (λ last. (has_card cards last ≡ true)
-        × ((other : ℕ) → has_card cards other ≡ true → other ≤ last)) }
+// The last card in card order of a set that isn't empty.
+fn last_of(cards: CardSet) -> Card
+    requires { cards ≢ [] }
+    ensures held { has_card cards result ≡ true }
+    ensures last { (other : ℕ) → has_card cards other ≡ true → other ≤ result }
 {
     let mut rest = cards;
-    let mut last = rest.pop_first()?;
+    let Some(first) = rest.pop_first() else {
+        unreachable!()
+    };
+    let mut last = first;
     while let Some(card) = rest.pop_first() {
         last = card;
     }
-    Some(last)
+    last
 }
 
 // Puts a card at the end of a record, which is full at the 52 cards of a pack.
