@@ -108,32 +108,36 @@ seated_at_first first change valid = record {
   waiting_is = sym (all_to_come change valid);
 }
 
+-- before the card of a change that is still to come, by whether it is due
+still_to_come : (first table : List Sitter) (change : Change) (cards : List ℕ) (waiting : Option Change) → IsSeated first (Some change) cards table waiting
+    → nat_lt (length cards) change.at ≡ true → (d : Bool) → (change.at == suc (length cards)) ≡ d
+    → (table_for_next waiting cards table ≡ cond d (seat change.seat (tell cards change.who) (tell_table cards first)) (tell_table cards first))
+    × (left_waiting waiting (length cards) ≡ cond d None (Some change))
+still_to_come first table change cards waiting seated before d is_d =
+    let w : waiting ≡ Some change = seated.waiting_is ∙ ap (λ b. cond b (Some change) None) before in
+    let t : table ≡ tell_table cards first = seated.table_is ∙ ap (λ b. tell_table cards (cond b first (seat change.seat change.who first))) before in (
+      ap₂ (λ w t. table_for_next w cards t) w t
+          ∙ ap (λ b. cond b (seat change.seat (tell cards change.who) (tell_table cards first)) (tell_table cards first)) is_d,
+      ap (λ w. left_waiting w (length cards)) w ∙ ap (λ b. cond b None (Some change)) is_d,
+    )
+
 -- for a change at a card, by whether it is still to come, and whether it is due
 seated_by : (first table : List Sitter) (change : Change) (cards : List ℕ) (waiting : Option Change) → IsSeated first (Some change) cards table waiting
     → (b d : Bool) → nat_lt (length cards) change.at ≡ b → (change.at == suc (length cards)) ≡ d
     → IsSeatedNext first (Some change) cards (table_for_next waiting cards table) (left_waiting waiting (length cards))
 seated_by first table change cards waiting seated true true before due =
     let later : nat_lt (suc (length cards)) change.at ≡ false = le-ltb (suc (length cards)) change.at (omega (arith, eqb-true change.at (suc (length cards)) due)) in
-    let w : waiting ≡ Some change = seated.waiting_is ∙ ap (λ b. cond b (Some change) None) before in
-    let t : table ≡ tell_table cards first = seated.table_is ∙ ap (λ b. tell_table cards (cond b first (seat change.seat change.who first))) before in
+    let now = still_to_come first table change cards waiting seated before true due in
     record {
-      table_is =
-          ap₂ (λ w t. table_for_next w cards t) w t
-          ∙ ap (λ d. cond d (seat change.seat (tell cards change.who) (tell_table cards first)) (tell_table cards first)) due
-          ∙ seat-told cards change.seat change.who first
-          ∙ ap (λ b. tell_table cards (cond b first (seat change.seat change.who first))) (sym later);
-      waiting_is = ap (λ w. left_waiting w (length cards)) w ∙ ap (λ d. cond d None (Some change)) due ∙ ap (λ b. cond b (Some change) None) (sym later);
+      table_is = now.0 ∙ seat-told cards change.seat change.who first ∙ ap (λ b. tell_table cards (cond b first (seat change.seat change.who first))) (sym later);
+      waiting_is = now.1 ∙ ap (λ b. cond b (Some change) None) (sym later);
     }
 seated_by first table change cards waiting seated true false before not_due =
     let later : nat_lt (suc (length cards)) change.at ≡ true = lt-ltb (suc (length cards)) change.at (beyond (ltb-true (length cards) change.at before) (eqb-false change.at (suc (length cards)) not_due)) in
-    let w : waiting ≡ Some change = seated.waiting_is ∙ ap (λ b. cond b (Some change) None) before in
-    let t : table ≡ tell_table cards first = seated.table_is ∙ ap (λ b. tell_table cards (cond b first (seat change.seat change.who first))) before in
+    let now = still_to_come first table change cards waiting seated before false not_due in
     record {
-      table_is =
-          ap₂ (λ w t. table_for_next w cards t) w t
-          ∙ ap (λ d. cond d (seat change.seat (tell cards change.who) (tell_table cards first)) (tell_table cards first)) not_due
-          ∙ ap (λ b. tell_table cards (cond b first (seat change.seat change.who first))) (sym later);
-      waiting_is = ap (λ w. left_waiting w (length cards)) w ∙ ap (λ d. cond d None (Some change)) not_due ∙ ap (λ b. cond b (Some change) None) (sym later);
+      table_is = now.0 ∙ ap (λ b. tell_table cards (cond b first (seat change.seat change.who first))) (sym later);
+      waiting_is = now.1 ∙ ap (λ b. cond b (Some change) None) (sym later);
     }
   where
     beyond : length cards < change.at → (change.at ≡ suc (length cards) → ⊥) → suc (length cards) < change.at
