@@ -1,11 +1,9 @@
 -- A play-out that is under way.
-use Rattle.std.proofs.Common.{◌≡◌, ◌≤◌, ◌<◌, ◌==◌, ◌+◌, ◌||◌, ◌⊎◌, inl, inr, ℕ, suc, Bool, true, false, IfSome, List, [], ◌∷◌, ◌++◌, length, Option, Some, slice_get, option_map, refl, sym, ap, ap₂, ◌∙◌, subst, arith}
+use Rattle.std.proofs.Common.{◌≡◌, ◌≤◌, ◌<◌, ◌==◌, ◌+◌, ℕ, suc, true, false, IfSome, List, [], ◌∷◌, ◌++◌, length, Option, Some, slice_get, option_map, refl, sym, ap, ap₂, ◌∙◌, subst, arith}
 use Rattle.std.proofs.lemmas.List.{length_push}
 use Rattle.std.proofs.lemmas.Option.{slice_get-map}
-use Rattle.card_sets.specs.SetWords.{has_card, cards_where, IsCardSet, Apart}
-use Rattle.card_sets.proofs.Sets.{IsCardSet-cards_where, has_card-cards_where, has_card-below}
-use Rattle.card_sets.proofs.SetCounts.{length-le_52, length-either}
-use Rattle.trick_rules.specs.Positions.{PositionValue, State, IsSound}
+use Rattle.card_sets.specs.SetWords.{has_card}
+use Rattle.trick_rules.specs.Positions.{PositionValue, State}
 use Rattle.trick_rules.specs.Play.{legal_in, after, is_over, cards_left}
 use Rattle.trick_rules.specs.Nodes.{NodeValue, IsNode, states}
 use Rattle.trick_rules.proofs.PlayLaws as play
