@@ -1,4 +1,4 @@
-use Rattle.std.proofs.Common.{◌≡◌, ◌+◌, ◌-◌, ◌<◌, ◌∙◌, ◌∷◌, [], ℕ, suc, true, List, length, drop, replicate, Contains, sym, ap, ap₂, subst, arith}
+use Rattle.std.proofs.Common.{◌≡◌, ◌+◌, ◌-◌, ◌<◌, ◌≤◌, ◌∙◌, ◌∷◌, [], ℕ, suc, true, List, length, drop, replicate, Contains, sym, ap, ap₂, subst, arith}
 use Rattle.std.proofs.lemmas.List.{length-append}
 use Rattle.card_sets.specs.SetWords.{has_card}
 use Rattle.win_vectors.specs.Vectors.{ones_of}
@@ -11,6 +11,9 @@ use Rattle.log_check.specs.Logs.{cited_lines}
 use Rattle.log_check.specs.Steps.{CoverAlike}
 use Rattle.log_check.proofs.Joined.{placed_by, number_at, left_by, joined-next, joined-start, last_card}
 use Rattle.log_check.proofs.joining.joined_lines.Goals as goal
+
+lower : (place n : ℕ) → 0 < place → place ≤ n → place - 1 < n
+lower place n some within = omega arith
 
 pub numbers-init : goal.numbers-init
 numbers-init c =
@@ -26,22 +29,19 @@ numbers-init c =
 
 pub overflow_sub-cited : goal.overflow_sub-cited
 overflow_sub-cited c =
-    let low : c.numbers.place - 1 < length c.as_slice-numbers.result.now = omega (arith, c.numbers-test.true, c.numbers.invariant.within) in
-    (number_at c.args.lines.now c.args.line.now.from c.as_slice-numbers.result.now (c.numbers.place - 1) c.as_slice-numbers.ensures c.requires.cites.numbers low).0
+    (number_at c.args.lines.now c.args.line.now.from c.as_slice-numbers.result.now (c.numbers.place - 1) c.as_slice-numbers.ensures c.requires.cites.numbers (lower _ _ c.numbers-test.true c.numbers.invariant.within)).0
 
 pub bounds-lines-numbers : goal.bounds-lines-numbers
 bounds-lines-numbers c =
-    let low : c.numbers.place - 1 < length c.as_slice-numbers.result.now = omega (arith, c.numbers-test.true, c.numbers.invariant.within) in
-    let n = number_at c.args.lines.now c.args.line.now.from c.as_slice-numbers.result.now (c.numbers.place - 1) c.as_slice-numbers.ensures c.requires.cites.numbers low in
+    let n = number_at c.args.lines.now c.args.line.now.from c.as_slice-numbers.result.now (c.numbers.place - 1) c.as_slice-numbers.ensures c.requires.cites.numbers (lower _ _ c.numbers-test.true c.numbers.invariant.within) in
     let first = n.0 in
     let last = n.1 in
     omega arith
 
 pub get-requires : goal.get-requires
 get-requires c =
-    let low : c.numbers.place - 1 < length c.as_slice-numbers.result.now = omega (arith, c.numbers-test.true, c.numbers.invariant.within) in
     let at = placed_by c.args.line.now.path c.requires.behind.cards c.args.lines.now c.args.line.now.from c.as_slice-numbers.result.now (c.numbers.place - 1)
-    c.index-lines-numbers.result c.as_slice-numbers.ensures c.requires.cites.numbers low c.index-lines-numbers.is c.requires.behind.behind in
+    c.index-lines-numbers.result c.as_slice-numbers.ensures c.requires.cites.numbers (lower _ _ c.numbers-test.true c.numbers.invariant.within) c.index-lines-numbers.is c.requires.behind.behind in
     let long : length c.index-lines-numbers.result.path ≡ length c.args.line.now.path + 1
     = ap (λ (xs : List ℕ). length xs) at.path_is ∙ length-append c.args.line.now.path (at.card ∷ []) in
     let is = c.len.ensures.value in
@@ -49,9 +49,8 @@ get-requires c =
 
 pub child-requires : goal.child-requires
 child-requires c =
-    let low : c.numbers.place - 1 < length c.as_slice-numbers.result.now = omega (arith, c.numbers-test.true, c.numbers.invariant.within) in
     let at = placed_by c.args.line.now.path c.requires.behind.cards c.args.lines.now c.args.line.now.from c.as_slice-numbers.result.now (c.numbers.place - 1)
-    c.index-lines-numbers.result c.as_slice-numbers.ensures c.requires.cites.numbers low c.index-lines-numbers.is c.requires.behind.behind in
+    c.index-lines-numbers.result c.as_slice-numbers.ensures c.requires.cites.numbers (lower _ _ c.numbers-test.true c.numbers.invariant.within) c.index-lines-numbers.is c.requires.behind.behind in
     let card = last_card c.args.line.now.path c.index-lines-numbers.result.path at.card c.get.result c.len.result at.path_is c.len.ensures.value c.get.ensures in
     subst (λ x. has_card (choices c.args.node.now) x ≡ true) (sym card)
     (has_card-from_Contains (choices c.args.node.now) at.card
@@ -59,9 +58,8 @@ child-requires c =
 
 pub front_of-requires-clause-widths : goal.front_of-requires-clause-widths
 front_of-requires-clause-widths c =
-    let low : c.numbers.place - 1 < length c.as_slice-numbers.result.now = omega (arith, c.numbers-test.true, c.numbers.invariant.within) in
     let at = placed_by c.args.line.now.path c.requires.behind.cards c.args.lines.now c.args.line.now.from c.as_slice-numbers.result.now (c.numbers.place - 1)
-    c.index-lines-numbers.result c.as_slice-numbers.ensures c.requires.cites.numbers low c.index-lines-numbers.is c.requires.behind.behind in
+    c.index-lines-numbers.result c.as_slice-numbers.ensures c.requires.cites.numbers (lower _ _ c.numbers-test.true c.numbers.invariant.within) c.index-lines-numbers.is c.requires.behind.behind in
     let card = last_card c.args.line.now.path c.index-lines-numbers.result.path at.card c.get.result c.len.result at.path_is c.len.ensures.value c.get.ensures in
     let child_is : length (child c.args.node.now at.card).lefts ≡ c.width-in-numbers.result
     = sym (c.width-in-numbers.ensures.value ∙ ap (λ (n : NodeValue). length n.lefts) c.in_ok-child.ensures.node
