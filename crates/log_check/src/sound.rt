@@ -33,64 +33,71 @@ pub fn is_sound(
     {
         return Ok(false);
     }
-    keeps_rule(alloc, &node, earlier, line)
+    let judged = Judged {
+        node: &node,
+        earlier,
+        line,
+    };
+    judged.keeps_rule(alloc)
 }
 
-// Whether a line's rule holds at its node.
-fn keeps_rule(
-    alloc: Global,
-    node: &Node,
-    earlier: &[LogLine],
-    line: &LogLine,
-) -> Result<bool, AllocError>
-    requires { CitesLines node.now earlier.now line.now }
-    ensures { IfOk result (λ kept. IsTrue kept
-        ↔ KeepsRule line.now.rule node.now line.now (cited_lines earlier.now line.now.from)) }
-{
-    match line.rule {
-        Rule::Leaf => Ok(
-            line.from.as_slice().is_empty() && covers(line.vectors.as_slice(), plain_results(node)),
-        ),
-        Rule::Union => Ok(is_union(node, earlier, line)),
-        Rule::Join => is_join(alloc, node, earlier, line),
-    }
+// A line at its node, and the lines before it.
+#[derive(Drop)]
+struct Judged<'a> {
+    node: &'a Node,
+    earlier: &'a [LogLine],
+    line: &'a LogLine,
 }
 
-// Whether a line dominates the lines of each card of declarer's side.
-fn is_union(node: &Node, earlier: &[LogLine], line: &LogLine) -> bool
-    requires { AreNumbers (length earlier.now) line.now.from }
-    ensures { IsTrue result
-        ↔ IsUnion node.now line.now (cited_lines earlier.now line.now.from) }
-{
-    let numbers = line.from.as_slice();
-    if node.stops(line.moves)
-        || !node.is_ours()
-        || !stand_behind(earlier, numbers, &line.path, node.choices())
+impl Judged<'_> {
+    // Whether the line's rule holds.
+    fn keeps_rule(&self, alloc: Global) -> Result<bool, AllocError>
+        requires { CitesLines self.now.node.now self.now.earlier.now self.now.line.now }
+        ensures { IfOk result (λ kept. IsTrue kept
+            ↔ KeepsRule self.now.line.now.rule self.now.node.now self.now.line.now
+            (cited_lines self.now.earlier.now self.now.line.now.from)) }
     {
-        return false;
+        match self.line.rule {
+            Rule::Leaf => Ok(
+                self.line.from.as_slice().is_empty()
+                    && covers(self.line.vectors.as_slice(), plain_results(self.node)),
+            ),
+            Rule::Union => Ok(self.is_union()),
+            Rule::Join => self.is_join(alloc),
+        }
     }
-    covers_lines(line.vectors.as_slice(), earlier, numbers)
-}
 
-// Whether a line dominates what the lines of some of a defender's cards leave together.
-fn is_join(
-    alloc: Global,
-    node: &Node,
-    earlier: &[LogLine],
-    line: &LogLine,
-) -> Result<bool, AllocError>
-    requires { CitesLines node.now earlier.now line.now }
-    ensures { IfOk result (λ joined. IsTrue joined
-        ↔ IsJoin node.now line.now (cited_lines earlier.now line.now.from)) }
-{
-    let numbers = line.from.as_slice();
-    if node.stops(line.moves)
-        || node.is_ours()
-        || numbers.is_empty()
-        || !stand_behind_some(earlier, numbers, &line.path, node.choices())
+    // Whether it dominates the lines of each card of declarer's side.
+    fn is_union(&self) -> bool
+        requires { AreNumbers (length self.now.earlier.now) self.now.line.now.from }
+        ensures { IsTrue result ↔ IsUnion self.now.node.now self.now.line.now
+            (cited_lines self.now.earlier.now self.now.line.now.from) }
     {
-        return Ok(false);
+        let numbers = self.line.from.as_slice();
+        if self.node.stops(self.line.moves)
+            || !self.node.is_ours()
+            || !stand_behind(self.earlier, numbers, &self.line.path, self.node.choices())
+        {
+            return false;
+        }
+        covers_lines(self.line.vectors.as_slice(), self.earlier, numbers)
     }
-    let front = joined_lines(alloc, node, earlier, line)?;
-    Ok(covers_all(line.vectors.as_slice(), front.as_slice()))
+
+    // Whether it dominates what the lines of some of a defender's cards leave together.
+    fn is_join(&self, alloc: Global) -> Result<bool, AllocError>
+        requires { CitesLines self.now.node.now self.now.earlier.now self.now.line.now }
+        ensures { IfOk result (λ joined. IsTrue joined ↔ IsJoin self.now.node.now self.now.line.now
+            (cited_lines self.now.earlier.now self.now.line.now.from)) }
+    {
+        let numbers = self.line.from.as_slice();
+        if self.node.stops(self.line.moves)
+            || self.node.is_ours()
+            || numbers.is_empty()
+            || !stand_behind_some(self.earlier, numbers, &self.line.path, self.node.choices())
+        {
+            return Ok(false);
+        }
+        let front = joined_lines(alloc, self.node, self.earlier, self.line)?;
+        Ok(covers_all(self.line.vectors.as_slice(), front.as_slice()))
+    }
 }
