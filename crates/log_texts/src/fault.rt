@@ -1,8 +1,4 @@
 //! Why a log isn't read.
-ghost use Rattle.std.specs.Prelude.{◌≡◌};
-ghost use Rattle.log_texts.specs.declared.fault.LogFault.TheVariants.{Memory};
-
-use std::alloc::AllocError;
 use thiserror::Error;
 
 /// Why a log isn't read.
@@ -14,12 +10,4 @@ pub enum LogFault {
     /// Memory ran out.
     #[error("out of memory")]
     Memory,
-}
-
-impl From<AllocError> for LogFault {
-    ghost from_gives = { λ _ fault. fault ≡ Memory };
-
-    fn from(_error: AllocError) -> LogFault {
-        LogFault::Memory
-    }
 }

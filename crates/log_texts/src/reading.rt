@@ -53,10 +53,15 @@ fn read_lines(alloc: Global, text: &[u8]) -> Result<Log, LogFault>
                 Err(LogFault::Line(number + 1))
             };
         }
-        let Some(line) = read_line(alloc, line)? else {
+        let Ok(said) = read_line(alloc, line) else {
+            return Err(LogFault::Memory);
+        };
+        let Some(line) = said else {
             return Err(LogFault::Line(number));
         };
-        log.push(line)?;
+        let Ok(()) = log.push(line) else {
+            return Err(LogFault::Memory);
+        };
         number += 1;
         rest = next;
     }
