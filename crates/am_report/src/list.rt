@@ -28,13 +28,8 @@ fn hand_at_compass(board: &Board, layout: &Layout, place: Compass) -> CardSet
 }
 
 #[tactic(auto, unfolding(crate::specs::LayoutFile::layout_line))]
-fn push_layout_line(
-    text: &mut Text,
-    alloc: Global,
-    board: &Board,
-    layout: &Layout,
-) -> Result<(), AllocError>
-    ensures { OnOk result (text.new ≡ text.old ++ layout_line board.now layout.now) }
+fn layout_line(alloc: Global, board: &Board, layout: &Layout) -> Result<Text, AllocError>
+    ensures { IfOk result (λ line. line ≡ layout_line board.now layout.now) }
 {
     let hands = [
         Some(hand_at_compass(board, layout, Compass::N)),
@@ -42,8 +37,9 @@ fn push_layout_line(
         Some(hand_at_compass(board, layout, Compass::S)),
         Some(hand_at_compass(board, layout, Compass::W)),
     ];
-    text.push(deal_text(alloc, hands)?.bytes())?;
-    text.push(b"\n")
+    let mut line = deal_text(alloc, hands)?;
+    line.push(b"\n")?;
+    Ok(line)
 }
 
 // Appends a line for each layout.
@@ -56,7 +52,7 @@ fn push_layouts(
     ensures { OnOk result (text.new ≡ text.old ++ flat_map (layout_line board.now) layouts.now) }
 {
     for layout in layouts {
-        push_layout_line(text, alloc, board, layout)?;
+        text.push(layout_line(alloc, board, layout)?.bytes())?;
     }
     Ok(())
 }
