@@ -2,7 +2,7 @@
 ghost use Rattle.std.specs.Prelude.{◌≡◌};
 ghost use Rattle.am_report.specs.declared.fault.ReportFault.TheVariants.{Memory};
 
-use std::alloc::{AllocError, AllocFailed};
+use std::alloc::AllocFailed;
 use thiserror::Error;
 
 /// What the first line at fault was to be.
@@ -43,14 +43,6 @@ pub enum ReportFault {
     /// Memory ran out.
     #[error("out of memory")]
     Memory,
-}
-
-impl From<AllocError> for ReportFault {
-    ghost from_gives = { λ _ fault. fault ≡ Memory };
-
-    fn from(_error: AllocError) -> ReportFault {
-        ReportFault::Memory
-    }
 }
 
 impl<T: Drop> From<AllocFailed<T>> for ReportFault {

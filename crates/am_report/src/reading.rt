@@ -87,7 +87,9 @@ fn read_below(alloc: Global, version: Version, bytes: &[u8]) -> Result<ReadRepor
     let (entries, at) = read_entries(alloc, version, bytes, head.next, head.vectors)?;
     let (named, next) = read_card(version, bytes, at)?;
     read_end(bytes, next)?;
-    let text = Text::from_bytes(alloc, &bytes[..head.place])?;
+    let Ok(text) = Text::from_bytes(alloc, &bytes[..head.place]) else {
+        return Err(ReportFault::Memory);
+    };
     Ok(ReadReport {
         version,
         head: text,
@@ -221,25 +223,6 @@ fn read_head(bytes: &[u8]) -> Result<Head, ReportFault>
     }
 }
 
-// The vector's line with its weight, and the place after it.
-fn read_vector(
-    version: Version,
-    bytes: &[u8],
-    at: usize,
-) -> Result<((WinVector, u32), usize), ReportFault>
-    requires place { at ≤ length bytes.now }
-    requires short { length bytes.now < 2 ^ 32 - 1 }
-    ensures read { GivesReport result
-        (expected ReportKind.Vector bytes.now at
-        (said_at (vector_said version) bytes.now at)) }
-    ensures within { IfOk result (λ read. read.1 ≤ length bytes.now) }
-{
-    match vector_at(version, bytes, at) {
-        Some(said) => Ok(said),
-        None => Err(fault_at(bytes, at, ReportKind::Vector)),
-    }
-}
-
 fn entry_of(vector: WinVector, weight: u32, plan: Plan) -> ReadEntry
     ensures { result
         ≡ record { entry = record { vector = vector; plan = plan_of plan }; weight = weight } }
@@ -262,7 +245,9 @@ fn read_entry(
     ensures read { GivesReport result (entry_read version bytes.now at) }
     ensures within { IfOk result (λ read. read.1 ≤ length bytes.now) }
 {
-    let (said, next) = read_vector(version, bytes, at)?;
+    let Some((said, next)) = vector_at(version, bytes, at) else {
+        return Err(fault_at(bytes, at, ReportKind::Vector));
+    };
     match read_plan(alloc, bytes, next) {
         Ok((plan, end)) => Ok((entry_of(said.0, said.1, plan), end)),
         Err(fault) => Err(report_fault(bytes, fault)),

@@ -42,6 +42,6 @@ returns-clause-read c =
     let bytes = c.args.bytes.now in
     let head = c.in_ok-head.head in
     let named = c.in_ok-named.named in
-    let text = c.in_ok-text.ensures in
+    let text = c.in-Ok.ensures in
     below_read-whole c.args.version bytes head c.in_ok-head.ensures.read c.in_ok-entries.entries.items c.in_ok-entries.at c.in_ok-entries.ensures.read named c.in_ok-named.next c.in_ok-named.ensures.read c.in_ok-read_end.field-0 c.in_ok-read_end.ensures
     ∙ ap (λ text. Ok (record { version = c.args.version; head = text; moves = head.moves; entries = c.in_ok-entries.entries.items; card = named.0; weight = named.1 })) (sym text)
