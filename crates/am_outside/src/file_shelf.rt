@@ -82,7 +82,9 @@ fn read_all<R: Read>(alloc: Global, reader: &mut R, limit: u64) -> Result<Text, 
         if got as u64 > left {
             return Err(ShelfFault::TooLong);
         }
-        text.push(&chunk[..got])?;
+        let Ok(()) = text.push(&chunk[..got]) else {
+            return Err(ShelfFault::Memory);
+        };
         left -= got as u64;
     }
 }

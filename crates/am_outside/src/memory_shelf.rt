@@ -172,7 +172,10 @@ fn copy_within(alloc: Global, bytes: &[u8], limit: u64) -> Result<Text, ShelfFau
     if bytes.len() as u64 > limit {
         return Err(ShelfFault::TooLong);
     }
-    Ok(Text::from_bytes(alloc, bytes)?)
+    match Text::from_bytes(alloc, bytes) {
+        Ok(text) => Ok(text),
+        Err(_) => Err(ShelfFault::Memory),
+    }
 }
 
 // The place of the first file of that name.

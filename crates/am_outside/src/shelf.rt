@@ -1,12 +1,11 @@
 // Where files are read from.
 ghost use Rattle.std.specs.Prelude.{◌≡◌, ◌↔◌, ◌≤◌, ℕ, List, Option, Some, length, IfOk, IfSome, IsErrOf};
 ghost use Rattle.std.specs.FinMap.{get};
-ghost use Rattle.am_outside.specs.declared.shelf.ShelfFault.TheVariants.{Memory};
 ghost use Rattle.am_outside.specs.Faults.{Rose};
 ghost use Rattle.am_outside.specs.Shelf.{Files, IsLonger, KeepsOthers};
 
 use crate::Text;
-use std::alloc::{AllocError, Global};
+use std::alloc::Global;
 use thiserror::Error;
 
 /// Why a file isn't read.
@@ -20,14 +19,6 @@ pub enum ShelfFault {
     TooLong,
     #[error("out of memory")]
     Memory,
-}
-
-impl From<AllocError> for ShelfFault {
-    ghost from_gives = { λ _ fault. fault ≡ Memory };
-
-    fn from(_: AllocError) -> Self {
-        ShelfFault::Memory
-    }
 }
 
 /// Files by their names, as they are read by the program.
