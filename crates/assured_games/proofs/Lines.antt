@@ -43,7 +43,7 @@ module _ {S : Type 0} where
   marked F P (s ∷ ss) h = (h s (Contains-here s ss), marked F P ss (λ x m. h x (Contains-there s ss x m)))
 
 -- a member that passes a test, or all fail it
-found : {X : Type 0} (f : X → Bool) (xs : List X) → ((x : X) × Contains xs x × (f x ≡ true)) ⊎ ((x : X) → Contains xs x → f x ≡ true → ⊥)
+pub found : {X : Type 0} (f : X → Bool) (xs : List X) → ((x : X) × Contains xs x × (f x ≡ true)) ⊎ ((x : X) → Contains xs x → f x ≡ true → ⊥)
 found f [] = inr (λ x m e. Contains-nil x m)
 found {X} f (x ∷ xs) = go (f x) refl (found f xs)
   where

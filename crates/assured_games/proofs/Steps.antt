@@ -13,6 +13,7 @@ use Rattle.strategy_games.proofs.Wins.{states-child}
 use Rattle.strategy_games.proofs.Moves.{made_by}
 use Rattle.assured_games.specs.Assured.{Line, Branches, Claim, PlayFor, Move, Wait, NoBranch, Branch, cards_of, Secures, SecureEach, IsLine, AreLines, IsAssured, IsAssuredFront}
 use Rattle.assured_games.specs.Laws.{IsSureOfAll}
+use Rattle.assured_games.specs.Made.{results}
 use Rattle.assured_games.specs.Steps.{PlaysFor, AssuredByCard, AssuredByReply, HasAssuredSteps}
 use Rattle.assured_games.proofs.Zips.{AtOnes, meet_first, meet_second, restrict_below, spread_up, spread_down, length_spread, length_kept, length_zip, zip_any, zip_both, zip_lower, zip_map, zip_of_map, zip_restrict, zip_unrestrict}
 use Rattle.assured_games.proofs.Lines.{dominated, carried, marked, branches_from, as_plan}
@@ -60,7 +61,7 @@ module _ {N S C : Type 0} (g : Game N S C) (sure : N → Bool) where
       (λ v w. Dominates-all (g.states n) v (sym w.0)))
 
   -- the branch for a card
-  branch_for : (bs : Branches S C) (n : N) (m : ℕ) (c : C) → Contains (cards_of bs) c → AreLines g sure bs n m
+  pub branch_for : (bs : Branches S C) (n : N) (m : ℕ) (c : C) → Contains (cards_of bs) c → AreLines g sure bs n m
       → (p : Line S C) × IsLine g sure p (g.child n c) m × ((s : S) → SecureEach g bs s → g.is_legal c s ≡ true → Secures g p (g.after c s))
   branch_for NoBranch n m c k fit = absurd (Contains-nil c k)
   branch_for (Branch d p bs) n m c k fit = ⊎_elim
@@ -167,12 +168,16 @@ module _ {N S C : Type 0} (g : Game N S C) (sure : N → Bool) where
         )
 
     module _ (double : IsDoubleDummy g Sound) (sure_of : IsSureOfAll g Sound sure) where
-      claimed : (n : N) (m : ℕ) → Sound n → (g.is_decided n ≡ true) ⊎ (sure n ≡ true) → IsAssuredFront g sure n m (map (λ s. g.makes s) (g.states n) ∷ [])
-      claimed n m sound ends = front_single (IsAssured g sure n m) (map (λ s. g.makes s) (g.states n))
-          (Claim, ends, marked (λ s. g.makes s) (λ s. g.makes s ≡ true) (g.states n) (λ s k e. e))
-          (λ v a.
+      -- double dummy makes what is assured
+      pub made : (n : N) (m : ℕ) (v : Vector) → Sound n → IsAssured g sure n m v → Dominates (results g n) v
+      made n m v sound a =
           let q = as_plan g sure Sound law sure_of a.0 n m sound a.1 in
-          dominated (λ s. g.makes s) (λ s. Secures g a.0 s) v (g.states n) a.2 (λ s k h. made_by g Sound law double q.0 n m s sound q.1 k (q.2 s k h)))
+          dominated (λ s. g.makes s) (λ s. Secures g a.0 s) v (g.states n) a.2 (λ s k h. made_by g Sound law double q.0 n m s sound q.1 k (q.2 s k h))
+
+      claimed : (n : N) (m : ℕ) → Sound n → (g.is_decided n ≡ true) ⊎ (sure n ≡ true) → IsAssuredFront g sure n m (results g n ∷ [])
+      claimed n m sound ends = front_single (IsAssured g sure n m) (results g n)
+          (Claim, ends, marked (λ s. g.makes s) (λ s. g.makes s ≡ true) (g.states n) (λ s k e. e))
+          (λ v a. made n m v sound a)
 
       pub assured_steps : HasAssuredSteps g sure Sound
       assured_steps = record {

@@ -1,3 +1,4 @@
 pub mod Assured
 pub mod Laws
+pub mod Made
 pub mod Steps

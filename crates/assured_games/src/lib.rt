@@ -9,6 +9,7 @@ ghost use Rattle.win_vectors.specs.Fronts.{Vector};
 ghost use Rattle.win_vectors.specs.Weights.{IsMonotone};
 ghost use Rattle.strategy_games.specs.Games.{Game, IsLawful, IsDoubleDummy};
 ghost use Rattle.assured_games.specs.Laws.{IsPlayedOut, IsSureOfAll, IsBracketed, HasBracket};
+ghost use Rattle.assured_games.specs.Made.{IsWithinMade, LeavesOut, LostMayBeLeftOut};
 ghost use Rattle.assured_games.specs.Steps.{HasAssuredSteps};
 
 /// A game of hidden layouts with a test of nodes at which declarer's side is sure to make the
@@ -40,6 +41,33 @@ pub trait AssuredGame {
     ghost sure_of_all: { IsSureOfAll game Sound sure };
 }
 
+/// Such a game with a relation between a node and the same node without some of its layouts.
+pub trait NodesInPart {
+    ghost Node: { Type 0 };
+
+    ghost State: { Type 0 };
+
+    ghost Card: { Type 0 };
+
+    ghost game: { Game Node State Card };
+
+    ghost Sound: { Node → Type 0 };
+
+    ghost sure: { Node → Bool };
+
+    ghost in_part: { Node → Node → Type 0 };
+
+    ghost lawful: { IsLawful game Sound };
+
+    ghost double_dummy: { IsDoubleDummy game Sound };
+
+    ghost played_out: { IsPlayedOut game Sound };
+
+    ghost sure_of_all: { IsSureOfAll game Sound sure };
+
+    ghost leaves_out: { LeavesOut game Sound sure in_part };
+}
+
 /// A vector that is assured with some moves is assured with more moves too, and the front with any
 /// number of moves from there on dominates it. With more moves than cards are left, the assured
 /// front is the front.
@@ -60,4 +88,16 @@ pub fn best_lies_in_the_bracket<G: AssuredGame>()
 /// search goes through the choices of a node.
 pub fn assured_front_steps<G: AssuredGame>()
     ensures { HasAssuredSteps G.game G.sure G.Sound }
+{}
+
+/// Double dummy makes what is assured; and where it makes one layout at most, its results are the
+/// assured front.
+pub fn double_dummy_bounds_the_assured<G: AssuredGame>()
+    ensures { IsWithinMade G.game G.Sound G.sure }
+{}
+
+/// If only layouts are left out that double dummy loses, the assured front of a node is that of the
+/// rest, with 0 at the layouts that are left out.
+pub fn lost_layouts_may_be_left_out<G: NodesInPart>()
+    ensures { LostMayBeLeftOut G.game G.Sound G.sure G.in_part }
 {}
