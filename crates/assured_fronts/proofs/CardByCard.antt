@@ -1,97 +1,101 @@
 -- The assured front of a node, card by card.
-use Rattle.std.proofs.Common.{◌≡◌, ℕ, zero, suc, sum_by, ◌+◌, ◌-◌, ◌<◌, true, false, List, [], ◌∷◌, ◌++◌, replicate, length, Contains, sym, ap, subst, ◌∙◌, arith, append_assoc, append-nil}
-use Rattle.card_sets.specs.SetWords.{has_card}
-use Rattle.win_vectors.specs.Vectors.{ones_of}
+use Rattle.std.proofs.Common.{◌≡◌, ℕ, zero, suc, sum_by, ◌+◌, ◌-◌, ◌<◌, true, false, List, [], ◌∷◌, ◌++◌, replicate, length, sym, ap, subst, ◌∙◌, arith, append-nil, inl, inr}
+use Rattle.std.proofs.lemmas.Bool.{cases_Bool}
 use Rattle.win_vectors.specs.Fronts.{Vector, IsFrontOf, IsReduced, meets, spreads}
-use Rattle.win_vectors.proofs.VectorLemmas.{ones_of-all}
+use Rattle.pareto_fronts.specs.FrontValue.{FrontValue}
 use Rattle.trick_rules.specs.Positions.{to_play}
-use Rattle.trick_rules.specs.Play.{is_declarers, cards_left}
+use Rattle.trick_rules.specs.Play.{is_declarers}
 use Rattle.trick_rules.specs.Nodes.{NodeValue, IsNode, choices, child, child_mask}
-use Rattle.strategy_games.specs.Plans.{stops}
-use Rattle.strategy_games.proofs.Lists.{Contains-here, Contains-append_second}
+use Rattle.trick_rules.specs.Nodes as nodes
+use Rattle.strategy_games.specs.Plans.{stops, tree_size}
 use Rattle.strategy_tree.specs.Bridge.{bridge}
-use Rattle.strategy_tree.proofs.CardLists.{has_card-from_Contains}
-use Rattle.strategy_tree.proofs.BridgeNodes.{length-states, mask-bridge, length-child_lefts, our_mask, cards_left-child}
+use Rattle.strategy_tree.proofs.BridgeNodes.{length-states, mask-bridge, stops-bridge}
+use Rattle.alphamu_core.proofs.OpenNodes.{size_ours, size_theirs}
 use Rattle.alphamu_core.proofs.Paid.{HasPaid, size_after}
+use Rattle.plain_fronts.proofs.CardByCard.{member}
 use Rattle.assured_games.specs.Assured.{IsAssuredFront}
 use Rattle.assured_games.specs.Steps.{AssuredByCard, AssuredByReply}
 use Rattle.sure_nodes.specs.SureNodes.{is_sure_node}
 use Rattle.assured_fronts.specs.AssuredAt.{claims}
 use Rattle.assured_fronts.proofs.Leaves.{steps, same_front, goes_on}
 
--- ---- the card in hand
-
-member : (n : NodeValue) (earlier rest : List ℕ) (card : ℕ) → choices n ≡ earlier ++ card ∷ rest → Contains (choices n) card
-member n earlier rest card are = subst (λ cards. Contains cards card) (sym are) (Contains-append_second earlier (card ∷ rest) card (Contains-here card rest))
-
-pub is_choice : (n : NodeValue) (earlier rest : List ℕ) (card : ℕ) → choices n ≡ earlier ++ card ∷ rest → has_card (choices n) card ≡ true
-is_choice n earlier rest card are = has_card-from_Contains (choices n) card (member n earlier rest card are)
-
-pub falls : (n kept : NodeValue) (earlier rest : List ℕ) (card : ℕ) → IsNode n → choices n ≡ earlier ++ card ∷ rest → kept ≡ child n card → cards_left kept.position + 1 ≡ cards_left n.position
-falls n kept earlier rest card sound are is = subst (λ (k : NodeValue). cards_left k.position + 1 ≡ cards_left n.position) (sym is) (cards_left-child n card sound (is_choice n earlier rest card are))
-
--- a card of declarer's side keeps every layout
-pub our_width : (n kept : NodeValue) (earlier rest : List ℕ) (card : ℕ) → is_declarers (to_play n.position) ≡ true → choices n ≡ earlier ++ card ∷ rest → kept ≡ child n card → length kept.lefts ≡ length n.lefts
-our_width n kept earlier rest card ours are is =
-    ap (λ (k : NodeValue). length k.lefts) is ∙ length-child_lefts n card ∙ ap ones_of (our_mask n card ours (is_choice n earlier rest card are)) ∙ ones_of-all (length n.lefts)
-
-pub their_width : (n kept : NodeValue) (card : ℕ) → kept ≡ child n card → length kept.lefts ≡ ones_of (child_mask n card)
-their_width n kept card is = ap (λ (k : NodeValue). length k.lefts) is ∙ length-child_lefts n card
-
-more_moves : (moves : ℕ) → 0 < moves → suc (moves - 1) ≡ moves
-more_moves moves some = omega arith
-
--- ---- at declarer's side
-
-pub declarer_start : (n : NodeValue) (m : ℕ) (front : List Vector) → front ≡ [] → IsFrontOf (AssuredByCard bridge is_sure_node n m []) front
-declarer_start n m front none = subst (IsFrontOf (AssuredByCard bridge is_sure_node n m [])) (sym none) (steps.no_card n m)
-
-pub declarer_turn : (n kept : NodeValue) (m : ℕ) (earlier rest : List ℕ) (card : ℕ) (front won union : List Vector) → choices n ≡ earlier ++ card ∷ rest → IsFrontOf (AssuredByCard bridge is_sure_node n m earlier) front
-    → kept ≡ child n card → IsAssuredFront bridge is_sure_node kept m won → IsReduced (front ++ won) union
-    → (x : List ℕ) × (choices n ≡ x ++ rest) × IsFrontOf (AssuredByCard bridge is_sure_node n m x) union
-declarer_turn n kept m earlier rest card front won union are so_far is child_front best =
-    (earlier ++ card ∷ [], are ∙ sym (append_assoc earlier (card ∷ []) rest), steps.more_cards n m earlier card front won union so_far (subst (λ k. IsAssuredFront bridge is_sure_node k m won) is child_front) best)
-
-pub declarer_end : (n : NodeValue) (moves : ℕ) (earlier rest : List ℕ) (front : List Vector) → IsNode n → claims n ≡ false → 0 < moves → is_declarers (to_play n.position) ≡ true
-    → choices n ≡ earlier ++ rest → rest ≡ [] → IsFrontOf (AssuredByCard bridge is_sure_node n (moves - 1) earlier) front → IsAssuredFront bridge is_sure_node n moves front
-declarer_end n moves earlier rest front sound off some ours are none so_far =
-    let live = goes_on n off in
-    subst (λ m. IsAssuredFront bridge is_sure_node n m front) (more_moves moves some)
-    (steps.all_cards n (moves - 1) front sound live.0 live.1 ours
-    (subst (λ cards. IsFrontOf (AssuredByCard bridge is_sure_node n (moves - 1) cards) front) (sym (are ∙ ap (λ cards. earlier ++ cards) none ∙ append-nil earlier)) so_far))
-
--- ---- at a defender
-
-pub defender_start : (n : NodeValue) (m width : ℕ) (front : List Vector) → width ≡ length n.lefts → IsReduced (replicate width true ∷ []) front → IsFrontOf (AssuredByReply bridge is_sure_node n m []) front
-defender_start n m width front is reduced =
-    same_front (AssuredByReply bridge is_sure_node n m []) (replicate width true ∷ []) front (subst (λ w. IsFrontOf (AssuredByReply bridge is_sure_node n m []) (replicate w true ∷ [])) (length-states n ∙ sym is) (steps.no_reply n m)) reduced
-
-pub defender_turn : (n kept : NodeValue) (m : ℕ) (earlier rest : List ℕ) (card : ℕ) (mask : Vector) (front won join : List Vector) → IsNode n → choices n ≡ earlier ++ card ∷ rest → IsFrontOf (AssuredByReply bridge is_sure_node n m earlier) front
-    → kept ≡ child n card → mask ≡ child_mask n card → IsAssuredFront bridge is_sure_node kept m won → IsReduced (meets front (spreads mask won)) join
-    → (x : List ℕ) × (choices n ≡ x ++ rest) × IsFrontOf (AssuredByReply bridge is_sure_node n m x) join
-defender_turn n kept m earlier rest card mask front won join sound are so_far is mask_is child_front best = (
-  earlier ++ card ∷ [],
-  are ∙ sym (append_assoc earlier (card ∷ []) rest),
-  steps.more_replies n m earlier card front won join sound (member n earlier rest card are) so_far (subst (λ k. IsAssuredFront bridge is_sure_node k m won) is child_front)
-      (subst (λ bits. IsReduced (meets front (spreads bits won)) join) (mask_is ∙ sym (mask-bridge n card)) best),
-)
-
-pub defender_end : (n : NodeValue) (moves : ℕ) (earlier rest : List ℕ) (front : List Vector) → IsNode n → claims n ≡ false → 0 < moves → is_declarers (to_play n.position) ≡ false
-    → choices n ≡ earlier ++ rest → rest ≡ [] → IsFrontOf (AssuredByReply bridge is_sure_node n moves earlier) front → IsAssuredFront bridge is_sure_node n moves front
-defender_end n moves earlier rest front sound off some theirs are none so_far =
-    let live = goes_on n off in
-    let more = more_moves moves some in
-    subst (λ m. IsAssuredFront bridge is_sure_node n m front) more
-    (steps.all_replies n (moves - 1) front sound live.0 live.1 theirs
-    (subst (λ m. IsFrontOf (AssuredByReply bridge is_sure_node n m (choices n)) front) (sym more)
-    (subst (λ cards. IsFrontOf (AssuredByReply bridge is_sure_node n moves cards) front) (sym (are ∙ ap (λ cards. earlier ++ cards) none ∙ append-nil earlier)) so_far)))
-
--- ---- what is paid
-
 -- play goes on
 pub live : (n : NodeValue) (moves : ℕ) → claims n ≡ false → 0 < moves → stops bridge n moves ≡ false
 live n zero off some = absurd (omega arith)
 live n (suc m) off some = (goes_on n off).0
+
+pub stops_off : (n : NodeValue) (moves : ℕ) → claims n ≡ false → 0 < moves → nodes.stops n moves ≡ false
+stops_off n moves off some = sym (stops-bridge n moves) ∙ live n moves off some
+
+more_moves : (moves : ℕ) → 0 < moves → suc (moves - 1) ≡ moves
+more_moves moves some = omega arith
+
+-- ---- the cards one after another
+
+-- the front over some cards, with the moves that are left after each
+pub record IsFrontOver (n : NodeValue) (m : ℕ) (cards : List ℕ) (front : List Vector) : Type 0 where
+  pub ours : is_declarers (to_play n.position) ≡ true → IsFrontOf (AssuredByCard bridge is_sure_node n m cards) front
+  pub theirs : is_declarers (to_play n.position) ≡ false → IsFrontOf (AssuredByReply bridge is_sure_node n m cards) front
+
+-- these cards are left, and the front is over the others
+pub record CardsLeft (n : NodeValue) (m : ℕ) (cards : List ℕ) (front : FrontValue) : Type 0 where
+  pub earlier : List ℕ
+  pub are : choices n ≡ earlier ++ cards
+  pub width : front.width ≡ length n.lefts
+  pub so_far : IsFrontOver n m earlier front.vectors
+
+pub next_is : {n : NodeValue} {m card : ℕ} {cards rest : List ℕ} {front : FrontValue} (left : CardsLeft n m cards front) → cards ≡ card ∷ rest → choices n ≡ left.earlier ++ card ∷ rest
+next_is left next = left.are ∙ ap (λ cards. left.earlier ++ cards) next
+
+pub over_no_card : (n : NodeValue) (m : ℕ) (front : List Vector) → (is_declarers (to_play n.position) ≡ true → front ≡ [])
+    → (is_declarers (to_play n.position) ≡ false → IsReduced (replicate (length n.lefts) true ∷ []) front) → IsFrontOver n m [] front
+over_no_card n m front none all = record {
+  ours = λ o. subst (IsFrontOf (AssuredByCard bridge is_sure_node n m [])) (sym (none o)) (steps.no_card n m);
+  theirs = λ t. same_front (AssuredByReply bridge is_sure_node n m []) (replicate (length n.lefts) true ∷ []) front
+      (subst (λ w. IsFrontOf (AssuredByReply bridge is_sure_node n m []) (replicate w true ∷ [])) (length-states n) (steps.no_reply n m)) (all t);
+}
+
+pub over_one_more : (n kept : NodeValue) (m : ℕ) (earlier rest : List ℕ) (card : ℕ) (mask : Vector) (front won next : List Vector) → IsNode n → choices n ≡ earlier ++ card ∷ rest
+    → IsFrontOver n m earlier front → kept ≡ child n card → mask ≡ child_mask n card → IsAssuredFront bridge is_sure_node kept m won
+    → (is_declarers (to_play n.position) ≡ true → IsReduced (front ++ won) next) → (is_declarers (to_play n.position) ≡ false → IsReduced (meets front (spreads mask won)) next)
+    → IsFrontOver n m (earlier ++ card ∷ []) next
+over_one_more n kept m earlier rest card mask front won next sound are so_far is mask_is kept_front union join =
+    let child_front = subst (λ k. IsAssuredFront bridge is_sure_node k m won) is kept_front in
+    record {
+      ours = λ o. steps.more_cards n m earlier card front won next (so_far.ours o) child_front (union o);
+      theirs = λ t. steps.more_replies n m earlier card front won next sound (member (choices n) earlier rest card are) (so_far.theirs t) child_front
+          (subst (λ bits. IsReduced (meets front (spreads bits won)) next) (mask_is ∙ sym (mask-bridge n card)) (join t));
+    }
+
+pub over_all : (n : NodeValue) (moves m : ℕ) (earlier rest : List ℕ) (front : List Vector) → IsNode n → claims n ≡ false → 0 < moves
+    → (is_declarers (to_play n.position) ≡ true → m ≡ moves - 1) → (is_declarers (to_play n.position) ≡ false → m ≡ moves)
+    → choices n ≡ earlier ++ rest → rest ≡ [] → IsFrontOver n m earlier front → IsAssuredFront bridge is_sure_node n moves front
+over_all n moves m earlier rest front sound off some less same are none so_far =
+    let going = goes_on n off in
+    let more = more_moves moves some in
+    let all : earlier ≡ choices n = sym (are ∙ ap (λ cards. earlier ++ cards) none ∙ append-nil earlier) in
+    elim (cases_Bool (is_declarers (to_play n.position))) as (λ _. IsAssuredFront bridge is_sure_node n moves front) [
+      | inl o ↦ subst (λ k. IsAssuredFront bridge is_sure_node n k front) more
+          (steps.all_cards n (moves - 1) front sound going.0 going.1 o
+          (subst (λ k. IsFrontOf (AssuredByCard bridge is_sure_node n k (choices n)) front) (less o)
+          (subst (λ cards. IsFrontOf (AssuredByCard bridge is_sure_node n m cards) front) all (so_far.ours o))))
+      | inr t ↦ subst (λ k. IsAssuredFront bridge is_sure_node n k front) more
+          (steps.all_replies n (moves - 1) front sound going.0 going.1 t
+          (subst (λ k. IsFrontOf (AssuredByReply bridge is_sure_node n k (choices n)) front) (same t ∙ sym more)
+          (subst (λ cards. IsFrontOf (AssuredByReply bridge is_sure_node n m cards) front) all (so_far.theirs t))))
+    ]
+
+-- ---- what is paid
+
+-- the tree of a node is it and the trees after its cards
+pub size_below : (n : NodeValue) (moves m : ℕ) → IsNode n → claims n ≡ false → 0 < moves
+    → (is_declarers (to_play n.position) ≡ true → m ≡ moves - 1) → (is_declarers (to_play n.position) ≡ false → m ≡ moves)
+    → tree_size bridge n moves ≡ 1 + sum_by (size_after n m) (choices n)
+size_below n moves m sound off some less same =
+    elim (cases_Bool (is_declarers (to_play n.position))) as (λ _. tree_size bridge n moves ≡ 1 + sum_by (size_after n m) (choices n)) [
+      | inl o ↦ subst (λ k. tree_size bridge n moves ≡ 1 + sum_by (size_after n k) (choices n)) (sym (less o)) (size_ours n moves sound (live n moves off some) o)
+      | inr t ↦ subst (λ k. tree_size bridge n moves ≡ 1 + sum_by (size_after n k) (choices n)) (sym (same t)) (size_theirs n moves sound (live n moves off some) t)
+    ]
 
 -- nothing yet below the node
 pub paid_start : (n : NodeValue) (below : ℕ) (cards : List ℕ) (before : ℕ) → cards ≡ choices n → HasPaid ⊥ n below cards before before

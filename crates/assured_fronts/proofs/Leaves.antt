@@ -1,5 +1,5 @@
 -- The front where a line of play ends.
-use Rattle.std.proofs.Common.{◌≡◌, ◌⊎◌, ◌∙◌, ℕ, suc, ◌+◌, ◌<◌, ◌≤◌, Bool, true, false, ◌&&◌, ◌||◌, is_some, List, [], ◌∷◌, ◌++◌, ◌-◌, map, take, replicate, append-nil, length, get_or, Contains, refl, sym, ap, ap₂, subst, inl, inr, ⊎_elim, true≢false, arith}
+use Rattle.std.proofs.Common.{◌≡◌, ◌⊎◌, ◌∙◌, ℕ, zero, suc, Some, slice_get, ◌+◌, ◌<◌, ◌≤◌, Bool, true, false, ◌&&◌, ◌||◌, is_some, List, [], ◌∷◌, ◌++◌, ◌-◌, map, take, replicate, append-nil, length, get_or, Contains, refl, sym, ap, ap₂, subst, inl, inr, ⊎_elim, true≢false, arith}
 use Rattle.std.specs.Prelude.{nat_eq}
 use Rattle.std.specs.Cmp.Lexicographic.{pointwise}
 use Rattle.std.proofs.lemmas.Bool.{cases_Bool, cases_lt, and_parts, and_from, or_cases}
@@ -15,6 +15,7 @@ use Rattle.double_dummy.proofs.LayoutResults.{results_upto}
 use Rattle.strategy_games.proofs.Fronts.{front_grows, front_same, front_level, reduced_nil}
 use Rattle.strategy_tree.specs.Bridge.{bridge}
 use Rattle.strategy_tree.proofs.Rules.{table_of, lawful, double_dummy}
+use Rattle.alphamu_core.proofs.Judging.{length-results}
 use Rattle.assured_games.specs.Assured.{IsAssuredFront}
 use Rattle.assured_games.specs.Steps.{PlaysFor, HasAssuredSteps}
 use Rattle.assured_games.proofs.Steps.{assured_steps}
@@ -53,6 +54,23 @@ at_claim n moves results front sound ends are reduced =
     all = subst (λ u. IsAssuredFront bridge is_sure_node n moves (u ∷ [])) (sym are) (steps.claimed n moves sound (ends_here n ends))
 
 -- ---- where one layout is played for
+
+-- double dummy's result in a layout
+pub made_wide : (n : NodeValue) (made : Vector) → made ≡ map (λ s. makes s) (states n) → length made ≡ length n.lefts
+made_wide n made are = ap (λ (v : Vector). length v) are ∙ length-results n
+
+result_at : (p : PositionValue) (lefts : List (List ℕ)) (place : ℕ) (left : List ℕ) (bit : Bool) → slice_get (map (λ s. makes s) (map (λ other. record { position = p; left = other }) lefts)) place ≡ Some bit
+    → slice_get lefts place ≡ Some left → bit ≡ makes (record { position = p; left = left })
+result_at p [] place left bit at here = absurd cc
+result_at p (x ∷ lefts) zero left bit at here =
+    let same : x ≡ left = cc in
+    let result : makes (record { position = p; left = x }) ≡ bit = cc in
+    sym result ∙ ap (λ (l : List ℕ). makes (record { position = p; left = l })) same
+result_at p (x ∷ lefts) (suc place) left bit at here = result_at p lefts place left bit at here
+
+pub made_at : (n : NodeValue) (made : Vector) (place : ℕ) (left : List ℕ) (bit : Bool) → made ≡ map (λ s. makes s) (states n) → slice_get made place ≡ Some bit → slice_get n.lefts place ≡ Some left
+    → bit ≡ makes (record { position = n.position; left = left })
+made_at n made place left bit are at here = result_at n.position n.lefts place left bit (subst (λ v. slice_get v place ≡ Some bit) are at) here
 
 -- all layouts looked at
 pub upto_won : (n : NodeValue) (left : List ℕ) (i : ℕ) → length n.lefts ≤ i

@@ -1,15 +1,11 @@
 -- A front that is proved to be what is assured at its node.
-use Rattle.std.specs.Prelude.{◌≡◌, ◌+◌, ℕ, Bool, is_some, ◌&&◌, ◌||◌, nat_eq, List, map, length, Result}
+use Rattle.std.specs.Prelude.{◌≡◌, ℕ, Bool, is_some, ◌&&◌, ◌||◌, nat_eq, List, map, length}
 use Rattle.std.specs.Cmp.Lexicographic.{pointwise}
 use Rattle.win_vectors.specs.Fronts.{Vector}
 use Rattle.trick_rules.specs.Play.{decided, makes}
 use Rattle.trick_rules.specs.Nodes.{NodeValue, states}
 use Rattle.pareto_fronts.specs.FrontValue.{FrontValue}
-use Rattle.strategy_games.specs.Plans.{tree_size}
 use Rattle.strategy_tree.specs.Bridge.{bridge}
-use Rattle.alphamu_core.specs.declared.answers.SearchFault.{SearchFault}
-use Rattle.alphamu_core.specs.Budgets.{BudgetValue}
-use Rattle.alphamu_core.specs.Costs.{Costs}
 use Rattle.assured_games.specs.Assured.{IsAssuredFront}
 use Rattle.sure_nodes.specs.SureNodes.{is_sure_node}
 
@@ -18,6 +14,12 @@ pub record IsAssuredAt (n : NodeValue) (moves : ℕ) (found : FrontValue) : Type
   pub front : IsAssuredFront bridge is_sure_node n moves found.vectors
   pub width : found.width ≡ length n.lefts
 
+-- a node, a number of moves, and what was found to be assured there
+pub record KeptFrontValue : Type 0 where
+  pub node : NodeValue
+  pub moves : ℕ
+  pub front : FrontValue
+
 -- declarer's side claims here: the result is decided, or sure
 abbrev pub claims : NodeValue → Bool
 claims n = is_some (decided n.position) || is_sure_node n
@@ -25,11 +27,3 @@ claims n = is_some (decided n.position) || is_sure_node n
 -- the layouts that are won if the one in which Left holds these cards is played for
 abbrev pub won_playing_for : NodeValue → List ℕ → Vector
 won_playing_for n left = map (λ s. pointwise nat_eq left s.left && makes s) (states n)
-
--- what a search of a node pays: for one node at least, and for no more than the tree of αμ has
-abbrev pub Pays : {T : Type 0} → NodeValue → ℕ → BudgetValue → BudgetValue → Result T SearchFault → Type 0
-Pays n moves before after result = Costs ⊥ (tree_size bridge n moves) before.left after.left result
-
--- and what for a node for which it has paid already
-abbrev pub PaysBelow : {T : Type 0} → NodeValue → ℕ → BudgetValue → BudgetValue → Result T SearchFault → Type 0
-PaysBelow n moves before after result = Costs ⊥ (tree_size bridge n moves) (before.left + 1) after.left result

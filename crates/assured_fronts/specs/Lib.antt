@@ -1,1 +1,2 @@
 pub mod AssuredAt
+pub mod AssuredSearches

@@ -43,17 +43,17 @@ fn results(solver: &mut Solver, node: &Node) -> WinVector
     made
 }
 
-// The layouts that are won if the one at a place is played for.
-fn played_for(solver: &mut Solver, node: &Node, place: u16) -> WinVector
-    requires { place < length node.now.lefts }
+// The layouts that are won if the one at a place is played for, of those that double dummy makes.
+fn played_for(node: &Node, made: WinVector, place: u16) -> WinVector
+    requires within { place < length node.now.lefts }
+    requires made { made ≡ map makes (states node.now) }
     ensures { result ≡ won_playing_for node.now (get_or node.now.lefts place []) }
 {
     let chosen = node.left(place);
     let mut won = WinVector::none(node.width());
     for other in 0..node.width() {
         let left = node.left(other);
-        let made = solver.makes(node.position(), left);
-        won = won.set(other, both(chosen == left, made));
+        won = won.set(other, both(chosen == left, made.get(other)));
     }
     won
 }
@@ -79,9 +79,10 @@ pub fn open_stop(alloc: Global, solver: &mut Solver, node: &Node) -> Result<Fron
     requires { claims_at node.now ≡ false }
     ensures { IfOk result (IsAssuredAt node.now 0) }
 {
+    let made = results(solver, node);
     let mut front = Front::new(alloc, node.width());
     for place in 0..node.width() {
-        front.insert(played_for(solver, node, place))?;
+        front.insert(played_for(node, made, place))?;
     }
     Ok(front)
 }

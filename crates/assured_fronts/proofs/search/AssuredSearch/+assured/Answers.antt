@@ -1,0 +1,127 @@
+use Rattle.std.proofs.Common.{◌+◌, [], ◌∷◌, ◌++◌, refl, sym, ◌∙◌, append_assoc, arith}
+use Rattle.strategy_games.specs.Plans.{tree_size}
+use Rattle.strategy_tree.specs.Bridge.{bridge}
+use Rattle.strategy_tree.proofs.BridgeNodes.{tree_size-positive}
+use Rattle.alphamu_core.proofs.Paid.{costs_memory, costs_one, costs_none, paid_more, paid_memory, paid_all, paid_below}
+use Rattle.alphamu_core.proofs.Taken.{taken_first}
+use Rattle.plain_fronts.proofs.CardByCard.{falls, child_fits}
+use Rattle.assured_fronts.proofs.CardByCard.{stops_off, size_below, paid_start, next_is, over_no_card, over_one_more, over_all}
+use Rattle.assured_fronts.proofs.SameSearch.{same_none, same_more}
+use Rattle.assured_fronts.proofs.search.AssuredSearch.+assured.Goals as goal
+
+-- ---- the cards of a node
+
+pub by_cards-moves_after-left-requires : goal.by_cards-moves_after-left-requires
+by_cards-moves_after-left-requires t c = stops_off c.args.node.now c.args.moves c.requires.goes_on c.requires.some
+
+pub by_cards-cards-init : goal.by_cards-cards-init
+by_cards-cards-init t c = record {
+  left = record {
+    earlier = [];
+    are = sym c.choices-cards.ensures;
+    width = c.in_ok-front.ensures.width;
+    so_far = over_no_card c.args.node.now c.moves_after-left.result c.in_ok-front.front.vectors c.in_ok-front.ensures.ours c.in_ok-front.ensures.theirs;
+  };
+  paid = paid_start c.args.node.now c.moves_after-left.result c.choices-cards.result c.args.self.now.budget.now.left c.choices-cards.ensures;
+  same = same_none c.args.self.now;
+}
+
+pub by_cards-visit-requires : goal.by_cards-visit-requires
+by_cards-visit-requires t c =
+    let left = c.cards.invariant.left in
+    let fewer = falls c.args.node.now c.in_ok-child.child left.earlier c.pop_first.new.self c.in-Some.card c.front_of_no_card.ensures.a_node (next_is left c.in-Some.ensures.value) c.in_ok-child.ensures.node in
+    (omega (arith, fewer), tt)
+
+pub by_cards-with_child-requires : goal.by_cards-with_child-requires
+by_cards-with_child-requires t c =
+    let left = c.cards.invariant.left in
+    let fits = child_fits c.args.node.now c.in_ok-child.child left.earlier c.pop_first.new.self c.in-Some.card c.in_ok-child.mask c.cards.front.width c.in_ok-won.won.width
+    (next_is left c.in-Some.ensures.value) c.in_ok-child.ensures.node c.in_ok-child.ensures.mask left.width c.in_ok-won.ensures.front.width in
+    record { mask_width = fits.mask_width; child_width = fits.child_width; ours = fits.ours }
+
+pub by_cards-cards-preserved : goal.by_cards-cards-preserved
+by_cards-cards-preserved t c =
+    let left = c.cards.invariant.left in
+    let are = next_is left c.in-Some.ensures.value in
+    record {
+      left = record {
+        earlier = left.earlier ++ c.in-Some.card ∷ [];
+        are = are ∙ sym (append_assoc left.earlier (c.in-Some.card ∷ []) c.pop_first.new.self);
+        width = c.in_ok-front-2.ensures.width ∙ left.width;
+        so_far = over_one_more c.args.node.now c.in_ok-child.child c.moves_after-left.result left.earlier c.pop_first.new.self c.in-Some.card c.in_ok-child.mask c.cards.front.vectors c.in_ok-won.won.vectors c.in_ok-front-2.front.vectors
+            c.front_of_no_card.ensures.a_node are left.so_far c.in_ok-child.ensures.node c.in_ok-child.ensures.mask c.in_ok-won.ensures.front.front c.in_ok-front-2.ensures.ours c.in_ok-front-2.ensures.theirs;
+      };
+      paid = paid_more ⊥ c.args.node.now c.moves_after-left.result c.cards.invariant.paid (taken_first _ _ _ c.in-Some.ensures.value) c.in_ok-child.ensures.node c.in_ok-won.won c.in_ok-won.ensures.costs;
+      same = same_more c.cards.invariant.same c.in_ok-won.ensures.same;
+    }
+
+pub by_cards-returns-clause-front : goal.by_cards-returns-clause-front
+by_cards-returns-clause-front t c =
+    let left = c.cards.invariant.left in
+    record {
+      width = left.width;
+      front = over_all c.args.node.now c.args.moves c.moves_after-left.result left.earlier c.cards.cards c.cards.front.vectors c.front_of_no_card.ensures.a_node c.requires.goes_on c.requires.some c.moves_after-left.ensures.ours c.moves_after-left.ensures.theirs left.are c.in_default.ensures.value.0 left.so_far;
+    }
+
+-- ---- what they cost
+
+pub by_cards-returns-in_err-front-clause-costs : goal.by_cards-returns-in_err-front-clause-costs
+by_cards-returns-in_err-front-clause-costs t c =
+    let some = tree_size-positive c.args.node.now c.args.moves in
+    costs_memory ⊥ (tree_size bridge c.args.node.now c.args.moves) (c.args.self.now.budget.now.left + 1) c.args.self.now.budget.now.left c.from_residual.result c.from_residual.ensures.1 (omega arith) (omega arith)
+
+pub by_cards-returns-in_err-child-clause-costs : goal.by_cards-returns-in_err-child-clause-costs
+by_cards-returns-in_err-child-clause-costs t c =
+    let size = size_below c.args.node.now c.args.moves c.moves_after-left.result c.front_of_no_card.ensures.a_node c.requires.goes_on c.requires.some c.moves_after-left.ensures.ours c.moves_after-left.ensures.theirs in
+    paid_memory ⊥ c.args.node.now c.moves_after-left.result c.cards.invariant.paid c.args.moves size c.from_residual-in_err-child.result c.from_residual-in_err-child.ensures.1
+
+pub by_cards-returns-in_err-won-clause-costs : goal.by_cards-returns-in_err-won-clause-costs
+by_cards-returns-in_err-won-clause-costs t c =
+    let size = size_below c.args.node.now c.args.moves c.moves_after-left.result c.front_of_no_card.ensures.a_node c.requires.goes_on c.requires.some c.moves_after-left.ensures.ours c.moves_after-left.ensures.theirs in
+    paid_below ⊥ c.args.node.now c.moves_after-left.result c.cards.invariant.paid c.args.moves size (taken_first _ _ _ c.in-Some.ensures.value) c.in_ok-child.ensures.node
+    c.from_residual-in_err-won.result c.in_err-won.field-0.0 c.in_err-won.ensures.costs c.from_residual-in_err-won.ensures.1
+
+pub by_cards-returns-in_err-front-2-clause-costs : goal.by_cards-returns-in_err-front-2-clause-costs
+by_cards-returns-in_err-front-2-clause-costs t c =
+    let size = size_below c.args.node.now c.args.moves c.moves_after-left.result c.front_of_no_card.ensures.a_node c.requires.goes_on c.requires.some c.moves_after-left.ensures.ours c.moves_after-left.ensures.theirs in
+    let paid = paid_more ⊥ c.args.node.now c.moves_after-left.result c.cards.invariant.paid (taken_first _ _ _ c.in-Some.ensures.value) c.in_ok-child.ensures.node c.in_ok-won.won c.in_ok-won.ensures.costs in
+    paid_memory ⊥ c.args.node.now c.moves_after-left.result paid c.args.moves size c.from_residual-in_err-front-2.result c.from_residual-in_err-front-2.ensures.1
+
+pub by_cards-returns-in_err-front-2-clause-same : goal.by_cards-returns-in_err-front-2-clause-same
+by_cards-returns-in_err-front-2-clause-same t c = same_more c.cards.invariant.same c.in_ok-won.ensures.same
+
+pub by_cards-returns-clause-costs : goal.by_cards-returns-clause-costs
+by_cards-returns-clause-costs t c =
+    let size = size_below c.args.node.now c.args.moves c.moves_after-left.result c.front_of_no_card.ensures.a_node c.requires.goes_on c.requires.some c.moves_after-left.ensures.ours c.moves_after-left.ensures.theirs in
+    paid_all ⊥ c.args.node.now c.moves_after-left.result c.cards.invariant.paid c.args.moves size _ (λ each. absurd each)
+
+-- ---- a node
+
+pub visit-returns-in_err-enter-clause-costs : goal.visit-returns-in_err-enter-clause-costs
+visit-returns-in_err-enter-clause-costs t c =
+    costs_none ⊥ (tree_size bridge c.args.node.now c.args.moves) c.args.self.now.budget.now.left c.enter.new.self.left c.from_residual.result c.in_err-enter.field-0.0 c.from_residual.ensures.1 (tree_size-positive c.args.node.now c.args.moves) c.in_err-enter.ensures.spent.0 c.in_err-enter.ensures.spent.1
+
+pub visit-returns-in-Some-clause-costs : goal.visit-returns-in-Some-clause-costs
+visit-returns-in-Some-clause-costs t c =
+    costs_one ⊥ (tree_size bridge c.args.node.now c.args.moves) c.args.self.now.budget.now.left c.enter.new.self.left c.in-Some.front
+    (λ each. absurd each) (tree_size-positive c.args.node.now c.args.moves) c.in_ok-enter.ensures.paid
+
+pub find-returns-in_err-claimed-clause-costs : goal.find-returns-in_err-claimed-clause-costs
+find-returns-in_err-claimed-clause-costs t c =
+    let some = tree_size-positive c.args.node.now c.args.moves in
+    costs_memory ⊥ (tree_size bridge c.args.node.now c.args.moves) (c.args.self.now.budget.now.left + 1) c.args.self.now.budget.now.left c.from_residual.result c.from_residual.ensures.1 (omega arith) (omega arith)
+
+pub find-returns-in_ok-claimed-clause-costs : goal.find-returns-in_ok-claimed-clause-costs
+find-returns-in_ok-claimed-clause-costs t c =
+    costs_one ⊥ (tree_size bridge c.args.node.now c.args.moves) (c.args.self.now.budget.now.left + 1) c.args.self.now.budget.now.left c.in_ok-claimed.field-0
+    (λ each. absurd each) (tree_size-positive c.args.node.now c.args.moves) refl
+
+pub find-returns-in_err-open_stop-clause-costs : goal.find-returns-in_err-open_stop-clause-costs
+find-returns-in_err-open_stop-clause-costs t c =
+    let some = tree_size-positive c.args.node.now c.args.moves in
+    costs_memory ⊥ (tree_size bridge c.args.node.now c.args.moves) (c.args.self.now.budget.now.left + 1) c.args.self.now.budget.now.left c.from_residual-in_err-open_stop.result c.from_residual-in_err-open_stop.ensures.1 (omega arith) (omega arith)
+
+pub find-returns-in_ok-open_stop-clause-costs : goal.find-returns-in_ok-open_stop-clause-costs
+find-returns-in_ok-open_stop-clause-costs t c =
+    costs_one ⊥ (tree_size bridge c.args.node.now c.args.moves) (c.args.self.now.budget.now.left + 1) c.args.self.now.budget.now.left c.in_ok-open_stop.field-0
+    (λ each. absurd each) (tree_size-positive c.args.node.now c.args.moves) refl

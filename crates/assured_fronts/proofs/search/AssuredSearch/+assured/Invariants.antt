@@ -1,0 +1,25 @@
+use Rattle.std.proofs.Common.{◌+◌, ◌*◌, length}
+use Rattle.trick_rules.specs.Play.{cards_left}
+use Rattle.alphamu_core.proofs.Paid.{HasPaid}
+use Rattle.assured_fronts.specs.AssuredSearches.{IsSameSearch}
+use Rattle.assured_fronts.proofs.CardByCard.{CardsLeft}
+use Rattle.assured_fronts.proofs.search.AssuredSearch.+assured.Given as goal
+
+abbrev pub decreases-visit : goal.decreases-visit
+decreases-visit l = 3 * cards_left l.node.now.position + 2
+
+abbrev pub decreases-find : goal.decreases-find
+decreases-find l = 3 * cards_left l.node.now.position + 1
+
+abbrev pub decreases-by_cards : goal.decreases-by_cards
+decreases-by_cards l = 3 * cards_left l.node.now.position
+
+abbrev pub invariant-by_cards-cards : goal.invariant-by_cards-cards
+invariant-by_cards-cards l = record {
+  left : CardsLeft l.node l.left l.cards l.front;
+  paid : HasPaid ⊥ l.node l.left l.cards l.fn.self.budget.now.left l.self.budget.now.left;
+  same : IsSameSearch l.fn.self l.self;
+}
+
+abbrev pub decreases-by_cards-cards : goal.decreases-by_cards-cards
+decreases-by_cards-cards l = length l.cards

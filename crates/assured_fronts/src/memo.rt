@@ -1,0 +1,147 @@
+//! Fronts that a search has found already.
+ghost use Rattle.std.specs.Prelude.{◌≡◌, IsTrue, IfOk, IfSome};
+ghost use Rattle.assured_fronts.specs.AssuredAt.{IsAssuredAt};
+
+use alphamu_core::SearchFault;
+use pareto_fronts::Front;
+use std::alloc::{AllocError, Global};
+use std::hash::{FoldHasher, Hash, Hasher};
+use std::marker::Model;
+use trick_rules::Node;
+
+/// How many fronts are kept at most.
+const MOST_KEPT: usize = 65_536;
+
+/// A node, a number of moves, and the front of what is assured there.
+#[derive(Drop)]
+pub struct KeptFront {
+    node: Node,
+    moves: u8,
+    front: Front,
+}
+
+impl Model for KeptFront {
+    ghost use Rattle.assured_fronts.specs.AssuredAt.{KeptFrontValue, IsAssuredAt};
+
+    ghost Value = { KeptFrontValue };
+
+    ghost view = { λ kept. record {
+      node = kept.node;
+      moves = kept.moves;
+      front = kept.front;
+    } };
+
+    ghost invariant = { λ kept. IsAssuredAt kept.node kept.moves kept.front };
+}
+
+impl KeptFront {
+    fn new(node: Node, moves: u8, front: Front) -> KeptFront
+        requires { IsAssuredAt node moves front }
+    {
+        KeptFront { node, moves, front }
+    }
+
+    fn front(&self) -> &Front
+        ensures { IsAssuredAt self.now.node self.now.moves result.now }
+    {
+        &self.front
+    }
+
+    // Whether it is of this node and these moves.
+    fn is_of(&self, node: &Node, moves: u8) -> bool
+        ensures node { IsTrue result → self.now.node ≡ node.now }
+        ensures moves { IsTrue result → self.now.moves ≡ moves }
+    {
+        self.moves == moves && self.node.equals(node)
+    }
+}
+
+/// Fronts that were found, each by a slot that depends on its node and its moves.
+#[derive(Drop)]
+pub struct AssuredMemo {
+    alloc: Global,
+    slots: Vec<u32>,
+    kept: Vec<KeptFront>,
+}
+
+impl AssuredMemo {
+    /// Nothing kept yet. It takes no memory.
+    ///
+    /// No clause: what is kept is right by the entries' own invariant, however many there are.
+    pub fn new(alloc: Global) -> AssuredMemo {
+        AssuredMemo {
+            alloc,
+            slots: Vec::new(alloc),
+            kept: Vec::new(alloc),
+        }
+    }
+
+    /// The front that was found for the node with `moves` moves, if it is kept and an allocation
+    /// doesn't fail.
+    pub fn look(&self, node: &Node, moves: u8) -> Option<Front>
+        ensures { IfSome result (IsAssuredAt node.now moves) }
+    {
+        if self.slots.is_empty() {
+            return None;
+        }
+        let slot = (digest(node, moves) % self.slots.len() as u64) as usize;
+        match self.kept.get(self.slots[slot] as usize) {
+            Some(kept) if kept.is_of(node, moves) => kept.front().copy().ok(),
+            _ => None,
+        }
+    }
+
+    /// Offers what a search answers: it is kept if an allocation doesn't fail.
+    ///
+    /// No clause: a memo may forget, and no answer depends on what it keeps.
+    pub fn offer(&mut self, node: &Node, moves: u8, answer: &Result<Front, SearchFault>)
+        requires { IfOk answer.now (IsAssuredAt node.now moves) }
+    {
+        if let Ok(found) = answer {
+            let _ = self.keep(node, moves, found);
+        }
+    }
+
+    // Keeps a front instead of the one of the same slot.
+    fn keep(&mut self, node: &Node, moves: u8, front: &Front) -> Result<(), AllocError>
+        requires { IsAssuredAt node.now moves front.now }
+    {
+        if self.slots.is_empty() {
+            self.slots = free_slots(self.alloc)?;
+        }
+        let kept = KeptFront::new(node.copy(self.alloc)?, moves, front.copy()?);
+        if self.slots.is_empty() {
+            return Ok(());
+        }
+        let slot = (digest(node, moves) % self.slots.len() as u64) as usize;
+        let place = self.slots[slot] as usize;
+        if place < self.kept.len() {
+            self.kept[place] = kept;
+        } else if self.kept.len() < MOST_KEPT {
+            self.slots[slot] = self.kept.len() as u32;
+            self.kept.push(kept)?;
+        }
+        Ok(())
+    }
+}
+
+// Slots with no front.
+fn free_slots(alloc: Global) -> Result<Vec<u32>, AllocError> {
+    let mut slots = Vec::with_capacity(alloc, MOST_KEPT)?;
+    for _ in 0..MOST_KEPT {
+        slots.push(u32::MAX)?;
+    }
+    Ok(slots)
+}
+
+// A number that differs between most nodes with their moves.
+fn digest(node: &Node, moves: u8) -> u64 {
+    let position = node.position();
+    let mut hasher = FoldHasher::default();
+    position.declarer.hash(&mut hasher);
+    position.dummy.hash(&mut hasher);
+    position.unseen.hash(&mut hasher);
+    node.lefts().hash(&mut hasher);
+    hasher.write_u8(moves);
+    hasher.finish()
+}
