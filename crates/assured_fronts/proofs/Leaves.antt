@@ -45,13 +45,8 @@ both_off false b e = (refl, e)
 pub goes_on : (n : NodeValue) → claims n ≡ false → (is_some (decided n.position) ≡ false) × (is_sure_node n ≡ false)
 goes_on n e = both_off (is_some (decided n.position)) (is_sure_node n) e
 
-pub at_claim : (n : NodeValue) (moves : ℕ) (results : Vector) (front : List Vector) → IsNode n → claims n ≡ true → results ≡ map (λ s. makes s) (states n) → IsReduced (results ∷ []) front
-    → IsAssuredFront bridge is_sure_node n moves front
-at_claim n moves results front sound ends are reduced =
-    front_grows (Contains (results ∷ [])) _ front (λ v k. all.reached v k) (λ v can. all.covered v can) reduced
-  where
-    all : IsAssuredFront bridge is_sure_node n moves (results ∷ [])
-    all = subst (λ u. IsAssuredFront bridge is_sure_node n moves (u ∷ [])) (sym are) (steps.claimed n moves sound (ends_here n ends))
+pub at_claim : (n : NodeValue) (moves : ℕ) (results : Vector) → IsNode n → claims n ≡ true → results ≡ map (λ s. makes s) (states n) → IsAssuredFront bridge is_sure_node n moves (results ∷ [])
+at_claim n moves results sound ends are = subst (λ u. IsAssuredFront bridge is_sure_node n moves (u ∷ [])) (sym are) (steps.claimed n moves sound (ends_here n ends))
 
 -- ---- where one layout is played for
 

@@ -1,3 +1,4 @@
 pub mod Leaves
+pub mod MadeLayouts
 pub mod CardByCard
 pub mod SameSearch

@@ -1,6 +1,7 @@
 -- A front that is proved to be what is assured at its node.
-use Rattle.std.specs.Prelude.{◌≡◌, ℕ, Bool, is_some, ◌&&◌, ◌||◌, nat_eq, List, map, length}
+use Rattle.std.specs.Prelude.{◌≡◌, ◌⊎◌, ◌<◌, ℕ, Bool, true, is_some, ◌&&◌, ◌||◌, nat_eq, List, map, length}
 use Rattle.std.specs.Cmp.Lexicographic.{pointwise}
+use Rattle.win_vectors.specs.Vectors.{ones_of}
 use Rattle.win_vectors.specs.Fronts.{Vector}
 use Rattle.trick_rules.specs.Play.{decided, makes}
 use Rattle.trick_rules.specs.Nodes.{NodeValue, states}
@@ -23,6 +24,10 @@ pub record KeptFrontValue : Type 0 where
 -- declarer's side claims here: the result is decided, or sure
 abbrev pub claims : NodeValue → Bool
 claims n = is_some (decided n.position) || is_sure_node n
+
+-- what double dummy makes is what is assured: declarer's side claims, or one layout at most is made
+abbrev pub Settles : NodeValue → Vector → Type 0
+Settles n made = (claims n ≡ true) ⊎ (ones_of made < 2)
 
 -- the layouts that are won if the one in which Left holds these cards is played for
 abbrev pub won_playing_for : NodeValue → List ℕ → Vector

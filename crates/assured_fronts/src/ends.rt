@@ -1,8 +1,9 @@
 //! What is assured at the end of a line of play.
-ghost use Rattle.std.specs.Prelude.{◌≡◌, ◌<◌, ◌&&◌, ◌||◌, true, false, [], get_or, length, map, IfOk};
+ghost use Rattle.std.specs.Prelude.{◌≡◌, ◌<◌, ◌≤◌, ◌&&◌, ◌||◌, true, false, [], get_or, length, map, IfOk, IsTrue};
+ghost use Rattle.win_vectors.specs.Vectors.{ones_of};
 ghost use Rattle.trick_rules.specs.Play.{makes};
 ghost use Rattle.trick_rules.specs.Nodes.{states};
-ghost use Rattle.assured_fronts.specs.AssuredAt.{IsAssuredAt, claims as claims_at, won_playing_for};
+ghost use Rattle.assured_fronts.specs.AssuredAt.{IsAssuredAt, Settles, claims as claims_at, won_playing_for};
 
 use dd_solver::Solver;
 use pareto_fronts::Front;
@@ -11,8 +12,8 @@ use sure_nodes::is_sure;
 use trick_rules::Node;
 use win_vectors::WinVector;
 
-/// Whether declarer's side claims at a node: the result is decided, or sure.
-pub fn claims(node: &Node) -> bool
+// Whether declarer's side claims at a node: the result is decided, or sure.
+fn claims(node: &Node) -> bool
     ensures { result ≡ claims_at node.now }
 {
     either(node.stops(1), is_sure(node.position()))
@@ -32,8 +33,8 @@ fn both(one: bool, other: bool) -> bool
     one && other
 }
 
-// Double dummy's result in each layout.
-fn results(solver: &mut Solver, node: &Node) -> WinVector
+/// Double dummy's result in each layout.
+pub fn results(solver: &mut Solver, node: &Node) -> WinVector
     ensures { result ≡ map makes (states node.now) }
 {
     let mut made = WinVector::none(node.width());
@@ -58,28 +59,34 @@ fn played_for(node: &Node, made: WinVector, place: u16) -> WinVector
     won
 }
 
-/// What is assured where declarer's side claims: double dummy's results.
-pub fn claimed(
-    alloc: Global,
-    solver: &mut Solver,
-    node: &Node,
-    moves: u8,
-) -> Result<Front, AllocError>
-    requires { claims_at node.now ≡ true }
+/// Whether double dummy's results are what is assured, since declarer's side claims, or since one
+/// layout at most is made.
+pub fn is_settled(node: &Node, made: WinVector) -> bool
+    ensures settled { IsTrue result → Settles node.now made }
+    ensures goes_on { result ≡ false → claims_at node.now ≡ false }
+    ensures some { result ≡ false → 1 ≤ ones_of made }
+{
+    made.count() < 2 || claims(node)
+}
+
+/// What is assured there: double dummy's results.
+pub fn settled(alloc: Global, node: &Node, moves: u8, made: WinVector) -> Result<Front, AllocError>
+    requires made { made ≡ map makes (states node.now) }
+    requires settled { Settles node.now made }
     ensures { IfOk result (IsAssuredAt node.now moves) }
 {
     let mut front = Front::new(alloc, node.width());
-    front.insert(results(solver, node))?;
+    front.insert(made)?;
     Ok(front)
 }
 
 #[tactic(auto, using(crate::proofs::Leaves::played_none))]
 /// What is assured if no moves are left: the layouts that are won if one of them is played for.
-pub fn open_stop(alloc: Global, solver: &mut Solver, node: &Node) -> Result<Front, AllocError>
-    requires { claims_at node.now ≡ false }
+pub fn open_stop(alloc: Global, node: &Node, made: WinVector) -> Result<Front, AllocError>
+    requires made { made ≡ map makes (states node.now) }
+    requires goes_on { claims_at node.now ≡ false }
     ensures { IfOk result (IsAssuredAt node.now 0) }
 {
-    let made = results(solver, node);
     let mut front = Front::new(alloc, node.width());
     for place in 0..node.width() {
         front.insert(played_for(node, made, place))?;

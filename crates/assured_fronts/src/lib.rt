@@ -1,10 +1,12 @@
-//! What is assured at a node, by a recursion over its tree that remembers what it has found.
+//! What is assured at a node, by a recursion over its tree that remembers what it has found and
+//! leaves out the layouts that double dummy loses.
 //! It builds on `sure_nodes` for what is assured at bridge, on `plain_fronts` for the steps from
 //! card to card, and on `dd_solver` for double dummy.
 #![tactic(auto)]
 
 mod ends;
 mod memo;
+mod part;
 mod search;
 mod walk;
 

@@ -1,16 +1,21 @@
 //! A search for what is assured, under way.
-ghost use Rattle.std.specs.Prelude.{◌≡◌, ◌<◌, false, IfOk};
+ghost use Rattle.std.specs.Prelude.{◌≡◌, ◌<◌, ◌≤◌, false, map, IfOk};
+ghost use Rattle.win_vectors.specs.Vectors.{ones_of};
+ghost use Rattle.trick_rules.specs.Play.{makes};
+ghost use Rattle.trick_rules.specs.Nodes.{states};
 ghost use Rattle.assured_fronts.specs.AssuredAt.{IsAssuredAt, claims as claims_at};
 ghost use Rattle.assured_fronts.specs.AssuredSearches.{IsSameSearch, Pays, PaysBelow};
 
-use crate::ends::{claimed, claims, open_stop};
+use crate::ends::{is_settled, open_stop, results, settled};
 use crate::memo::AssuredMemo;
+use crate::part::{filled, part_of};
 use alphamu_core::{Budget, SearchFault};
 use dd_solver::Solver;
 use pareto_fronts::Front;
 use plain_fronts::{front_of_no_card, moves_after, with_child};
 use std::alloc::Global;
 use trick_rules::Node;
+use win_vectors::WinVector;
 
 /// What a search for what is assured works with.
 #[derive(Drop)]
@@ -31,28 +36,48 @@ impl AssuredSearch<'_> {
         ensures same_budget { self.new.budget.ghost_name ≡ self.old.budget.ghost_name }
     {
         self.budget.enter()?;
-        if let Some(front) = self.memo.look(node, moves) {
-            return Ok(front);
+        let made = results(self.solver, node);
+        if is_settled(node, made) {
+            Ok(settled(self.alloc, node, moves, made)?)
+        } else if moves == 0 {
+            Ok(open_stop(self.alloc, node, made)?)
+        } else {
+            self.in_made(node, moves, made)
         }
-        let answer = self.find(node, moves);
-        self.memo.offer(node, moves, &answer);
-        answer
     }
 
-    // Finds the front of a node that is paid for and isn't kept.
+    // The front by the layouts that double dummy makes: no other is assured. The node itself is paid
+    // for.
     #[cycle(assured)]
-    fn find(&mut self, node: &Node, moves: u8) -> Result<Front, SearchFault>
+    fn in_made(&mut self, node: &Node, moves: u8, made: WinVector) -> Result<Front, SearchFault>
+        requires goes_on { claims_at node.now ≡ false }
+        requires moves { 0 < moves }
+        requires results { made ≡ map makes (states node.now) }
+        requires some { 1 ≤ ones_of made }
         ensures front { IfOk result (IsAssuredAt node.now moves) }
         ensures costs { PaysBelow node.now moves self.old self.new result }
         ensures same { IsSameSearch self.old self.new }
     {
-        if claims(node) {
-            Ok(claimed(self.alloc, self.solver, node, moves)?)
-        } else if moves == 0 {
-            Ok(open_stop(self.alloc, self.solver, node)?)
-        } else {
-            self.by_cards(node, moves)
+        let part = part_of(self.alloc, node, made)?;
+        let front = self.recall(&part, moves)?;
+        Ok(filled(self.alloc, &front, made)?)
+    }
+
+    // The front that is kept of a node, or else the one that is found.
+    #[cycle(assured)]
+    fn recall(&mut self, node: &Node, moves: u8) -> Result<Front, SearchFault>
+        requires goes_on { claims_at node.now ≡ false }
+        requires moves { 0 < moves }
+        ensures front { IfOk result (IsAssuredAt node.now moves) }
+        ensures costs { PaysBelow node.now moves self.old self.new result }
+        ensures same { IsSameSearch self.old self.new }
+    {
+        if let Some(front) = self.memo.look(node, moves) {
+            return Ok(front);
         }
+        let answer = self.by_cards(node, moves);
+        self.memo.offer(node, moves, &answer);
+        answer
     }
 
     // The front from those after each card, with a move less at declarer's side. The node itself is

@@ -12,6 +12,6 @@ pub returns : goal.returns
 returns c =
     let all : length c.args.node.now.lefts ≤ c.loop-place.place = search rules in
     record {
-      front = played_all c.args.node.now c.loop-place.place c.loop-place.front.vectors c.width.ensures.a_node c.requires all c.loop-place.invariant.so_far;
+      front = played_all c.args.node.now c.loop-place.place c.loop-place.front.vectors c.width.ensures.a_node c.requires.goes_on all c.loop-place.invariant.so_far;
       width = c.loop-place.invariant.width;
     }

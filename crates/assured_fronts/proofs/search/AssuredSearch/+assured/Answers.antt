@@ -1,11 +1,15 @@
-use Rattle.std.proofs.Common.{◌+◌, [], ◌∷◌, ◌++◌, refl, sym, ◌∙◌, append_assoc, arith}
+use Rattle.std.proofs.Common.{◌≡◌, ◌+◌, [], ◌∷◌, ◌++◌, refl, sym, ap, ◌∙◌, append_assoc, arith}
+use Rattle.trick_rules.specs.Play.{cards_left}
+use Rattle.trick_rules.specs.Nodes.{NodeValue}
 use Rattle.strategy_games.specs.Plans.{tree_size}
 use Rattle.strategy_tree.specs.Bridge.{bridge}
 use Rattle.strategy_tree.proofs.BridgeNodes.{tree_size-positive}
-use Rattle.alphamu_core.proofs.Paid.{costs_memory, costs_one, costs_none, paid_more, paid_memory, paid_all, paid_below}
+use Rattle.alphamu_core.proofs.Paid.{costs_memory, costs_one, costs_none, costs_by_part, costs_of_part, paid_more, paid_memory, paid_all, paid_below}
 use Rattle.alphamu_core.proofs.Taken.{taken_first}
 use Rattle.plain_fronts.proofs.CardByCard.{falls, child_fits}
 use Rattle.assured_fronts.proofs.CardByCard.{stops_off, size_below, paid_start, next_is, over_no_card, over_one_more, over_all}
+use Rattle.assured_fronts.proofs.Leaves.{made_wide}
+use Rattle.assured_fronts.proofs.MadeLayouts.{part_width, part_size, part_goes_on, filled_front}
 use Rattle.assured_fronts.proofs.SameSearch.{same_none, same_more}
 use Rattle.assured_fronts.proofs.search.AssuredSearch.+assured.Goals as goal
 
@@ -97,31 +101,73 @@ by_cards-returns-clause-costs t c =
 
 -- ---- a node
 
+pub recall-returns-in-Some-clause-costs : goal.recall-returns-in-Some-clause-costs
+recall-returns-in-Some-clause-costs t c =
+    costs_one ⊥ (tree_size bridge c.args.node.now c.args.moves) (c.args.self.now.budget.now.left + 1) c.args.self.now.budget.now.left c.in-Some.front
+    (λ each. absurd each) (tree_size-positive c.args.node.now c.args.moves) refl
+
+pub in_made-part_of-requires : goal.in_made-part_of-requires
+in_made-part_of-requires t c = record { width = made_wide c.args.node.now c.args.made c.requires.results; some = c.requires.some }
+
+pub in_made-returns-in_err-part-clause-costs : goal.in_made-returns-in_err-part-clause-costs
+in_made-returns-in_err-part-clause-costs t c =
+    let some = tree_size-positive c.args.node.now c.args.moves in
+    costs_memory ⊥ (tree_size bridge c.args.node.now c.args.moves) (c.args.self.now.budget.now.left + 1) c.args.self.now.budget.now.left c.from_residual.result c.from_residual.ensures.1 (omega arith) (omega arith)
+
+pub in_made-recall-requires : goal.in_made-recall-requires
+in_made-recall-requires t c =
+    let same : cards_left c.in_ok-part.part.position ≡ cards_left c.args.node.now.position = ap (λ (n : NodeValue). cards_left n.position) c.in_ok-part.ensures.part in
+    (omega arith, (part_goes_on c.args.node.now c.args.made c.in_ok-part.part c.in_ok-part.ensures.part c.requires.goes_on, c.requires.moves))
+
+pub in_made-returns-in_err-front-clause-costs : goal.in_made-returns-in_err-front-clause-costs
+in_made-returns-in_err-front-clause-costs t c =
+    let n : NodeValue = c.args.node.now in
+    let size = part_size n c.part_of.ensures.a_node c.args.made c.requires.results c.requires.some c.in_ok-part.ensures.part c.args.moves in
+    costs_of_part ⊥ (λ each. each) (tree_size bridge c.in_ok-part.part c.args.moves) (tree_size bridge n c.args.moves) size (c.args.self.now.budget.now.left + 1) c.recall.new.self.budget.now.left
+    c.from_residual-in_err-front.result c.in_err-front.field-0.0 c.in_err-front.ensures.costs c.from_residual-in_err-front.ensures.1
+
+pub in_made-filled-requires : goal.in_made-filled-requires
+in_made-filled-requires t c = c.in_ok-front.ensures.front.width ∙ part_width c.args.node.now c.part_of.ensures.a_node c.args.made c.requires.results c.requires.some c.in_ok-part.ensures.part
+
+pub in_made-returns-in_err-filled-clause-costs : goal.in_made-returns-in_err-filled-clause-costs
+in_made-returns-in_err-filled-clause-costs t c =
+    let n : NodeValue = c.args.node.now in
+    let costs = c.in_ok-front.ensures.costs in
+    let size = part_size n c.part_of.ensures.a_node c.args.made c.requires.results c.requires.some c.in_ok-part.ensures.part c.args.moves in
+    costs_memory ⊥ (tree_size bridge n c.args.moves) (c.args.self.now.budget.now.left + 1) c.recall.new.self.budget.now.left c.from_residual-in_err-filled.result c.from_residual-in_err-filled.ensures.1 costs.never_rises (omega (arith, costs.falls, size))
+
+pub in_made-returns-clause-front : goal.in_made-returns-clause-front
+in_made-returns-clause-front t c =
+    filled_front c.args.node.now c.part_of.ensures.a_node c.args.made c.requires.results c.requires.some c.in_ok-part.ensures.part c.args.moves c.in_ok-front.front c.in_ok-filled.field-0 c.in_ok-front.ensures.front c.in_ok-filled.ensures.width c.in_ok-filled.ensures.filled
+
+pub in_made-returns-clause-costs : goal.in_made-returns-clause-costs
+in_made-returns-clause-costs t c =
+    let n : NodeValue = c.args.node.now in
+    let size = part_size n c.part_of.ensures.a_node c.args.made c.requires.results c.requires.some c.in_ok-part.ensures.part c.args.moves in
+    costs_by_part ⊥ (λ each. each) (tree_size bridge c.in_ok-part.part c.args.moves) (tree_size bridge n c.args.moves) size (c.args.self.now.budget.now.left + 1) c.recall.new.self.budget.now.left c.in_ok-front.front c.in_ok-filled.field-0 c.in_ok-front.ensures.costs
+
 pub visit-returns-in_err-enter-clause-costs : goal.visit-returns-in_err-enter-clause-costs
 visit-returns-in_err-enter-clause-costs t c =
     costs_none ⊥ (tree_size bridge c.args.node.now c.args.moves) c.args.self.now.budget.now.left c.enter.new.self.left c.from_residual.result c.in_err-enter.field-0.0 c.from_residual.ensures.1 (tree_size-positive c.args.node.now c.args.moves) c.in_err-enter.ensures.spent.0 c.in_err-enter.ensures.spent.1
 
-pub visit-returns-in-Some-clause-costs : goal.visit-returns-in-Some-clause-costs
-visit-returns-in-Some-clause-costs t c =
-    costs_one ⊥ (tree_size bridge c.args.node.now c.args.moves) c.args.self.now.budget.now.left c.enter.new.self.left c.in-Some.front
+pub visit-returns-in_err-settled-clause-costs : goal.visit-returns-in_err-settled-clause-costs
+visit-returns-in_err-settled-clause-costs t c =
+    let some = tree_size-positive c.args.node.now c.args.moves in
+    let paid = c.in_ok-enter.ensures.paid in
+    costs_memory ⊥ (tree_size bridge c.args.node.now c.args.moves) c.args.self.now.budget.now.left c.enter.new.self.left c.from_residual-in_err-settled.result c.from_residual-in_err-settled.ensures.1 (omega arith) (omega arith)
+
+pub visit-returns-in_ok-settled-clause-costs : goal.visit-returns-in_ok-settled-clause-costs
+visit-returns-in_ok-settled-clause-costs t c =
+    costs_one ⊥ (tree_size bridge c.args.node.now c.args.moves) c.args.self.now.budget.now.left c.enter.new.self.left c.in_ok-settled.field-0
     (λ each. absurd each) (tree_size-positive c.args.node.now c.args.moves) c.in_ok-enter.ensures.paid
 
-pub find-returns-in_err-claimed-clause-costs : goal.find-returns-in_err-claimed-clause-costs
-find-returns-in_err-claimed-clause-costs t c =
+pub visit-returns-in_err-open_stop-clause-costs : goal.visit-returns-in_err-open_stop-clause-costs
+visit-returns-in_err-open_stop-clause-costs t c =
     let some = tree_size-positive c.args.node.now c.args.moves in
-    costs_memory ⊥ (tree_size bridge c.args.node.now c.args.moves) (c.args.self.now.budget.now.left + 1) c.args.self.now.budget.now.left c.from_residual.result c.from_residual.ensures.1 (omega arith) (omega arith)
+    let paid = c.in_ok-enter.ensures.paid in
+    costs_memory ⊥ (tree_size bridge c.args.node.now c.args.moves) c.args.self.now.budget.now.left c.enter.new.self.left c.from_residual-in_err-open_stop.result c.from_residual-in_err-open_stop.ensures.1 (omega arith) (omega arith)
 
-pub find-returns-in_ok-claimed-clause-costs : goal.find-returns-in_ok-claimed-clause-costs
-find-returns-in_ok-claimed-clause-costs t c =
-    costs_one ⊥ (tree_size bridge c.args.node.now c.args.moves) (c.args.self.now.budget.now.left + 1) c.args.self.now.budget.now.left c.in_ok-claimed.field-0
-    (λ each. absurd each) (tree_size-positive c.args.node.now c.args.moves) refl
-
-pub find-returns-in_err-open_stop-clause-costs : goal.find-returns-in_err-open_stop-clause-costs
-find-returns-in_err-open_stop-clause-costs t c =
-    let some = tree_size-positive c.args.node.now c.args.moves in
-    costs_memory ⊥ (tree_size bridge c.args.node.now c.args.moves) (c.args.self.now.budget.now.left + 1) c.args.self.now.budget.now.left c.from_residual-in_err-open_stop.result c.from_residual-in_err-open_stop.ensures.1 (omega arith) (omega arith)
-
-pub find-returns-in_ok-open_stop-clause-costs : goal.find-returns-in_ok-open_stop-clause-costs
-find-returns-in_ok-open_stop-clause-costs t c =
-    costs_one ⊥ (tree_size bridge c.args.node.now c.args.moves) (c.args.self.now.budget.now.left + 1) c.args.self.now.budget.now.left c.in_ok-open_stop.field-0
-    (λ each. absurd each) (tree_size-positive c.args.node.now c.args.moves) refl
+pub visit-returns-in_ok-open_stop-clause-costs : goal.visit-returns-in_ok-open_stop-clause-costs
+visit-returns-in_ok-open_stop-clause-costs t c =
+    costs_one ⊥ (tree_size bridge c.args.node.now c.args.moves) c.args.self.now.budget.now.left c.enter.new.self.left c.in_ok-open_stop.field-0
+    (λ each. absurd each) (tree_size-positive c.args.node.now c.args.moves) c.in_ok-enter.ensures.paid

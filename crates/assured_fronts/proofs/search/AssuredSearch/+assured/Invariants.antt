@@ -6,13 +6,16 @@ use Rattle.assured_fronts.proofs.CardByCard.{CardsLeft}
 use Rattle.assured_fronts.proofs.search.AssuredSearch.+assured.Given as goal
 
 abbrev pub decreases-visit : goal.decreases-visit
-decreases-visit l = 3 * cards_left l.node.now.position + 2
+decreases-visit l = 4 * cards_left l.node.now.position + 3
 
-abbrev pub decreases-find : goal.decreases-find
-decreases-find l = 3 * cards_left l.node.now.position + 1
+abbrev pub decreases-in_made : goal.decreases-in_made
+decreases-in_made l = 4 * cards_left l.node.now.position + 2
+
+abbrev pub decreases-recall : goal.decreases-recall
+decreases-recall l = 4 * cards_left l.node.now.position + 1
 
 abbrev pub decreases-by_cards : goal.decreases-by_cards
-decreases-by_cards l = 3 * cards_left l.node.now.position
+decreases-by_cards l = 4 * cards_left l.node.now.position
 
 abbrev pub invariant-by_cards-cards : goal.invariant-by_cards-cards
 invariant-by_cards-cards l = record {
