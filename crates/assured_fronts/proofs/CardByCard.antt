@@ -1,22 +1,28 @@
 -- The assured front of a node, card by card.
-use Rattle.std.proofs.Common.{◌≡◌, ℕ, zero, suc, sum_by, ◌+◌, ◌-◌, ◌<◌, true, false, List, [], ◌∷◌, ◌++◌, replicate, length, sym, ap, subst, ◌∙◌, arith, append-nil, inl, inr}
+use Rattle.std.proofs.Common.{◌≡◌, ℕ, zero, suc, sum_by, ◌+◌, ◌-◌, ◌<◌, true, false, List, [], ◌∷◌, ◌++◌, replicate, length, Contains, sym, ap, subst, ◌∙◌, arith, append-nil, append_assoc, true≢false, inl, inr}
 use Rattle.std.proofs.lemmas.Bool.{cases_Bool}
-use Rattle.win_vectors.specs.Fronts.{Vector, IsFrontOf, IsReduced, meets, spreads}
+use Rattle.win_vectors.specs.Fronts.{Vector, Dominates, Covers, IsFrontOf, IsReduced, meets, spreads}
 use Rattle.pareto_fronts.specs.FrontValue.{FrontValue}
 use Rattle.trick_rules.specs.Positions.{to_play}
 use Rattle.trick_rules.specs.Play.{is_declarers}
-use Rattle.trick_rules.specs.Nodes.{NodeValue, IsNode, choices, child, child_mask}
+use Rattle.trick_rules.specs.Nodes.{NodeValue, IsNode, states, choices, child, child_mask}
 use Rattle.trick_rules.specs.Nodes as nodes
 use Rattle.strategy_games.specs.Plans.{stops, tree_size}
 use Rattle.strategy_tree.specs.Bridge.{bridge}
 use Rattle.strategy_tree.proofs.BridgeNodes.{length-states, mask-bridge, stops-bridge}
-use Rattle.alphamu_core.proofs.OpenNodes.{size_ours, size_theirs}
+use Rattle.strategy_tree.proofs.CardLists.{has_card-from_Contains}
+use Rattle.strategy_games.proofs.Lists.{Contains-append_first}
+use Rattle.strategy_games.proofs.Vectors.{Dominates-refl, Dominates-trans}
+use Rattle.strategy_games.proofs.Fronts.{front_level}
+use Rattle.alphamu_core.proofs.Judging.{ones_above}
+use Rattle.alphamu_core.proofs.OpenNodes.{size_ours, size_theirs, length-our_child}
 use Rattle.alphamu_core.proofs.Paid.{HasPaid, size_after}
 use Rattle.plain_fronts.proofs.CardByCard.{member}
-use Rattle.assured_games.specs.Assured.{IsAssuredFront}
+use Rattle.assured_games.specs.Assured.{Secures, IsAssuredFront}
+use Rattle.assured_games.proofs.Zips.{length_zip}
 use Rattle.assured_games.specs.Steps.{AssuredByCard, AssuredByReply}
 use Rattle.sure_nodes.specs.SureNodes.{is_sure_node}
-use Rattle.assured_fronts.specs.AssuredAt.{claims}
+use Rattle.assured_fronts.specs.AssuredAt.{IsAssuredAt, claims}
 use Rattle.assured_fronts.proofs.Leaves.{steps, same_front, goes_on}
 
 -- play goes on
@@ -84,6 +90,48 @@ over_all n moves m earlier rest front sound off some less same are none so_far =
           (subst (λ k. IsFrontOf (AssuredByReply bridge is_sure_node n k (choices n)) front) (same t ∙ sym more)
           (subst (λ cards. IsFrontOf (AssuredByReply bridge is_sure_node n m cards) front) all (so_far.theirs t))))
     ]
+
+-- a card more, with the front after it
+pub left_one_more : {n : NodeValue} {m card : ℕ} {cards rest : List ℕ} {front : FrontValue} (left : CardsLeft n m cards front) → cards ≡ card ∷ rest → (kept : NodeValue) (mask : Vector) (won next : FrontValue)
+    → IsNode n → kept ≡ child n card → mask ≡ child_mask n card → IsAssuredFront bridge is_sure_node kept m won.vectors → next.width ≡ front.width
+    → (is_declarers (to_play n.position) ≡ true → IsReduced (front.vectors ++ won.vectors) next.vectors) → (is_declarers (to_play n.position) ≡ false → IsReduced (meets front.vectors (spreads mask won.vectors)) next.vectors)
+    → CardsLeft n m rest next
+left_one_more {n} {m} {card} {cards} {rest} {front} left first kept mask won next sound is mask_is kept_front width union join =
+    let are = next_is left first in
+    record {
+      earlier = left.earlier ++ card ∷ [];
+      are = are ∙ sym (append_assoc left.earlier (card ∷ []) rest);
+      width = width ∙ left.width;
+      so_far = over_one_more n kept m left.earlier rest card mask front.vectors won.vectors next.vectors sound are left.so_far is mask_is kept_front union join;
+    }
+
+-- the front after all cards
+pub left_all : {n : NodeValue} {m : ℕ} {cards : List ℕ} {front : FrontValue} (left : CardsLeft n m cards front) → (moves : ℕ) → IsNode n → claims n ≡ false → 0 < moves
+    → (is_declarers (to_play n.position) ≡ true → m ≡ moves - 1) → (is_declarers (to_play n.position) ≡ false → m ≡ moves) → cards ≡ [] → IsAssuredAt n moves front
+left_all {n} {m} {cards} {front} left moves sound off some less same none = record {
+  front = over_all n moves m left.earlier cards front.vectors sound off some less same left.are none left.so_far;
+  width = left.width;
+}
+
+-- what wins every layout already is the front of all cards
+pub left_reached : {n : NodeValue} {m : ℕ} {cards : List ℕ} {front : FrontValue} (left : CardsLeft n m cards front) → is_declarers (to_play n.position) ≡ true → Covers front.vectors (replicate (length n.lefts) true) → CardsLeft n m [] front
+left_reached {n} {m} {cards} {front} left ours all = record {
+  earlier = choices n;
+  are = sym (append-nil (choices n));
+  width = left.width;
+  so_far = record {
+    ours = λ o. front_level (AssuredByCard bridge is_sure_node n m left.earlier) (AssuredByCard bridge is_sure_node n m (choices n)) front.vectors to (back o) (left.so_far.ours o);
+    theirs = λ t. absurd (true≢false (sym ours ∙ t));
+  };
+}
+  where
+    to : (v : Vector) → AssuredByCard bridge is_sure_node n m left.earlier v → (u : Vector) × AssuredByCard bridge is_sure_node n m (choices n) u × Dominates u v
+    to v a = (v, (a.0, subst (λ (xs : List ℕ). Contains xs a.0) (sym left.are) (Contains-append_first left.earlier cards a.0 a.1), a.2), Dominates-refl v)
+
+    back : is_declarers (to_play n.position) ≡ true → (v : Vector) → AssuredByCard bridge is_sure_node n m (choices n) v → (u : Vector) × AssuredByCard bridge is_sure_node n m left.earlier u × Dominates u v
+    back o v a =
+        let wide : length v ≡ length n.lefts = length_zip (λ s. Secures bridge a.2.0 s) v (states (child n a.0)) a.2.2 ∙ length-states (child n a.0) ∙ length-our_child n a.0 o (has_card-from_Contains (choices n) a.0 a.1) in
+        (all.0, (left.so_far.ours o).reached all.0 all.1, Dominates-trans all.0 (replicate (length n.lefts) true) v all.2 (ones_above (length n.lefts) v wide))
 
 -- ---- what is paid
 

@@ -15,6 +15,8 @@ use Rattle.strategy_tree.proofs.BridgeNodes.{length-states}
 use Rattle.strategy_tree.proofs.CardLists.{Contains-from_has_card}
 use Rattle.strategy_tree.proofs.Rules.{lawful, double_dummy}
 use Rattle.alphamu_core.specs.Parts.{part_of, filled_of, AreSomeLayouts}
+use Rattle.alphamu_core.specs.declared.known.Known.TheVariants as Known
+use Rattle.alphamu_core.proofs.Inherited.{known_part, known_theirs}
 use Rattle.alphamu_core.proofs.Parts.{IsPart, is_part, part_sound, states-part, smaller, length-picked}
 use Rattle.pareto_fronts.specs.FrontValue.{FrontValue}
 use Rattle.assured_games.specs.Assured.{IsAssured, IsAssuredFront}
@@ -24,7 +26,7 @@ use Rattle.sure_nodes.specs.SureNodes.{is_sure, is_sure_node}
 use Rattle.sure_nodes.proofs.Cashed.{some_state}
 use Rattle.sure_nodes.proofs.PlayedOut.{played_out}
 use Rattle.sure_nodes.proofs.SureBridge.{sure_of_all}
-use Rattle.assured_fronts.specs.AssuredAt.{IsAssuredAt, Settles, claims}
+use Rattle.assured_fronts.specs.AssuredAt.{IsAssuredAt, AllMade, Settles, claims}
 use Rattle.assured_fronts.proofs.Leaves.{made_wide, same_front, at_claim}
 
 -- ---- where one layout at most is made
@@ -108,6 +110,13 @@ leaves_out = record {
   is_sure = λ k n part. ap (λ (t : PositionValue). is_sure t) part.position;
   child = part_child;
 }
+
+-- its layouts are made, and made still after a defender's card
+pub part_made : (n : NodeValue) (made : Vector) (part : NodeValue) → part ≡ part_of n made → made ≡ map (λ s. makes s) (states n) → AllMade part
+part_made n made part is are = subst (λ (k : NodeValue). AllMade k) (sym is) (known_part n made are)
+
+pub made_after : (n : NodeValue) (card : ℕ) → IsNode n → bridge.is_decided n ≡ false → bridge.is_ours n ≡ false → (m : NodeValue) → m ≡ child n card → AllMade n → AllMade m
+made_after n card sound live theirs m is each = known_theirs n card sound live theirs m Known.AllMade is each
 
 -- declarer's side claims there as it does with all layouts
 pub part_goes_on : (n : NodeValue) (made : Vector) (part : NodeValue) → part ≡ part_of n made → claims n ≡ false → claims part ≡ false

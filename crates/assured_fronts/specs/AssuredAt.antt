@@ -1,5 +1,5 @@
 -- A front that is proved to be what is assured at its node.
-use Rattle.std.specs.Prelude.{◌≡◌, ◌⊎◌, ◌<◌, ℕ, Bool, true, is_some, ◌&&◌, ◌||◌, nat_eq, List, map, length}
+use Rattle.std.specs.Prelude.{◌≡◌, ◌⊎◌, ◌<◌, ℕ, Bool, true, is_some, ◌&&◌, ◌||◌, nat_eq, List, map, length, All}
 use Rattle.std.specs.Cmp.Lexicographic.{pointwise}
 use Rattle.win_vectors.specs.Vectors.{ones_of}
 use Rattle.win_vectors.specs.Fronts.{Vector}
@@ -24,6 +24,10 @@ pub record KeptFrontValue : Type 0 where
 -- declarer's side claims here: the result is decided, or sure
 abbrev pub claims : NodeValue → Bool
 claims n = is_some (decided n.position) || is_sure_node n
+
+-- double dummy makes each layout
+abbrev pub AllMade : NodeValue → Type 0
+AllMade n = All (λ s. makes s ≡ true) (states n)
 
 -- what double dummy makes is what is assured: declarer's side claims, or one layout at most is made
 abbrev pub Settles : NodeValue → Vector → Type 0

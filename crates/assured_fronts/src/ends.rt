@@ -1,9 +1,11 @@
 //! What is assured at the end of a line of play.
-ghost use Rattle.std.specs.Prelude.{◌≡◌, ◌<◌, ◌≤◌, ◌&&◌, ◌||◌, true, false, [], get_or, length, map, IfOk, IsTrue};
+ghost use Rattle.std.specs.Prelude.{◌≡◌, ◌<◌, ◌≤◌, ◌&&◌, ◌||◌, true, false, [], get_or, length, map, replicate, IfOk, IsTrue};
 ghost use Rattle.win_vectors.specs.Vectors.{ones_of};
-ghost use Rattle.trick_rules.specs.Play.{makes};
+ghost use Rattle.win_vectors.specs.Fronts.{Covers};
+ghost use Rattle.trick_rules.specs.Positions.{to_play};
+ghost use Rattle.trick_rules.specs.Play.{is_declarers, makes};
 ghost use Rattle.trick_rules.specs.Nodes.{states};
-ghost use Rattle.assured_fronts.specs.AssuredAt.{IsAssuredAt, Settles, claims as claims_at, won_playing_for};
+ghost use Rattle.assured_fronts.specs.AssuredAt.{IsAssuredAt, AllMade, Settles, claims as claims_at, won_playing_for};
 
 use dd_solver::Solver;
 use pareto_fronts::Front;
@@ -33,8 +35,8 @@ fn both(one: bool, other: bool) -> bool
     one && other
 }
 
-/// Double dummy's result in each layout.
-pub fn results(solver: &mut Solver, node: &Node) -> WinVector
+// Double dummy's result in each layout.
+fn judged(solver: &mut Solver, node: &Node) -> WinVector
     ensures { result ≡ map makes (states node.now) }
 {
     let mut made = WinVector::none(node.width());
@@ -42,6 +44,18 @@ pub fn results(solver: &mut Solver, node: &Node) -> WinVector
         made = made.set(place, solver.makes(node.position(), node.left(place)));
     }
     made
+}
+
+/// Double dummy's result in each layout, which needn't be asked if each is known to be made.
+pub fn results(solver: &mut Solver, node: &Node, all_made: bool) -> WinVector
+    requires { IsTrue all_made → AllMade node.now }
+    ensures { result ≡ map makes (states node.now) }
+{
+    if all_made {
+        WinVector::all(node.width())
+    } else {
+        judged(solver, node)
+    }
 }
 
 // The layouts that are won if the one at a place is played for, of those that double dummy makes.
@@ -92,4 +106,14 @@ pub fn open_stop(alloc: Global, node: &Node, made: WinVector) -> Result<Front, A
         front.insert(played_for(node, made, place))?;
     }
     Ok(front)
+}
+
+/// Whether a card more can't change the front of some cards, since it wins every layout already.
+pub fn is_reached(node: &Node, front: &Front) -> bool
+    requires { front.now.width ≡ length node.now.lefts }
+    ensures ours { IsTrue result → is_declarers (to_play node.now.position) ≡ true }
+    ensures all { IsTrue result → Covers front.now.vectors
+        (replicate (length node.now.lefts) true) }
+{
+    node.is_ours() && front.covers(&WinVector::all(node.width()))
 }

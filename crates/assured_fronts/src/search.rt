@@ -1,12 +1,12 @@
 //! A search for what is assured, under way.
-ghost use Rattle.std.specs.Prelude.{◌≡◌, ◌<◌, ◌≤◌, false, map, IfOk};
+ghost use Rattle.std.specs.Prelude.{◌≡◌, ◌<◌, ◌≤◌, false, map, IfOk, IsTrue};
 ghost use Rattle.win_vectors.specs.Vectors.{ones_of};
 ghost use Rattle.trick_rules.specs.Play.{makes};
 ghost use Rattle.trick_rules.specs.Nodes.{states};
-ghost use Rattle.assured_fronts.specs.AssuredAt.{IsAssuredAt, claims as claims_at};
+ghost use Rattle.assured_fronts.specs.AssuredAt.{IsAssuredAt, AllMade, claims as claims_at};
 ghost use Rattle.assured_fronts.specs.AssuredSearches.{IsSameSearch, Pays, PaysBelow};
 
-use crate::ends::{is_settled, open_stop, results, settled};
+use crate::ends::{is_reached, is_settled, open_stop, results, settled};
 use crate::memo::AssuredMemo;
 use crate::part::{filled, part_of};
 use alphamu_core::{Budget, SearchFault};
@@ -27,20 +27,24 @@ pub struct AssuredSearch<'a> {
 }
 
 impl AssuredSearch<'_> {
-    /// Enters a node, for which the budget pays, and finds its front.
+    /// Enters a node, for which the budget pays, and finds its front. `all_made` says that double
+    /// dummy is known to make each layout.
     #[cycle(assured)]
-    pub fn visit(&mut self, node: &Node, moves: u8) -> Result<Front, SearchFault>
+    pub fn visit(&mut self, node: &Node, moves: u8, all_made: bool) -> Result<Front, SearchFault>
+        requires { IsTrue all_made → AllMade node.now }
         ensures front { IfOk result (IsAssuredAt node.now moves) }
         ensures costs { Pays node.now moves self.old self.new result }
         ensures same { IsSameSearch self.old self.new }
         ensures same_budget { self.new.budget.ghost_name ≡ self.old.budget.ghost_name }
     {
         self.budget.enter()?;
-        let made = results(self.solver, node);
+        let made = results(self.solver, node, all_made);
         if is_settled(node, made) {
             Ok(settled(self.alloc, node, moves, made)?)
         } else if moves == 0 {
             Ok(open_stop(self.alloc, node, made)?)
+        } else if made.count() == node.width() {
+            self.recall(node, moves)
         } else {
             self.in_made(node, moves, made)
         }
@@ -63,11 +67,12 @@ impl AssuredSearch<'_> {
         Ok(filled(self.alloc, &front, made)?)
     }
 
-    // The front that is kept of a node, or else the one that is found.
+    // The front that is kept of a node at which each layout is made, or else the one that is found.
     #[cycle(assured)]
     fn recall(&mut self, node: &Node, moves: u8) -> Result<Front, SearchFault>
         requires goes_on { claims_at node.now ≡ false }
         requires moves { 0 < moves }
+        requires made { AllMade node.now }
         ensures front { IfOk result (IsAssuredAt node.now moves) }
         ensures costs { PaysBelow node.now moves self.old self.new result }
         ensures same { IsSameSearch self.old self.new }
@@ -80,12 +85,13 @@ impl AssuredSearch<'_> {
         answer
     }
 
-    // The front from those after each card, with a move less at declarer's side. The node itself is
-    // paid for.
+    // The front from those after each card, with a move less at declarer's side. A layout that is
+    // made is made still after a defender's card. The node itself is paid for.
     #[cycle(assured)]
     fn by_cards(&mut self, node: &Node, moves: u8) -> Result<Front, SearchFault>
         requires goes_on { claims_at node.now ≡ false }
         requires some { 0 < moves }
+        requires made { AllMade node.now }
         ensures front { IfOk result (IsAssuredAt node.now moves) }
         ensures costs { PaysBelow node.now moves self.old self.new result }
         ensures same { IsSameSearch self.old self.new }
@@ -95,8 +101,11 @@ impl AssuredSearch<'_> {
         let mut cards = node.choices();
         'cards: while let Some(card) = cards.pop_first() {
             let (child, mask) = node.child(self.alloc, card)?;
-            let won = self.visit(&child, left)?;
+            let won = self.visit(&child, left, !node.is_ours())?;
             front = with_child(self.alloc, node, front, &won, mask)?;
+            if is_reached(node, &front) {
+                return Ok(front);
+            }
         }
         Ok(front)
     }

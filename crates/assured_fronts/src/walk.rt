@@ -39,5 +39,5 @@ pub fn assured_front(
         budget,
         memo: &mut memo,
     };
-    search.visit(node, moves)
+    search.visit(node, moves, false)
 }

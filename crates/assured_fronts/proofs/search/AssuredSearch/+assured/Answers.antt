@@ -1,4 +1,6 @@
-use Rattle.std.proofs.Common.{◌≡◌, ◌+◌, [], ◌∷◌, ◌++◌, refl, sym, ap, ◌∙◌, append_assoc, arith}
+use Rattle.std.proofs.Common.{◌≡◌, ◌+◌, [], length, refl, sym, ap, ◌∙◌, arith, rules}
+use Rattle.std.proofs.lemmas.Bool.{not-true}
+use Rattle.win_vectors.specs.Vectors.{ones_of}
 use Rattle.trick_rules.specs.Play.{cards_left}
 use Rattle.trick_rules.specs.Nodes.{NodeValue}
 use Rattle.strategy_games.specs.Plans.{tree_size}
@@ -7,9 +9,10 @@ use Rattle.strategy_tree.proofs.BridgeNodes.{tree_size-positive}
 use Rattle.alphamu_core.proofs.Paid.{costs_memory, costs_one, costs_none, costs_by_part, costs_of_part, paid_more, paid_memory, paid_all, paid_below}
 use Rattle.alphamu_core.proofs.Taken.{taken_first}
 use Rattle.plain_fronts.proofs.CardByCard.{falls, child_fits}
-use Rattle.assured_fronts.proofs.CardByCard.{stops_off, size_below, paid_start, next_is, over_no_card, over_one_more, over_all}
-use Rattle.assured_fronts.proofs.Leaves.{made_wide}
-use Rattle.assured_fronts.proofs.MadeLayouts.{part_width, part_size, part_goes_on, filled_front}
+use Rattle.assured_fronts.proofs.CardByCard.{stops_off, size_below, paid_start, next_is, over_no_card, left_one_more, left_reached, left_all}
+use Rattle.alphamu_core.proofs.Inherited.{known_whole}
+use Rattle.assured_fronts.proofs.Leaves.{made_wide, goes_on}
+use Rattle.assured_fronts.proofs.MadeLayouts.{made_after, part_made, part_width, part_size, part_goes_on, filled_front}
 use Rattle.assured_fronts.proofs.SameSearch.{same_none, same_more}
 use Rattle.assured_fronts.proofs.search.AssuredSearch.+assured.Goals as goal
 
@@ -33,8 +36,10 @@ by_cards-cards-init t c = record {
 pub by_cards-visit-requires : goal.by_cards-visit-requires
 by_cards-visit-requires t c =
     let left = c.cards.invariant.left in
-    let fewer = falls c.args.node.now c.in_ok-child.child left.earlier c.pop_first.new.self c.in-Some.card c.front_of_no_card.ensures.a_node (next_is left c.in-Some.ensures.value) c.in_ok-child.ensures.node in
-    (omega (arith, fewer), tt)
+    let fewer = falls c.args.node.now c.in_ok-child.child left.earlier c.pop_first.new.self c.in-Some.card c.front_of_no_card.ensures.a_node (next_is left c.in-Some.ensures.value) c.in_ok-child.ensures.node in (
+      omega (arith, fewer),
+      λ known. made_after c.args.node.now c.in-Some.card c.front_of_no_card.ensures.a_node (goes_on c.args.node.now c.requires.goes_on).0 (sym c.is_ours.ensures ∙ not-true c.is_ours.result known) c.in_ok-child.child c.in_ok-child.ensures.node c.requires.made,
+    )
 
 pub by_cards-with_child-requires : goal.by_cards-with_child-requires
 by_cards-with_child-requires t c =
@@ -44,28 +49,35 @@ by_cards-with_child-requires t c =
     record { mask_width = fits.mask_width; child_width = fits.child_width; ours = fits.ours }
 
 pub by_cards-cards-preserved : goal.by_cards-cards-preserved
-by_cards-cards-preserved t c =
-    let left = c.cards.invariant.left in
-    let are = next_is left c.in-Some.ensures.value in
-    record {
-      left = record {
-        earlier = left.earlier ++ c.in-Some.card ∷ [];
-        are = are ∙ sym (append_assoc left.earlier (c.in-Some.card ∷ []) c.pop_first.new.self);
-        width = c.in_ok-front-2.ensures.width ∙ left.width;
-        so_far = over_one_more c.args.node.now c.in_ok-child.child c.moves_after-left.result left.earlier c.pop_first.new.self c.in-Some.card c.in_ok-child.mask c.cards.front.vectors c.in_ok-won.won.vectors c.in_ok-front-2.front.vectors
-            c.front_of_no_card.ensures.a_node are left.so_far c.in_ok-child.ensures.node c.in_ok-child.ensures.mask c.in_ok-won.ensures.front.front c.in_ok-front-2.ensures.ours c.in_ok-front-2.ensures.theirs;
-      };
-      paid = paid_more ⊥ c.args.node.now c.moves_after-left.result c.cards.invariant.paid (taken_first _ _ _ c.in-Some.ensures.value) c.in_ok-child.ensures.node c.in_ok-won.won c.in_ok-won.ensures.costs;
-      same = same_more c.cards.invariant.same c.in_ok-won.ensures.same;
-    }
+by_cards-cards-preserved t c = record {
+  left = left_one_more c.cards.invariant.left c.in-Some.ensures.value c.in_ok-child.child c.in_ok-child.mask c.in_ok-won.won c.in_ok-front-2.front
+      c.front_of_no_card.ensures.a_node c.in_ok-child.ensures.node c.in_ok-child.ensures.mask c.in_ok-won.ensures.front.front c.in_ok-front-2.ensures.width c.in_ok-front-2.ensures.ours c.in_ok-front-2.ensures.theirs;
+  paid = paid_more ⊥ c.args.node.now c.moves_after-left.result c.cards.invariant.paid (taken_first _ _ _ c.in-Some.ensures.value) c.in_ok-child.ensures.node c.in_ok-won.won c.in_ok-won.ensures.costs;
+  same = same_more c.cards.invariant.same c.in_ok-won.ensures.same;
+}
+
+pub by_cards-is_reached-requires : goal.by_cards-is_reached-requires
+by_cards-is_reached-requires t c = c.in_ok-front-2.ensures.width ∙ c.cards.invariant.left.width
+
+pub by_cards-returns-then-is_reached-clause-front : goal.by_cards-returns-then-is_reached-clause-front
+by_cards-returns-then-is_reached-clause-front t c =
+    let left = left_one_more c.cards.invariant.left c.in-Some.ensures.value c.in_ok-child.child c.in_ok-child.mask c.in_ok-won.won c.in_ok-front-2.front
+    c.front_of_no_card.ensures.a_node c.in_ok-child.ensures.node c.in_ok-child.ensures.mask c.in_ok-won.ensures.front.front c.in_ok-front-2.ensures.width c.in_ok-front-2.ensures.ours c.in_ok-front-2.ensures.theirs in
+    left_all (left_reached left (c.is_reached.ensures.ours c.if-is_reached.true) (c.is_reached.ensures.all c.if-is_reached.true))
+    c.args.moves c.front_of_no_card.ensures.a_node c.requires.goes_on c.requires.some c.moves_after-left.ensures.ours c.moves_after-left.ensures.theirs refl
+
+pub by_cards-returns-then-is_reached-clause-costs : goal.by_cards-returns-then-is_reached-clause-costs
+by_cards-returns-then-is_reached-clause-costs t c =
+    let size = size_below c.args.node.now c.args.moves c.moves_after-left.result c.front_of_no_card.ensures.a_node c.requires.goes_on c.requires.some c.moves_after-left.ensures.ours c.moves_after-left.ensures.theirs in
+    let paid = paid_more ⊥ c.args.node.now c.moves_after-left.result c.cards.invariant.paid (taken_first _ _ _ c.in-Some.ensures.value) c.in_ok-child.ensures.node c.in_ok-won.won c.in_ok-won.ensures.costs in
+    paid_all ⊥ c.args.node.now c.moves_after-left.result paid c.args.moves size _ (λ each. absurd each)
+
+pub by_cards-returns-then-is_reached-clause-same : goal.by_cards-returns-then-is_reached-clause-same
+by_cards-returns-then-is_reached-clause-same t c = same_more c.cards.invariant.same c.in_ok-won.ensures.same
 
 pub by_cards-returns-clause-front : goal.by_cards-returns-clause-front
 by_cards-returns-clause-front t c =
-    let left = c.cards.invariant.left in
-    record {
-      width = left.width;
-      front = over_all c.args.node.now c.args.moves c.moves_after-left.result left.earlier c.cards.cards c.cards.front.vectors c.front_of_no_card.ensures.a_node c.requires.goes_on c.requires.some c.moves_after-left.ensures.ours c.moves_after-left.ensures.theirs left.are c.in_default.ensures.value.0 left.so_far;
-    }
+    left_all c.cards.invariant.left c.args.moves c.front_of_no_card.ensures.a_node c.requires.goes_on c.requires.some c.moves_after-left.ensures.ours c.moves_after-left.ensures.theirs c.in_default.ensures.value.0
 
 -- ---- what they cost
 
@@ -116,8 +128,18 @@ in_made-returns-in_err-part-clause-costs t c =
 
 pub in_made-recall-requires : goal.in_made-recall-requires
 in_made-recall-requires t c =
-    let same : cards_left c.in_ok-part.part.position ≡ cards_left c.args.node.now.position = ap (λ (n : NodeValue). cards_left n.position) c.in_ok-part.ensures.part in
-    (omega arith, (part_goes_on c.args.node.now c.args.made c.in_ok-part.part c.in_ok-part.ensures.part c.requires.goes_on, c.requires.moves))
+    let same : cards_left c.in_ok-part.part.position ≡ cards_left c.args.node.now.position = ap (λ (n : NodeValue). cards_left n.position) c.in_ok-part.ensures.part in (
+      omega arith,
+      (
+        part_goes_on c.args.node.now c.args.made c.in_ok-part.part c.in_ok-part.ensures.part c.requires.goes_on,
+        (c.requires.moves, part_made c.args.node.now c.args.made c.in_ok-part.part c.in_ok-part.ensures.part c.requires.results),
+      ),
+    )
+
+pub visit-recall-requires : goal.visit-recall-requires
+visit-recall-requires t c =
+    let all : ones_of c.results-made.result ≡ length c.args.node.now.lefts = search rules in
+    (omega arith, (search rules, (search rules, known_whole c.args.node.now c.results-made.result c.results-made.ensures all)))
 
 pub in_made-returns-in_err-front-clause-costs : goal.in_made-returns-in_err-front-clause-costs
 in_made-returns-in_err-front-clause-costs t c =
