@@ -1,29 +1,35 @@
 -- The assured front of a node, card by card.
-use Rattle.std.proofs.Common.{◌≡◌, ℕ, zero, suc, sum_by, ◌+◌, ◌-◌, ◌<◌, true, false, List, [], ◌∷◌, ◌++◌, replicate, length, Contains, sym, ap, subst, ◌∙◌, arith, append-nil, append_assoc, true≢false, inl, inr}
+use Rattle.std.proofs.Common.{◌≡◌, ℕ, zero, suc, sum_by, ◌+◌, ◌-◌, ◌<◌, true, false, List, [], ◌∷◌, ◌++◌, replicate, length, Contains, All, refl, sym, ap, subst, ◌∙◌, arith, append-nil, append_assoc, inl, inr}
 use Rattle.std.proofs.lemmas.Bool.{cases_Bool}
+use Rattle.win_vectors.specs.Vectors.{ones_of, restrict_of}
 use Rattle.win_vectors.specs.Fronts.{Vector, Dominates, Covers, IsFrontOf, IsReduced, meets, spreads}
 use Rattle.pareto_fronts.specs.FrontValue.{FrontValue}
 use Rattle.trick_rules.specs.Positions.{to_play}
 use Rattle.trick_rules.specs.Play.{is_declarers}
 use Rattle.trick_rules.specs.Nodes.{NodeValue, IsNode, states, choices, child, child_mask}
 use Rattle.trick_rules.specs.Nodes as nodes
+use Rattle.trick_rules.proofs.PlayLaws.{a_choice_leads_to_a_node}
+use Rattle.strategy_games.specs.Games.{mask}
 use Rattle.strategy_games.specs.Plans.{stops, tree_size}
 use Rattle.strategy_tree.specs.Bridge.{bridge}
-use Rattle.strategy_tree.proofs.BridgeNodes.{length-states, mask-bridge, stops-bridge}
+use Rattle.strategy_tree.proofs.BridgeNodes.{length-states, length-child_mask, length-child_lefts, mask-bridge, stops-bridge}
 use Rattle.strategy_tree.proofs.CardLists.{has_card-from_Contains}
-use Rattle.strategy_games.proofs.Lists.{Contains-append_first}
+use Rattle.strategy_games.proofs.Lists.{Contains-append_first, All-at}
 use Rattle.strategy_games.proofs.Vectors.{Dominates-refl, Dominates-trans}
 use Rattle.strategy_games.proofs.Fronts.{front_level}
 use Rattle.alphamu_core.proofs.Judging.{ones_above}
 use Rattle.alphamu_core.proofs.OpenNodes.{size_ours, size_theirs, length-our_child}
 use Rattle.alphamu_core.proofs.Paid.{HasPaid, size_after}
+use Rattle.alphamu_core.proofs.Parts.{length-restrict}
 use Rattle.plain_fronts.proofs.CardByCard.{member}
 use Rattle.assured_games.specs.Assured.{Secures, IsAssuredFront}
 use Rattle.assured_games.proofs.Zips.{length_zip}
 use Rattle.assured_games.specs.Steps.{AssuredByCard, AssuredByReply}
 use Rattle.sure_nodes.specs.SureNodes.{is_sure_node}
-use Rattle.assured_fronts.specs.AssuredAt.{IsAssuredAt, claims}
+use Rattle.assured_fronts.specs.AssuredAt.{IsAssuredAt, AllMade, claims}
 use Rattle.assured_fronts.proofs.Leaves.{steps, same_front, goes_on}
+use Rattle.assured_fronts.proofs.MadeLayouts.{made_after}
+use Rattle.assured_fronts.proofs.OneAtATime.{one_assured, ones_restrict}
 
 -- play goes on
 pub live : (n : NodeValue) (moves : ℕ) → claims n ≡ false → 0 < moves → stops bridge n moves ≡ false
@@ -113,25 +119,48 @@ left_all {n} {m} {cards} {front} left moves sound off some less same none = reco
   width = left.width;
 }
 
--- what wins every layout already is the front of all cards
-pub left_reached : {n : NodeValue} {m : ℕ} {cards : List ℕ} {front : FrontValue} (left : CardsLeft n m cards front) → is_declarers (to_play n.position) ≡ true → Covers front.vectors (replicate (length n.lefts) true) → CardsLeft n m [] front
-left_reached {n} {m} {cards} {front} left ours all = record {
-  earlier = choices n;
-  are = sym (append-nil (choices n));
-  width = left.width;
-  so_far = record {
-    ours = λ o. front_level (AssuredByCard bridge is_sure_node n m left.earlier) (AssuredByCard bridge is_sure_node n m (choices n)) front.vectors to (back o) (left.so_far.ours o);
-    theirs = λ t. absurd (true≢false (sym ours ∙ t));
-  };
-}
-  where
-    to : (v : Vector) → AssuredByCard bridge is_sure_node n m left.earlier v → (u : Vector) × AssuredByCard bridge is_sure_node n m (choices n) u × Dominates u v
-    to v a = (v, (a.0, subst (λ (xs : List ℕ). Contains xs a.0) (sym left.are) (Contains-append_first left.earlier cards a.0 a.1), a.2), Dominates-refl v)
+-- the cards so far are enough
+module _ {n : NodeValue} {m : ℕ} {cards : List ℕ} {front : FrontValue} (left : CardsLeft n m cards front) (sound : IsNode n) (off : claims n ≡ false) (made : AllMade n) where
+  -- where declarer's side wins every layout already,
+  enough_ours : is_declarers (to_play n.position) ≡ true → Covers front.vectors (replicate (length n.lefts) true) → IsFrontOf (AssuredByCard bridge is_sure_node n m (choices n)) front.vectors
+  enough_ours o all = front_level (AssuredByCard bridge is_sure_node n m left.earlier) (AssuredByCard bridge is_sure_node n m (choices n)) front.vectors to back (left.so_far.ours o)
+    where
+      to : (v : Vector) → AssuredByCard bridge is_sure_node n m left.earlier v → (u : Vector) × AssuredByCard bridge is_sure_node n m (choices n) u × Dominates u v
+      to v a = (v, (a.0, subst (λ (xs : List ℕ). Contains xs a.0) (sym left.are) (Contains-append_first left.earlier cards a.0 a.1), a.2), Dominates-refl v)
 
-    back : is_declarers (to_play n.position) ≡ true → (v : Vector) → AssuredByCard bridge is_sure_node n m (choices n) v → (u : Vector) × AssuredByCard bridge is_sure_node n m left.earlier u × Dominates u v
-    back o v a =
-        let wide : length v ≡ length n.lefts = length_zip (λ s. Secures bridge a.2.0 s) v (states (child n a.0)) a.2.2 ∙ length-states (child n a.0) ∙ length-our_child n a.0 o (has_card-from_Contains (choices n) a.0 a.1) in
-        (all.0, (left.so_far.ours o).reached all.0 all.1, Dominates-trans all.0 (replicate (length n.lefts) true) v all.2 (ones_above (length n.lefts) v wide))
+      back : (v : Vector) → AssuredByCard bridge is_sure_node n m (choices n) v → (u : Vector) × AssuredByCard bridge is_sure_node n m left.earlier u × Dominates u v
+      back v a =
+          let wide : length v ≡ length n.lefts = length_zip (λ s. Secures bridge a.2.0 s) v (states (child n a.0)) a.2.2 ∙ length-states (child n a.0) ∙ length-our_child n a.0 o (has_card-from_Contains (choices n) a.0 a.1) in
+          (all.0, (left.so_far.ours o).reached all.0 all.1, Dominates-trans all.0 (replicate (length n.lefts) true) v all.2 (ones_above (length n.lefts) v wide))
+
+  -- or one layout at a time against the defenders
+  enough_theirs : is_declarers (to_play n.position) ≡ false → All (λ v. ones_of v < 2) front.vectors → IsFrontOf (AssuredByReply bridge is_sure_node n m (choices n)) front.vectors
+  enough_theirs t few =
+      let so = left.so_far.theirs t in
+      front_level (Contains front.vectors) (AssuredByReply bridge is_sure_node n m (choices n)) front.vectors
+      (λ v k. (v, one_each v (so.reached v k).0 (All-at (λ v. ones_of v < 2) front.vectors few v k), Dominates-refl v))
+      (λ v a. so.covered v (a.0, λ card k. a.1 card (subst (λ (xs : List ℕ). Contains xs card) (sym left.are) (Contains-append_first left.earlier cards card k))))
+      (record { reached = λ v k. k; covered = λ v k. (v, k, Dominates-refl v); apart = so.apart; ordered = so.ordered })
+    where
+      one_each : (v : Vector) → length v ≡ length (states n) → ones_of v < 2 → AssuredByReply bridge is_sure_node n m (choices n) v
+      one_each v wide one = (
+        wide,
+        λ card k.
+            let choice = has_card-from_Contains (choices n) card k in
+            let bits : mask bridge n card ≡ child_mask n card = mask-bridge n card in
+            let long : length v ≡ length (mask bridge n card) = wide ∙ length-states n ∙ sym (ap (λ (b : Vector). length b) bits ∙ length-child_mask n card) in
+            let kept : length (restrict_of v (mask bridge n card)) ≡ length (child n card).lefts = length-restrict v (mask bridge n card) long ∙ ap ones_of bits ∙ sym (length-child_lefts n card) in
+            one_assured (child n card) m (restrict_of v (mask bridge n card)) (a_choice_leads_to_a_node n card sound choice) (made_after n card sound (goes_on n off).0 t (child n card) refl made) kept
+            (let fewer = ones_restrict v (mask bridge n card) in omega (arith, one)),
+      )
+
+  pub left_enough : (is_declarers (to_play n.position) ≡ true → Covers front.vectors (replicate (length n.lefts) true)) → (is_declarers (to_play n.position) ≡ false → All (λ v. ones_of v < 2) front.vectors) → CardsLeft n m [] front
+  left_enough ours theirs = record {
+    earlier = choices n;
+    are = sym (append-nil (choices n));
+    width = left.width;
+    so_far = record { ours = λ o. enough_ours o (ours o); theirs = λ t. enough_theirs t (theirs t) };
+  }
 
 -- ---- what is paid
 

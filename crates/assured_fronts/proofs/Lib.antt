@@ -1,4 +1,5 @@
 pub mod Leaves
 pub mod MadeLayouts
+pub mod OneAtATime
 pub mod CardByCard
 pub mod SameSearch

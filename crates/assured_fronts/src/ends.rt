@@ -1,9 +1,7 @@
 //! What is assured at the end of a line of play.
-ghost use Rattle.std.specs.Prelude.{◌≡◌, ◌<◌, ◌≤◌, ◌&&◌, ◌||◌, true, false, [], get_or, length, map, replicate, IfOk, IsTrue};
+ghost use Rattle.std.specs.Prelude.{◌≡◌, ◌<◌, ◌≤◌, ◌&&◌, ◌||◌, true, false, [], get_or, length, map, IfOk, IsTrue};
 ghost use Rattle.win_vectors.specs.Vectors.{ones_of};
-ghost use Rattle.win_vectors.specs.Fronts.{Covers};
-ghost use Rattle.trick_rules.specs.Positions.{to_play};
-ghost use Rattle.trick_rules.specs.Play.{is_declarers, makes};
+ghost use Rattle.trick_rules.specs.Play.{makes};
 ghost use Rattle.trick_rules.specs.Nodes.{states};
 ghost use Rattle.assured_fronts.specs.AssuredAt.{IsAssuredAt, AllMade, Settles, claims as claims_at, won_playing_for};
 
@@ -106,14 +104,4 @@ pub fn open_stop(alloc: Global, node: &Node, made: WinVector) -> Result<Front, A
         front.insert(played_for(node, made, place))?;
     }
     Ok(front)
-}
-
-/// Whether a card more can't change the front of some cards, since it wins every layout already.
-pub fn is_reached(node: &Node, front: &Front) -> bool
-    requires { front.now.width ≡ length node.now.lefts }
-    ensures ours { IsTrue result → is_declarers (to_play node.now.position) ≡ true }
-    ensures all { IsTrue result → Covers front.now.vectors
-        (replicate (length node.now.lefts) true) }
-{
-    node.is_ours() && front.covers(&WinVector::all(node.width()))
 }

@@ -5,6 +5,7 @@
 #![tactic(auto)]
 
 mod ends;
+mod enough;
 mod memo;
 mod part;
 mod search;

@@ -9,8 +9,10 @@ use std::hash::{FoldHasher, Hash, Hasher};
 use std::marker::Model;
 use trick_rules::Node;
 
-/// How many fronts are kept at most.
-const MOST_KEPT: usize = 65_536;
+/// How many slots there are at first, and how many once half of them are taken.
+const FEW_SLOTS: usize = 1_024;
+
+const MOST_SLOTS: usize = 65_536;
 
 /// A node, a number of moves, and the front of what is assured there.
 #[derive(Drop)]
@@ -106,9 +108,7 @@ impl AssuredMemo {
     fn keep(&mut self, node: &Node, moves: u8, front: &Front) -> Result<(), AllocError>
         requires { IsAssuredAt node.now moves front.now }
     {
-        if self.slots.is_empty() {
-            self.slots = free_slots(self.alloc)?;
-        }
+        self.make_slots()?;
         let kept = KeptFront::new(node.copy(self.alloc)?, moves, front.copy()?);
         if self.slots.is_empty() {
             return Ok(());
@@ -117,18 +117,31 @@ impl AssuredMemo {
         let place = self.slots[slot] as usize;
         if place < self.kept.len() {
             self.kept[place] = kept;
-        } else if self.kept.len() < MOST_KEPT {
+        } else if self.kept.len() < MOST_SLOTS {
             self.slots[slot] = self.kept.len() as u32;
             self.kept.push(kept)?;
         }
         Ok(())
     }
+
+    // Takes the memory of the slots, if it isn't taken: of more, once many are. What is kept is
+    // forgotten then.
+    fn make_slots(&mut self) -> Result<(), AllocError> {
+        if self.slots.is_empty() {
+            self.slots = free_slots(self.alloc, FEW_SLOTS)?;
+        }
+        if self.slots.len() < MOST_SLOTS && self.kept.len() > FEW_SLOTS / 2 {
+            self.slots = free_slots(self.alloc, MOST_SLOTS)?;
+            self.kept.clear();
+        }
+        Ok(())
+    }
 }
 
-// Slots with no front.
-fn free_slots(alloc: Global) -> Result<Vec<u32>, AllocError> {
-    let mut slots = Vec::with_capacity(alloc, MOST_KEPT)?;
-    for _ in 0..MOST_KEPT {
+// This many slots with no front.
+fn free_slots(alloc: Global, count: usize) -> Result<Vec<u32>, AllocError> {
+    let mut slots = Vec::with_capacity(alloc, count)?;
+    for _ in 0..count {
         slots.push(u32::MAX)?;
     }
     Ok(slots)

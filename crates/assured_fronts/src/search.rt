@@ -6,7 +6,8 @@ ghost use Rattle.trick_rules.specs.Nodes.{states};
 ghost use Rattle.assured_fronts.specs.AssuredAt.{IsAssuredAt, AllMade, claims as claims_at};
 ghost use Rattle.assured_fronts.specs.AssuredSearches.{IsSameSearch, Pays, PaysBelow};
 
-use crate::ends::{is_reached, is_settled, open_stop, results, settled};
+use crate::ends::{is_settled, open_stop, results, settled};
+use crate::enough::are_enough;
 use crate::memo::AssuredMemo;
 use crate::part::{filled, part_of};
 use alphamu_core::{Budget, SearchFault};
@@ -103,7 +104,7 @@ impl AssuredSearch<'_> {
             let (child, mask) = node.child(self.alloc, card)?;
             let won = self.visit(&child, left, !node.is_ours())?;
             front = with_child(self.alloc, node, front, &won, mask)?;
-            if is_reached(node, &front) {
+            if are_enough(node, &front) {
                 return Ok(front);
             }
         }
