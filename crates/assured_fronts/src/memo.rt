@@ -14,6 +14,9 @@ const FEW_SLOTS: usize = 1_024;
 
 const MOST_SLOTS: usize = 65_536;
 
+/// The most vectors of a front that is kept.
+const MOST_KEPT_VECTORS: usize = 64;
+
 /// A node, a number of moves, and the front of what is assured there.
 #[derive(Drop)]
 pub struct KeptFront {
@@ -93,7 +96,7 @@ impl AssuredMemo {
         }
     }
 
-    /// Offers what a search answers: it is kept if an allocation doesn't fail.
+    /// Offers what a search answers: it is kept if it isn't too wide and an allocation doesn't fail.
     ///
     /// No clause: a memo may forget, and no answer depends on what it keeps.
     pub fn offer(&mut self, node: &Node, moves: u8, answer: &Result<Front, SearchFault>)
@@ -104,10 +107,13 @@ impl AssuredMemo {
         }
     }
 
-    // Keeps a front instead of the one of the same slot.
+    // Keeps a front instead of the one of the same slot, if it isn't too wide.
     fn keep(&mut self, node: &Node, moves: u8, front: &Front) -> Result<(), AllocError>
         requires { IsAssuredAt node.now moves front.now }
     {
+        if front.len() > MOST_KEPT_VECTORS {
+            return Ok(());
+        }
         self.make_slots()?;
         let kept = KeptFront::new(node.copy(self.alloc)?, moves, front.copy()?);
         if self.slots.is_empty() {
