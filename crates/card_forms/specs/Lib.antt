@@ -1,0 +1,4 @@
+pub mod Plain
+pub mod Records
+pub mod Objects
+pub mod Forms

@@ -1,0 +1,12 @@
+//! The cards of a root side by side in three forms: plain text, records of CSV and an object of
+//! JSON. It builds on `card_brackets` for the table, and on `csv` and `serde_json`.
+//! Its contract promises the text of each form by its definition.
+#![tactic(auto)]
+
+mod form;
+mod objects;
+mod plain;
+mod records;
+mod weight;
+
+pub use form::{Form, cards_in};

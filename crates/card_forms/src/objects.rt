@@ -1,0 +1,92 @@
+//! The cards of a root as an object of JSON.
+ghost use Rattle.std.specs.Prelude.{◌≡◌, IfOk, map, string_bytes};
+ghost use Rattle.std.specs.Str.{IsAscii};
+ghost use Rattle.serde_json.specs.View.{view};
+ghost use Rattle.card_letters.specs.Letters.{letters_of};
+ghost use Rattle.bit_letters.specs.Bits.{bit_letter};
+ghost use Rattle.card_forms.specs.Objects.{card_data, cards_data, cards_json};
+
+use crate::weight::weight_of_all;
+use bit_letters::push_bits;
+use byte_text::Text;
+use card_brackets::{CardRow, CardTable};
+use card_letters::letters_of;
+use card_sets::Card;
+use serde_json::{Value, json};
+use std::alloc::{AllocError, Global};
+use win_vectors::{Weights, WinVector};
+
+// The letters of a card as a string.
+fn card_string(alloc: Global, card: Card) -> Result<String, AllocError>
+    ensures { IfOk result (λ string. string_bytes string ≡ letters_of card) }
+{
+    String::from_utf8_lossy(alloc, &letters_of(card))
+}
+
+// The bits of a vector as a string.
+fn vector_string(alloc: Global, vector: WinVector) -> Result<String, AllocError>
+    ensures { IfOk result (λ string. string_bytes string ≡ map bit_letter vector) }
+{
+    let mut bits = Text::new(alloc);
+    push_bits(&mut bits, vector)?;
+    String::from_utf8_lossy(alloc, bits.bytes())
+}
+
+// What is known of a card.
+#[tactic(auto, unfolding(crate::specs::Objects::card_data))]
+fn card_value(alloc: Global, row: &CardRow) -> Result<Value, AllocError>
+    ensures { IfOk result (λ value. view value ≡ card_data row.now) }
+{
+    let card = card_string(alloc, row.card)?;
+    let vector = vector_string(alloc, row.vector)?;
+    json!(in alloc; {
+        "card": card,
+        "final": row.is_final(),
+        "least": row.least,
+        "most": row.most,
+        "sampled": row.sampled,
+        "vector": vector,
+    })
+}
+
+// What is known of each card.
+fn card_values(alloc: Global, rows: &Vec<CardRow>) -> Result<Vec<Value>, AllocError>
+    ensures { IfOk result (λ values. map view values.items ≡ map card_data rows.now.items) }
+{
+    let mut values = Vec::new(alloc);
+    for row in rows {
+        values.push(card_value(alloc, row)?)?;
+    }
+    Ok(values)
+}
+
+// The table as a value.
+#[tactic(auto, unfolding(crate::specs::Objects::cards_data))]
+fn cards_value(alloc: Global, weights: &Weights, table: &CardTable) -> Result<Value, AllocError>
+    ensures { IfOk result (λ value. view value ≡ cards_data weights.now table.now) }
+{
+    let cards = card_values(alloc, &table.rows)?;
+    let named = card_string(alloc, table.named)?;
+    json!(in alloc; {
+        "cards": cards,
+        "layouts": weights.width(),
+        "moves": table.moves,
+        "named": named,
+        "weight": weight_of_all(weights),
+    })
+}
+
+/// One object with a list of the cards, how many layouts there are with their weight, the number of
+/// moves, and the card that is named. The members of each object are in the order of their keys.
+/// No blanks stand between them, and a line feed at the end.
+///
+/// Errors: an allocation fails.
+#[tactic(auto, unfolding(crate::specs::Objects::cards_json))]
+pub fn cards_json(alloc: Global, weights: &Weights, table: &CardTable) -> Result<Text, AllocError>
+    ensures { IfOk result (λ text. text ≡ cards_json weights.now table.now) }
+{
+    let string = cards_value(alloc, weights, table)?.to_string(alloc)?;
+    let mut text = Text::from_bytes(alloc, string.as_bytes())?;
+    text.push(b"\n")?;
+    Ok(text)
+}
