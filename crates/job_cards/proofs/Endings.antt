@@ -9,12 +9,14 @@ use Rattle.am_answer.specs.declared.root.Root.{Root}
 use Rattle.am_answer.specs.Refusals.{root_status}
 use Rattle.card_brackets.specs.declared.table.CardTable.{CardTable}
 use Rattle.card_brackets.specs.Rows.{IsTableUpTo}
-use Rattle.job_cards.specs.Cards.{cards_text, IsCardsText, IsCardsRefusal}
+use Rattle.card_forms.specs.declared.form.Form.{Form}
+use Rattle.card_forms.specs.Forms.{cards_in}
+use Rattle.job_cards.specs.Cards.{IsCardsText, IsCardsRefusal}
 
 -- the same root, once as it is and once as it is opened
 module _ (opened root : Root) (same : opened ≡ root) (moves : ℕ) where
-  pub text_of : (table : CardTable) (text : List ℕ) → IsTableUpTo opened.kept.node opened.kept.weights moves table → text ≡ cards_text opened.kept.weights table → IsCardsText root moves text
-  text_of table text is written = subst (λ (r : Root). IsCardsText r moves text) same (table, is, written)
+  pub text_of : (form : Form) (table : CardTable) (text : List ℕ) → IsTableUpTo opened.kept.node opened.kept.weights moves table → text ≡ cards_in form opened.kept.weights table → IsCardsText root moves form text
+  text_of form table text is written = subst (λ (r : Root). IsCardsText r moves form text) same (table, is, written)
 
   refused : (s : Search) (fault : RootFault) → ((card : ℕ) → fault ≡ Spent card → IsSpentAt root.kept.node moves s.nodes card) → IsCardsRefusal root moves s (root_status fault)
   refused s (Spent card) spent = spent card refl

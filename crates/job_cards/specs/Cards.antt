@@ -1,50 +1,19 @@
--- The text of the cards of a root side by side.
-use Rattle.std.specs.Prelude.{◌≡◌, ⊤, ℕ, Bool, true, false, List, ◌++◌, length, map, sum, flat_map, codes}
-use Rattle.std.specs.Fmt.{decimal}
-use Rattle.byte_text.specs.Lines.{line_of}
-use Rattle.card_letters.specs.Letters.{letters_of}
-use Rattle.bit_letters.specs.Bits.{bit_letter}
+-- The cards of a root side by side.
+use Rattle.std.specs.Prelude.{◌≡◌, ⊤, ℕ, List}
 use Rattle.job_words.specs.declared.asks.Search.{Search}
 use Rattle.strategy_tree.specs.RootTrees.{IsSpentAt}
 use Rattle.am_answer.specs.declared.root.Root.{Root}
 use Rattle.am_answer.specs.declared.status.Status.{Status}
 use Rattle.am_answer.specs.declared.status.Status.TheVariants.{Spent, Memory}
-use Rattle.card_brackets.specs.declared.rows.CardRow.{CardRow}
 use Rattle.card_brackets.specs.declared.table.CardTable.{CardTable}
-use Rattle.card_brackets.specs.Rows.{IsTableUpTo, is_final}
+use Rattle.card_brackets.specs.Rows.{IsTableUpTo}
+use Rattle.card_forms.specs.declared.form.Form.{Form}
+use Rattle.card_forms.specs.Forms.{cards_in}
 
--- whether a row is final
-abbrev pub final_text : Bool → List ℕ
-final_text true = codes " final yes"
-final_text false = codes " final no"
-
--- the upper bound, the lower bound, and what sampling believes
-unfoldable pub bounds_text : CardRow → List ℕ
-bounds_text row = codes " most " ++ decimal row.most ++ codes " least " ++ decimal row.least ++ codes " sampled " ++ decimal row.sampled
-
--- whether the bounds are equal, and the best vector
-unfoldable pub outcome_text : CardRow → List ℕ
-outcome_text row = final_text (is_final row) ++ codes " vector " ++ map bit_letter row.vector
-
--- a card with all that
-unfoldable pub row_line : CardRow → List ℕ
-row_line row = line_of (codes "card " ++ letters_of row.card ++ bounds_text row ++ outcome_text row)
-
--- the number of moves, and how many layouts there are with their weight
-unfoldable pub cards_head : List ℕ → ℕ → List ℕ
-cards_head weights moves =
-    line_of (codes "alphamu cards 1") ++ line_of (codes "moves " ++ decimal moves)
-    ++ line_of (codes "layouts " ++ decimal (length weights) ++ codes " weight " ++ decimal (sum weights))
-
--- then a line for each card, and the card that is named
-unfoldable pub cards_text : List ℕ → CardTable → List ℕ
-cards_text weights table =
-    cards_head weights table.moves ++ flat_map row_line table.rows.items ++ line_of (codes "named " ++ letters_of table.named)
-
--- the text of a root for a limit of moves
-abbrev pub IsCardsText : Root → ℕ → List ℕ → Type 0
-IsCardsText root limit text = (table : CardTable) × IsTableUpTo root.kept.node root.kept.weights limit table
-    × (text ≡ cards_text root.kept.weights table)
+-- the text of a root for a limit of moves, in a form
+abbrev pub IsCardsText : Root → ℕ → Form → List ℕ → Type 0
+IsCardsText root limit form text = (table : CardTable) × IsTableUpTo root.kept.node root.kept.weights limit table
+    × (text ≡ cards_in form root.kept.weights table)
 
 -- why there is no text: a root card's tree, with as many moves as the limit, has more nodes than a search may enter; or an
 -- allocation failed

@@ -4,10 +4,10 @@ ghost use Rattle.job_words.specs.Asks.{IsMoves, IsSearchWithinLimits};
 ghost use Rattle.am_answer.specs.Answers.{has_choice};
 ghost use Rattle.job_cards.specs.Cards.{IsCardsText, IsCardsRefusal};
 
-use crate::text::cards_text;
 use am_answer::{Root, Status};
 use byte_text::Text;
 use card_brackets::card_table;
+use card_forms::{Form, cards_in};
 use job_words::Search;
 use root_answers::{options_of, table_of};
 use root_workers::Question;
@@ -15,14 +15,20 @@ use std::alloc::Global;
 
 /// Every legal card of a root with the bounds of the weight that it wins, for at most `moves` moves
 /// of declarer's side: the least number of moves with which each card is final, or else that one.
-/// Errors: `Spent` at a root card whose tree has more nodes than a search may enter; `Memory`. One
-/// worker does all the work.
-pub fn tell_cards(alloc: Global, root: &Root, moves: u8, search: &Search) -> Result<Text, Status>
+/// They are written in the form. One worker does all the work. Errors: `Spent` at a root card whose
+/// tree has more nodes than a search may enter; `Memory`.
+pub fn tell_cards(
+    alloc: Global,
+    root: &Root,
+    moves: u8,
+    search: &Search,
+    form: Form,
+) -> Result<Text, Status>
     requires turn { has_choice root.now.kept.node ≡ true }
     requires weighed { length root.now.kept.weights ≡ length root.now.kept.node.lefts }
     requires moves { IsMoves moves }
     requires limits { IsSearchWithinLimits search.now }
-    ensures text { IfOk result (IsCardsText root.now moves) }
+    ensures text { IfOk result (IsCardsText root.now moves form) }
     ensures refused { IfErr result (IsCardsRefusal root.now moves search.now) }
 {
     let options = options_of(search);
@@ -36,5 +42,5 @@ pub fn tell_cards(alloc: Global, root: &Root, moves: u8, search: &Search) -> Res
         table: &table,
     };
     let found = card_table(&question, &mut pass)?;
-    Ok(cards_text(alloc, question.weights, &found)?)
+    Ok(cards_in(alloc, form, question.weights, &found)?)
 }

@@ -1,1 +1,3 @@
+pub mod Parted
+pub mod Forms
 pub mod Study

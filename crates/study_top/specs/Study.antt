@@ -12,6 +12,8 @@ use Rattle.am_answer.specs.Stages.{IsReadRefusal, IsFileRefusal}
 use Rattle.job_told.specs.ToldJob.{IsToldReport}
 use Rattle.job_lines.specs.LinesJob.{IsLinesReport}
 use Rattle.job_cards.specs.Cards.{IsCardsText, IsCardsRefusal}
+use Rattle.card_forms.specs.declared.form.Form.{Form}
+use Rattle.study_top.specs.Forms.{form_of, other_words}
 use Rattle.study_top.specs.declared.job.StudyJob.{StudyJob}
 use Rattle.study_top.specs.declared.job.StudyJob.TheVariants.{Words, Lines, Cards}
 
@@ -65,12 +67,12 @@ abbrev pub IsRefusedAt : List ℕ → List ℕ → Status → (Root → Type 0) 
 IsRefusedAt deal layouts status IsRefused =
     IsFileRefusal (root_in deal layouts) status ⊎ ((root : Root) × (root_in deal layouts ≡ Ok root) × IsRefused root)
 
--- what a study's job tells of what was read
-abbrev pub IsTextOf : Option StudyJob → InputsValue → List ℕ → Type 0
-IsTextOf (Some Words) (asks.OnLayouts deal layouts (jobs.Check report)) text = IsToldAt deal layouts (λ root. IsToldReport root report text)
-IsTextOf (Some Lines) (asks.OnLayouts deal layouts (jobs.Check report)) text = IsToldAt deal layouts (λ root. IsLinesReport deal root report text)
-IsTextOf (Some Cards) (asks.OnLayouts deal layouts (jobs.Card moves search)) text = IsToldAt deal layouts (λ root. IsCardsText root moves text)
-IsTextOf _ _ text = ⊥
+-- what a study's job tells of what was read; only `cards` has forms
+abbrev pub IsTextOf : Option StudyJob → Form → InputsValue → List ℕ → Type 0
+IsTextOf (Some Words) form (asks.OnLayouts deal layouts (jobs.Check report)) text = IsToldAt deal layouts (λ root. IsToldReport root report text)
+IsTextOf (Some Lines) form (asks.OnLayouts deal layouts (jobs.Check report)) text = IsToldAt deal layouts (λ root. IsLinesReport deal root report text)
+IsTextOf (Some Cards) form (asks.OnLayouts deal layouts (jobs.Card moves search)) text = IsToldAt deal layouts (λ root. IsCardsText root moves form text)
+IsTextOf _ _ _ text = ⊥
 
 -- why it tells nothing of it: `check` refuses the report, or the tree of a card is too large
 abbrev pub IsRefusalOf : Option StudyJob → InputsValue → Status → Type 0
@@ -79,14 +81,21 @@ IsRefusalOf (Some Lines) (asks.OnLayouts deal layouts (jobs.Check report)) statu
 IsRefusalOf (Some Cards) (asks.OnLayouts deal layouts (jobs.Card moves search)) status = IsRefusedAt deal layouts status (λ root. IsCardsRefusal root moves search status)
 IsRefusalOf _ _ status = status ≡ BadWords
 
--- the text of a study: its words name files, and its job tells this of them
+-- what the words of a study ask for: this form, and these inputs, read from the files
+pub record IsAsked (words : List (List ℕ)) (files : Files) (form : Form) (inputs : InputsValue) : Type 0 where
+  pub formed : form_of (job_of (other_words words)) words ≡ Ok form
+  pub asked : inputs_read (asked_by (other_words words)) files ≡ Ok inputs
+
+-- the text of a study: its job tells this of what its words ask for
 pub record IsStudyText (words : List (List ℕ)) (files : Files) (text : List ℕ) : Type 0 where
+  pub form : Form
   pub inputs : InputsValue
-  pub asked : inputs_read (asked_by words) files ≡ Ok inputs
-  pub told : IsTextOf (job_of words) inputs text
+  pub asked : IsAsked words files form inputs
+  pub told : IsTextOf (job_of (other_words words)) form inputs text
 
 -- why there is none: the words or the files can't be read, or nothing is told of them
 abbrev pub IsStudyRefusal : List (List ℕ) → Files → Status → Type 0
 IsStudyRefusal words files status =
-    IsReadRefusal (inputs_read (asked_by words) files) status
-    ⊎ ((inputs : InputsValue) × (inputs_read (asked_by words) files ≡ Ok inputs) × IsRefusalOf (job_of words) inputs status)
+    IsReadRefusal (form_of (job_of (other_words words)) words) status
+    ⊎ IsReadRefusal (inputs_read (asked_by (other_words words)) files) status
+    ⊎ ((form : Form) × (inputs : InputsValue) × IsAsked words files form inputs × IsRefusalOf (job_of (other_words words)) inputs status)

@@ -3,7 +3,9 @@
 //! refusal.
 #![tactic(auto)]
 
+mod form;
 mod job;
+mod parted;
 mod program;
 
 pub use am_answer::Status;

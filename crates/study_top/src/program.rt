@@ -10,14 +10,18 @@ ghost use Rattle.am_answer.specs.Lines.{status_line};
 ghost use Rattle.am_answer.specs.Refusals.{IsUnread};
 ghost use Rattle.am_line.specs.Said.{IsSaid};
 ghost use Rattle.am_answer.specs.Files.{AreWithin};
+ghost use Rattle.study_top.specs.Forms.{other_words};
 ghost use Rattle.study_top.specs.Study.{asked_by as words_asked_by, IsTextOf, IsRefusalOf, IsStudyText, IsStudyRefusal};
 
+use crate::form::form_in;
 use crate::job::{StudyJob, asked_by, job_of};
+use crate::parted::parted_by;
 use am_answer::{FileWord, Inputs, Status};
 use am_inputs::{read_inputs, read_root};
 use am_line::refuse;
 use am_outside::{Shelf, Sink, write_whole};
 use byte_text::Text;
+use card_forms::Form;
 use job_cards::tell_cards;
 use job_lines::tell_lines;
 use job_told::tell_report;
@@ -29,10 +33,10 @@ fn words_in(alloc: Global, deal: &Text, layouts: &Text, report: &Text) -> Result
     requires deal_within { length deal.now < 2 ^ 32 - 1 }
     requires layouts_within { length layouts.now < 2 ^ 32 - 1 }
     requires report_within { length report.now < 2 ^ 32 - 1 }
-    ensures text { IfOk result
-        (IsTextOf (Some StudyJob.Words) (OnLayouts deal.now layouts.now (Check report.now))) }
-    ensures refused { IfErr result
-        (IsRefusalOf (Some StudyJob.Words) (OnLayouts deal.now layouts.now (Check report.now))) }
+    ensures text { IfOk result (IsTextOf (Some StudyJob.Words) Form.Text
+        (OnLayouts deal.now layouts.now (Check report.now))) }
+    ensures refused { IfErr result (IsRefusalOf (Some StudyJob.Words)
+        (OnLayouts deal.now layouts.now (Check report.now))) }
 {
     let root = read_root(alloc, deal, layouts)?;
     tell_report(alloc, &root, report)
@@ -43,10 +47,10 @@ fn lines_in(alloc: Global, deal: &Text, layouts: &Text, report: &Text) -> Result
     requires deal_within { length deal.now < 2 ^ 32 - 1 }
     requires layouts_within { length layouts.now < 2 ^ 32 - 1 }
     requires report_within { length report.now < 2 ^ 32 - 1 }
-    ensures text { IfOk result
-        (IsTextOf (Some StudyJob.Lines) (OnLayouts deal.now layouts.now (Check report.now))) }
-    ensures refused { IfErr result
-        (IsRefusalOf (Some StudyJob.Lines) (OnLayouts deal.now layouts.now (Check report.now))) }
+    ensures text { IfOk result (IsTextOf (Some StudyJob.Lines) Form.Text
+        (OnLayouts deal.now layouts.now (Check report.now))) }
+    ensures refused { IfErr result (IsRefusalOf (Some StudyJob.Lines)
+        (OnLayouts deal.now layouts.now (Check report.now))) }
 {
     let root = read_root(alloc, deal, layouts)?;
     tell_lines(alloc, deal, &root, report)
@@ -59,24 +63,30 @@ fn cards_in(
     layouts: &Text,
     moves: u8,
     search: &Search,
+    form: Form,
 ) -> Result<Text, Status>
     requires deal_within { length deal.now < 2 ^ 32 - 1 }
     requires layouts_within { length layouts.now < 2 ^ 32 - 1 }
     requires moves { IsMoves moves }
     requires limits { IsSearchWithinLimits search.now }
-    ensures text { IfOk result
-        (IsTextOf (Some StudyJob.Cards) (OnLayouts deal.now layouts.now (Card moves search.now))) }
+    ensures text { IfOk result (IsTextOf (Some StudyJob.Cards) form
+        (OnLayouts deal.now layouts.now (Card moves search.now))) }
     ensures refused { IfErr result (IsRefusalOf (Some StudyJob.Cards)
         (OnLayouts deal.now layouts.now (Card moves search.now))) }
 {
     let root = read_root(alloc, deal, layouts)?;
-    tell_cards(alloc, &root, moves, search)
+    tell_cards(alloc, &root, moves, search, form)
 }
 
 // What a job tells of what was read, or why there is nothing.
-fn text_in(alloc: Global, job: Option<StudyJob>, inputs: &Inputs) -> Result<Text, Status>
+fn text_in(
+    alloc: Global,
+    job: Option<StudyJob>,
+    form: Form,
+    inputs: &Inputs,
+) -> Result<Text, Status>
     requires { AreWithin inputs.now }
-    ensures text { IfOk result (IsTextOf job inputs.now) }
+    ensures text { IfOk result (IsTextOf job form inputs.now) }
     ensures refused { IfErr result (IsRefusalOf job inputs.now) }
 {
     let Ask::OnLayouts {
@@ -95,7 +105,7 @@ fn text_in(alloc: Global, job: Option<StudyJob>, inputs: &Inputs) -> Result<Text
             lines_in(alloc, deal, layouts, report)
         }
         (Some(StudyJob::Cards), LayoutsJob::Card { moves, search }) => {
-            cards_in(alloc, deal, layouts, *moves, search)
+            cards_in(alloc, deal, layouts, *moves, search, form)
         }
         _ => Err(Status::BadWords),
     }
@@ -110,19 +120,22 @@ fn text_for<S: Shelf>(alloc: Global, words: &[String], shelf: &mut S) -> Result<
     ensures not_done { IfErr result (λ status.
         (status ≢ Status.Done) × (status ≢ Status.Unwritten)) }
     ensures unread { (file : FileWord) → IsErrOf result (Status.Unread file)
-        → IsUnread (S.told shelf.old) (words_asked_by (texts_of words.now)) (S.faults shelf.old)
-        (S.faults shelf.new) file }
+        → IsUnread (S.told shelf.old) (words_asked_by (other_words (texts_of words.now)))
+        (S.faults shelf.old) (S.faults shelf.new) file }
     ensures same_files { S.told shelf.new ≡ S.told shelf.old }
 {
-    let asked = asked_by(alloc, words)?;
+    let parted = parted_by(alloc, "--form", words)?;
+    let job = job_of(&parted.others);
+    let form = form_in(job, &parted.values)?;
+    let asked = asked_by(alloc, &parted.others)?;
     let inputs = read_inputs(alloc, &asked, shelf)?;
-    text_in(alloc, job_of(words), &inputs)
+    text_in(alloc, job, form, &inputs)
 }
 
 /// Tells the strategies of a report, or every legal card side by side. The words are those of
 /// `check`, except that the job is `words` or `lines`, and the report is refused as `check` refuses
-/// it; or those of `card`, except that the job is `cards`. The words don't include the program's
-/// name.
+/// it; or those of `card`, except that the job is `cards`, and that `--form` may stand before the
+/// form, `text`, `csv` or `json`. The words don't include the program's name.
 ///
 /// The whole text is made before its first byte is written.
 pub fn run_study<S: Shelf, O: Sink, E: Sink>(
@@ -143,8 +156,8 @@ pub fn run_study<S: Shelf, O: Sink, E: Sink>(
         × AppendsPart (O.told out.old) text (O.told out.new)) }
     ensures untouched { (result ≢ Status.Done) → (result ≢ Status.Unwritten) → out.new ≡ out.old }
     ensures unread { (file : FileWord) → result ≡ Status.Unread file
-        → IsUnread (S.told shelf.old) (words_asked_by (texts_of words.now)) (S.faults shelf.old)
-        (S.faults shelf.new) file }
+        → IsUnread (S.told shelf.old) (words_asked_by (other_words (texts_of words.now)))
+        (S.faults shelf.old) (S.faults shelf.new) file }
     ensures unwritten { result ≡ Status.Unwritten → Rose (O.faults out.old) (O.faults out.new) }
     ensures quiet { result ≡ Status.Done → err.new ≡ err.old }
     ensures said { (result ≢ Status.Done)

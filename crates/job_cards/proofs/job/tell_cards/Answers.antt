@@ -12,4 +12,4 @@ returns-in_err-found-clause-refused c =
 
 pub returns-clause-text : goal.returns-clause-text
 returns-clause-text c =
-    text_of _ c.args.root.now c.root.view_is c.args.moves c.in_ok-found.found c.in_ok-cards_text.field-0 c.in_ok-found.ensures.table c.in_ok-cards_text.ensures
+    text_of _ c.args.root.now c.root.view_is c.args.moves c.args.form c.in_ok-found.found c.in_ok-cards_in.field-0 c.in_ok-found.ensures.table c.in_ok-cards_in.ensures
