@@ -5,12 +5,17 @@ Asks ./study for every card (`cards`) of each case in cases/ that expects a repo
 NODES nodes. In endings of at most MOST_CARDS cards a hand, with at most MOST_LAYOUTS layouts, the answer must be that of a second
 reading of the definitions (playing.py, assured.py), byte for byte. In every case with an answer PROGRAM, which is ./alphamu if
 you name none, must agree: `card` with the moves that the text says names the same card, whose weight is its `most`, and `fusion`
-believes in the same weights. A case that `card` refuses must be refused with the same line and status. The exit status is 0 only
-if nothing differs, and if at least LEAST texts were told.
+believes in the same weights. Each answer in the forms `csv` and `json` must be what Python's modules of these names write for the
+values of the text. A case that `card` refuses must be refused with the same line and status.
+Words with a `--form` that can't be right must be refused. The exit status is 0 only if nothing differs, and if at least LEAST texts
+were told.
 
 Both programs must be there and current: ./build and ./build study make them."""
+import csv
 import fnmatch
 import functools
+import io
+import json
 import os
 import re
 import sys
@@ -21,6 +26,7 @@ import assured
 import playing
 import reading
 from cases import TOP, bytes_of, expected, is_ready, names_of_cases, parser_of, run, words_of
+from jobs import REFUSED, USAGE
 from options import job_of
 
 STUDY = os.path.join(TOP, "study")
@@ -90,6 +96,49 @@ def asked(case, job, moves):
     return words + ([b"--moves", b"%d" % moves] if moves else [])
 
 
+def values_of(text):
+    """The values of a text: those of all cards together, and then those of each card."""
+    head = re.search(rb"^moves (\d+)\nlayouts (\d+) weight (\d+)$", text, re.M)
+    moves, layouts, weight = map(int, head.groups())
+    shared = {"moves": moves, "layouts": layouts, "weight": weight, "named": re.search(rb"^named (..)$", text, re.M)[1].decode()}
+    rows = re.findall(rb"^card (..) most (\d+) least (\d+) sampled (\d+) final (yes|no) vector ([01]+)$", text, re.M)
+    names = ("card", "most", "least", "sampled", "final", "vector")
+    return shared, [dict(zip(names, (card.decode(), int(most), int(least), int(sampled), final == b"yes", vector.decode())))
+                    for card, most, least, sampled, final, vector in rows]
+
+
+def csv_of(shared, rows):
+    """The records that Python's writer makes of the values."""
+    written, answers = io.StringIO(), {True: "yes", False: "no"}
+    records = [[*row.values(), row["card"] == shared["named"], shared["moves"], shared["layouts"], shared["weight"]] for row in rows]
+    writer = csv.writer(written, lineterminator="\n")
+    writer.writerow([*rows[0], "named", "moves", "layouts", "weight"])
+    writer.writerows([[answers.get(it, it) if isinstance(it, bool) else it for it in record] for record in records])
+    return written.getvalue().encode()
+
+
+def json_of(shared, rows):
+    return json.dumps({"cards": rows, **shared}, sort_keys=True, separators=(",", ":")).encode() + b"\n"
+
+
+def judge_forms(case, words, seconds, text):
+    """What the other forms of a text say otherwise."""
+    shared, rows = values_of(text)
+    wrong = []
+    for form, wanted in ((b"csv", csv_of(shared, rows)), (b"json", json_of(shared, rows)), (b"text", text)):
+        if run(STUDY, case, seconds, words=words + [b"--form", form]) != (wanted, b"", 0):
+            wrong.append(f"{case}: the form {form.decode()} differs")
+    return wrong
+
+
+def judge_words(case, words, seconds):
+    """Words with a form that can't be right, and a job that has no forms."""
+    refused = (b"", f"alphamu: {USAGE}\n".encode(), REFUSED)
+    more = ([b"--form"], [b"--form", b"xml"], [b"--form", b"CSV"], [b"--form", b""], [b"--form=csv"], [b"--form", b"csv", b"--form", b"csv"])
+    wrong = [words + it for it in more] + [asked(case, b"words", None) + [b"--report", b"none", b"--form", b"text"]]
+    return [f"{case}: taken with {b' '.join(it[-4:]).decode()}" for it in wrong if run(STUDY, case, seconds, words=it) != refused]
+
+
 def judge_others(program, case, seconds, text):
     """What `card` and `fusion` of the program say otherwise."""
     moves = int(re.search(rb"^moves (\d+)$", text, re.M)[1])
@@ -119,12 +168,15 @@ def judge(program, case, seconds):
             return [], 0
         return [f"{case}: not refused as by card"], 0
     limit = min(MOST_MOVES, int(reading.ask_of([word.decode() for word in words_of(case)])[1]["moves"]))
-    found, _, ended = run(STUDY, case, seconds, words=asked(case, b"cards", limit) + [b"--nodes", b"%d" % NODES])
+    words = asked(case, b"cards", limit) + [b"--nodes", b"%d" % NODES]
+    found, _, ended = run(STUDY, case, seconds, words=words)
     if ended == SPENT:
         return [], 0
     wanted = told(case, limit)
     wrong = [f"{case}: the cards differ"] if ended or wanted not in (None, found) else []
-    return wrong + (judge_others(program, case, seconds, found) if not ended else []), 1
+    if not ended:
+        wrong += judge_others(program, case, seconds, found) + judge_forms(case, words, seconds, found) + judge_words(case, words, seconds)
+    return wrong, 1
 
 
 def main():

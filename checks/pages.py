@@ -1,7 +1,7 @@
 #!/usr/bin/env python3
 """Runs every command that the pages for users show, and compares what it prints with what the page shows.
 
-A command is a line of README.md, docs/USING.md, docs/PROGRAMS.md or a lesson under examples/ that begins with four blanks and
+A command is a line of README.md, of USING, REFUSALS, PROGRAMS or FORMS in docs/, or of a lesson under examples/ that begins with four blanks and
 `./alphamu`, `./study`, `examples/`, `grep`, `awk`, `timeout`, `cat` or `/usr/games/dealer`. The shell runs it at the top of the repository.
 If its program isn't installed, it is counted as left out. If a block in fences follows, before the next command and before the
 next heading, the command must print the lines of the block, standard output and then standard error; a last line `..` means any
@@ -16,7 +16,7 @@ import subprocess
 import sys
 
 TOP = pathlib.Path(__file__).resolve().parent.parent
-PAGES = [*(TOP / it for it in ("README.md", "docs/USING.md", "docs/REFUSALS.md", "docs/PROGRAMS.md")), *sorted(TOP.glob("examples/**/README.md"))]
+PAGES = [*(TOP / it for it in ("README.md", "docs/USING.md", "docs/REFUSALS.md", "docs/PROGRAMS.md", "docs/FORMS.md")), *sorted(TOP.glob("examples/**/README.md"))]
 COMMAND = re.compile(r"^    ((?:\./alphamu|\./study|examples/|(?:grep|awk|timeout|cat|/usr/games/dealer) )\S*.*)$")
 
 

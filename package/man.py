@@ -7,6 +7,8 @@ TITLE, SECTION = re.compile(r"^# "), re.compile(r"^## (.*)$")
 BULLET = "\\(bu"
 # The jobs of alphamu_study, each with the job of alphamu whose words it reads.
 STUDY_JOBS = {"words": "check", "lines": "check", "cards": "card"}
+# What such a job takes beside them.
+OWN_OPTIONS = {"cards": ["[\\fB\\-\\-form\\fR \\fBtext\\fR|\\fBcsv\\fR|\\fBjson\\fR]"]}
 
 
 def escaped(text):
@@ -115,7 +117,7 @@ def usage(jobs, program, job, read):
     words += [f"[\\fB\\-\\-{it}\\fR \\fIN\\fR]" for it in allowed if it not in jobs.SEARCH or set(jobs.SEARCH) - set(allowed)]
     if set(jobs.SEARCH) <= set(allowed):
         words.append("[\\fISEARCH OPTIONS\\fR]")
-    return " ".join(words)
+    return " ".join(words + OWN_OPTIONS.get(job, []))
 
 
 def synopsis(jobs):

@@ -30,8 +30,8 @@ import man
 PROGRAMS = ("alphamu", "alphamu_study")
 DOCS = "share/doc/alphamu"
 # What people read, with the folders that come whole.
-PAGES = ("README.md", "CHANGELOG.md", "docs/USING.md", "docs/REFUSALS.md", "docs/PROGRAMS.md", "docs/SCALING.md", "docs/PROVED.md",
-         "docs/TESTED.md", "docs/SPEED.md", "docs/definitions", "bindings/README.md", "bindings/c/README.md", "examples")
+PAGES = ("README.md", "CHANGELOG.md", "docs/USING.md", "docs/REFUSALS.md", "docs/PROGRAMS.md", "docs/FORMS.md", "docs/SCALING.md",
+         "docs/PROVED.md", "docs/TESTED.md", "docs/SPEED.md", "docs/definitions", "bindings/README.md", "bindings/c/README.md", "examples")
 LINK = re.compile(r"(?<!!)\[([^]]*)\]\(([^)#\s]*)(#[^)\s]*)?\)")
 COMMAND = re.compile(r"^(    (?:timeout \d+ )?)\./(alphamu|study) ", re.M)
 INSTALLED = {"alphamu": "alphamu", "study": "alphamu_study"}
