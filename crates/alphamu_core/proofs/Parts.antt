@@ -75,7 +75,8 @@ first_layout n sound = go n.lefts sound.some
     go [] some = absurd (omega (arith, some))
     go (left ∷ lefts) some = (record { position = n.position; left = left }, Contains-here _ _)
 
-left_out : IsLeftOutByPlay bridge IsNode IsPart
+-- the nodes without some layouts, by the rules of play
+pub left_out : IsLeftOutByPlay bridge IsNode IsPart
 left_out = record {
   turn = λ k n part. ap (λ (t : PositionValue). bridge.is_ours (record { position = t; lefts = [] })) part.position;
   decided = λ k n part. ap (λ (t : PositionValue). bridge.is_decided (record { position = t; lefts = [] })) part.position;

@@ -26,3 +26,4 @@ pub use exact::exact_front;
 pub use kept::{cards_to_try, take_highest};
 pub use keys::store_key;
 pub use node_search::search;
+pub use part::{filled, part_of};

@@ -62,8 +62,8 @@ pub fn fill(alloc: Global, found: Found, made: WinVector) -> Result<Found, Alloc
     }
 }
 
-// The node with the layouts at which the vector has 1, in order.
-fn part_of(alloc: Global, node: &Node, kept: WinVector) -> Result<Node, AllocError>
+/// The node with the layouts at which the vector has 1, in order.
+pub fn part_of(alloc: Global, node: &Node, kept: WinVector) -> Result<Node, AllocError>
     requires width { length kept ≡ length node.now.lefts }
     requires some { 1 ≤ ones_of kept }
     ensures part { IfOk result (λ part. part ≡ part_at node.now kept) }
@@ -96,8 +96,8 @@ fn restricted(alloc: Global, front: &Front, kept: WinVector) -> Result<Front, Al
     Ok(part)
 }
 
-// The vectors over all layouts, with 0 at those that are left out.
-fn filled(alloc: Global, part: &Front, kept: WinVector) -> Result<Front, AllocError>
+/// The best of the vectors over all layouts, with 0 at those that are left out.
+pub fn filled(alloc: Global, part: &Front, kept: WinVector) -> Result<Front, AllocError>
     requires { part.now.width ≡ ones_of kept }
     ensures width { IfOk result (λ whole. whole.width ≡ length kept) }
     ensures filled { IfOk result (λ whole.

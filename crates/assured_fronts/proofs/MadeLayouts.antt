@@ -1,29 +1,26 @@
 -- A node of bridge cut down to the layouts that double dummy makes.
-use Rattle.std.proofs.Common.{◌≡◌, ◌∙◌, ◌<◌, ◌≤◌, ℕ, Bool, true, false, List, [], ◌∷◌, Contains, filter, length, map, refl, sym, ap, subst, true≢false, ⊎_elim, arith}
+use Rattle.std.proofs.Common.{◌≡◌, ◌∙◌, ◌<◌, ◌≤◌, ℕ, Bool, true, false, List, [], ◌∷◌, Contains, length, map, refl, sym, ap, subst, true≢false, ⊎_elim, arith}
 use Rattle.std.proofs.lemmas.Bool.{cases_lt}
 use Rattle.win_vectors.specs.Vectors.{ones_of}
 use Rattle.win_vectors.specs.Fronts.{Vector, IsReduced, Dominates}
-use Rattle.trick_rules.specs.Positions.{PositionValue, State}
-use Rattle.trick_rules.specs.Play.{makes, after_card, take_out}
-use Rattle.trick_rules.specs.Nodes.{NodeValue, IsNode, states, choices, child, is_legal}
-use Rattle.trick_rules.proofs.PlayLaws as play
+use Rattle.trick_rules.specs.Positions.{PositionValue}
+use Rattle.trick_rules.specs.Play.{makes}
+use Rattle.trick_rules.specs.Nodes.{NodeValue, IsNode, states, child}
 use Rattle.strategy_games.specs.Plans.{tree_size}
-use Rattle.strategy_games.proofs.Lists.{Contains-here, Contains-there, Contains-nil, Contains-cons, Contains-map, Contains-of_map, Contains-filter, Contains-of_filter}
+use Rattle.strategy_games.proofs.Lists.{Contains-here, Contains-there, Contains-nil, Contains-cons}
 use Rattle.strategy_games.proofs.Vectors.{Dominates-refl}
 use Rattle.strategy_tree.specs.Bridge.{bridge}
 use Rattle.strategy_tree.proofs.BridgeNodes.{length-states}
-use Rattle.strategy_tree.proofs.CardLists.{Contains-from_has_card}
 use Rattle.strategy_tree.proofs.Rules.{lawful, double_dummy}
 use Rattle.alphamu_core.specs.Parts.{part_of, filled_of, AreSomeLayouts}
 use Rattle.alphamu_core.specs.declared.known.Known.TheVariants as Known
 use Rattle.alphamu_core.proofs.Inherited.{known_part, known_theirs}
-use Rattle.alphamu_core.proofs.Parts.{IsPart, is_part, part_sound, states-part, smaller, length-picked}
+use Rattle.alphamu_core.proofs.Parts.{IsPart, left_out, is_part, part_sound, states-part, smaller, length-picked}
 use Rattle.pareto_fronts.specs.FrontValue.{FrontValue}
 use Rattle.assured_games.specs.Assured.{IsAssured, IsAssuredFront}
 use Rattle.assured_games.specs.Made.{LeavesOut}
 use Rattle.assured_games.proofs.Made.{within_made, lost_out}
 use Rattle.sure_nodes.specs.SureNodes.{is_sure, is_sure_node}
-use Rattle.sure_nodes.proofs.Cashed.{some_state}
 use Rattle.sure_nodes.proofs.PlayedOut.{played_out}
 use Rattle.sure_nodes.proofs.SureBridge.{sure_of_all}
 use Rattle.assured_fronts.specs.AssuredAt.{IsAssuredAt, AllMade, Settles, claims}
@@ -83,32 +80,15 @@ at_settled n moves made front sound are settled reduced = same_front (IsAssured 
 
 -- ---- without the layouts that are lost
 
-part_layouts : (k n : NodeValue) (s : State) → IsPart k n → Contains (states k) s → Contains (states n) s
-part_layouts k n s part among =
-    let left = Contains-of_map (λ left. record { position = k.position; left = left }) k.lefts s among in
-    subst (λ (s : State). Contains (states n) s) (ap (λ (t : PositionValue). record { position = t; left = left.0 }) (sym part.position) ∙ left.2)
-    (Contains-map (λ left. record { position = n.position; left = left }) n.lefts left.0 (part.layouts left.0 left.1))
-
-part_child : (k n : NodeValue) (card : ℕ) → IsPart k n → IsPart (child k card) (child n card)
-part_child k n card part = record {
-  position = ap (λ (t : PositionValue). after_card t card) part.position;
-  layouts = λ left among.
-      let before = Contains-of_map (take_out card) (filter (is_legal k.position card) k.lefts) left among in
-      let there = Contains-of_filter (is_legal k.position card) k.lefts before.0 before.1 in
-      subst (λ left. Contains (child n card).lefts left) before.2
-      (Contains-map (take_out card) (filter (is_legal n.position card) n.lefts) before.0
-      (Contains-filter (is_legal n.position card) n.lefts before.0 (part.layouts before.0 there.0) (subst (λ (t : PositionValue). is_legal t card before.0 ≡ true) part.position there.1)));
-}
-
 leaves_out : LeavesOut bridge IsNode is_sure_node IsPart
 leaves_out = record {
-  layouts = part_layouts;
-  some_layout = some_state;
-  choice = λ n card s sound among legal. Contains-from_has_card (choices n) card (play.what_is_legal_is_a_choice n card s sound among legal);
-  turn = λ k n part. ap (λ (t : PositionValue). bridge.is_ours (record { position = t; lefts = [] })) part.position;
-  decided = λ k n part. ap (λ (t : PositionValue). bridge.is_decided (record { position = t; lefts = [] })) part.position;
+  layouts = left_out.layouts;
+  some_layout = left_out.some_layout;
+  choice = left_out.choice;
+  turn = left_out.turn;
+  decided = left_out.decided;
   is_sure = λ k n part. ap (λ (t : PositionValue). is_sure t) part.position;
-  child = part_child;
+  child = left_out.child;
 }
 
 -- its layouts are made, and made still after a defender's card

@@ -7,7 +7,6 @@
 mod ends;
 mod enough;
 mod memo;
-mod part;
 mod search;
 mod walk;
 

@@ -9,8 +9,7 @@ ghost use Rattle.assured_fronts.specs.AssuredSearches.{IsSameSearch, Pays, PaysB
 use crate::ends::{is_settled, open_stop, results, settled};
 use crate::enough::are_enough;
 use crate::memo::AssuredMemo;
-use crate::part::{filled, part_of};
-use alphamu_core::{Budget, SearchFault};
+use alphamu_core::{Budget, SearchFault, filled, part_of};
 use dd_solver::Solver;
 use pareto_fronts::Front;
 use plain_fronts::{front_of_no_card, moves_after, with_child};
