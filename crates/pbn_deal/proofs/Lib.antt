@@ -8,6 +8,7 @@ pub mod Sound
 pub mod RowSteps
 pub mod CourseSteps
 pub mod PlaySound
+pub mod Earlier
 pub mod DealtBoards
 pub mod ReadBack
 pub mod Split

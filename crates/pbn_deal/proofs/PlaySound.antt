@@ -384,7 +384,7 @@ rows_short trump first (row ∷ rows) (suc tricks) course plays fours start read
 -- ---- a board
 
 -- a board that is dealt well keeps so whatever was played
-dealt_played : (b : BoardValue) (plays : List Played) → IsDealt b → IsDealt (record b { plays = plays })
+pub dealt_played : (b : BoardValue) (plays : List Played) → IsDealt b → IsDealt (record b { plays = plays })
 dealt_played b plays dealt = record {
   declarer_set = dealt.declarer_set;
   dummy_set = dealt.dummy_set;

@@ -3,6 +3,7 @@ pub mod Deal
 pub mod Dealing
 pub mod Writing
 pub mod Boards
+pub mod Moments
 pub mod Marks
 pub mod Tags
 pub mod Sections

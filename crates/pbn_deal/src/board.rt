@@ -1,10 +1,11 @@
 //! A board: the hands of declarer's side as they were dealt, and the play so far.
-ghost use Rattle.std.specs.Prelude.{◌≡◌};
+ghost use Rattle.std.specs.Prelude.{◌≡◌, ◌≤◌, length, IfOk};
 ghost use Rattle.pbn_deal.specs.Boards.{compass_of, seat_of, dealt_board, IsDealt, IsBoard, turn_of};
+ghost use Rattle.pbn_deal.specs.Moments.{board_before};
 
 use crate::tags::Ending;
 use card_sets::{Card, CardSet, Compass, Seat};
-use std::alloc::Global;
+use std::alloc::{AllocError, Global};
 use std::marker::Model;
 use trick_rules::{Trick, Trump};
 
@@ -196,6 +197,24 @@ impl Board {
         ensures sound { IsBoard self.now }
     {
         &self.plays
+    }
+
+    /// The board as it was before the card at a place of its play, which is counted from 0. The
+    /// place may be the one after the last card.
+    pub fn before(&self, alloc: Global, place: usize) -> Result<Board, AllocError>
+        requires { place ≤ length self.now.plays }
+        ensures { IfOk result (λ board. board ≡ board_before self.now place) }
+    {
+        Ok(Board {
+            declarer: self.declarer,
+            trump: self.trump,
+            need: self.need,
+            leader: self.leader,
+            declarer_hand: self.declarer_hand,
+            dummy_hand: self.dummy_hand,
+            unseen: self.unseen,
+            plays: Vec::from_slice(alloc, &self.plays[..place])?,
+        })
     }
 
     /// The seat to play after the plays: `None` exactly when the play is over. It takes no memory.
