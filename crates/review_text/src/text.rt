@@ -1,0 +1,123 @@
+//! The lines of a review.
+ghost use Rattle.std.specs.Prelude.{◌≡◌, ◌++◌, IfOk, OnOk, flat_map};
+ghost use Rattle.std.specs.Fmt.{decimal};
+ghost use Rattle.review_text.specs.Texts.{costly_among, greatest_cost, turn_text, cards_text};
+ghost use Rattle.review_text.specs.Texts.{cost_text, decision_line, last_line, review_text};
+
+use crate::reviewed::Reviewed;
+use byte_text::Text;
+use card_letters::{compass_letter, letters_of};
+use std::alloc::{AllocError, Global};
+
+// Appends a word and a number.
+fn push_number(text: &mut Text, alloc: Global, word: &[u8], number: u64) -> Result<(), AllocError>
+    ensures { OnOk result (text.new ≡ text.old ++ word.now ++ decimal number) }
+{
+    text.push(word)?;
+    text.push_number(alloc, number)
+}
+
+// Appends which card it was, and who played it.
+#[tactic(auto, unfolding(crate::specs::Texts::turn_text))]
+fn push_turn(text: &mut Text, alloc: Global, told: &Reviewed) -> Result<(), AllocError>
+    ensures { OnOk result (text.new ≡ text.old ++ turn_text told.now) }
+{
+    push_number(text, alloc, b"card ", u64::from(told.number))?;
+    push_number(text, alloc, b" trick ", u64::from(told.trick))?;
+    text.push(b" seat ")?;
+    text.push(&[compass_letter(told.seat)])
+}
+
+// Appends the card played and the card named.
+#[tactic(auto, unfolding(crate::specs::Texts::cards_text))]
+fn push_cards(text: &mut Text, alloc: Global, told: &Reviewed) -> Result<(), AllocError>
+    ensures { OnOk result (text.new ≡ text.old ++ cards_text told.now) }
+{
+    text.push(b" played ")?;
+    text.push(&letters_of(told.played))?;
+    push_number(text, alloc, b" most ", u64::from(told.most))?;
+    push_number(text, alloc, b" least ", u64::from(told.least))?;
+    text.push(b" named ")?;
+    text.push(&letters_of(told.named))?;
+    push_number(text, alloc, b" most ", u64::from(told.named_most))
+}
+
+// Appends the layouts, and what the card cost.
+#[tactic(auto, unfolding(crate::specs::Texts::cost_text))]
+fn push_cost(text: &mut Text, alloc: Global, told: &Reviewed) -> Result<(), AllocError>
+    ensures { OnOk result (text.new ≡ text.old ++ cost_text told.now) }
+{
+    push_number(text, alloc, b" layouts ", u64::from(told.layouts))?;
+    push_number(text, alloc, b" weight ", u64::from(told.weight))?;
+    push_number(text, alloc, b" cost ", u64::from(told.cost()))
+}
+
+// Appends the line of a decision.
+#[tactic(auto, unfolding(crate::specs::Texts::decision_line))]
+fn push_decision(text: &mut Text, alloc: Global, told: &Reviewed) -> Result<(), AllocError>
+    ensures { OnOk result (text.new ≡ text.old ++ decision_line told.now) }
+{
+    push_turn(text, alloc, told)?;
+    push_cards(text, alloc, told)?;
+    push_cost(text, alloc, told)?;
+    text.push(b"\n")
+}
+
+// Appends the lines of all decisions.
+fn push_decisions(text: &mut Text, alloc: Global, told: &[Reviewed]) -> Result<(), AllocError>
+    ensures { OnOk result (text.new ≡ text.old ++ flat_map decision_line told.now) }
+{
+    for decision in told {
+        push_decision(text, alloc, decision)?;
+    }
+    Ok(())
+}
+
+// How many decisions cost something.
+fn costly_among(told: &[Reviewed]) -> usize
+    ensures { result ≡ costly_among told.now }
+{
+    told.iter().filter(|decision| decision.cost() > 0).count()
+}
+
+// The greatest cost of a decision.
+fn greatest_cost(told: &[Reviewed]) -> u32
+    ensures { result ≡ greatest_cost told.now }
+{
+    let mut greatest = 0;
+    for decision in told {
+        greatest = decision.cost().max(greatest);
+    }
+    greatest
+}
+
+// Appends the last line.
+#[tactic(auto, unfolding(crate::specs::Texts::last_line))]
+fn push_last(text: &mut Text, alloc: Global, told: &[Reviewed]) -> Result<(), AllocError>
+    ensures { OnOk result (text.new ≡ text.old ++ last_line told.now) }
+{
+    push_number(text, alloc, b"decisions ", told.len() as u64)?;
+    push_number(text, alloc, b" costly ", costly_among(told) as u64)?;
+    push_number(text, alloc, b" greatest ", u64::from(greatest_cost(told)))?;
+    text.push(b"\n")
+}
+
+/// A line for each decision, with the card played, the card named and what the card cost. Before
+/// them stands the greatest number of moves, and behind them how many decisions there are, how many
+/// of them cost something, and the greatest cost.
+#[tactic(auto, unfolding(crate::specs::Texts::review_text))]
+pub fn review_text(alloc: Global, moves: u8, told: &[Reviewed]) -> Result<Text, AllocError>
+    ensures { IfOk result (λ text. text ≡ review_text moves told.now) }
+{
+    let mut text = Text::new(alloc);
+    push_number(
+        &mut text,
+        alloc,
+        b"alphamu review 1\nmoves ",
+        u64::from(moves),
+    )?;
+    text.push(b"\n")?;
+    push_decisions(&mut text, alloc, told)?;
+    push_last(&mut text, alloc, told)?;
+    Ok(text)
+}
