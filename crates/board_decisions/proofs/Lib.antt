@@ -1,1 +1,2 @@
 pub mod TwoCards
+pub mod Listed

@@ -1,7 +1,7 @@
 use Rattle.std.proofs.Common.{arith}
 use Rattle.std.proofs.lemmas.Bool.{ltb-true, lt-ltb}
 use Rattle.board_decisions.proofs.TwoCards.{two_from_count, count_from_two}
-use Rattle.board_decisions.proofs.decisions.has_two_cards.Goals as goal
+use Rattle.board_decisions.proofs.moments.has_two_cards.Goals as goal
 
 pub returns : goal.returns
 returns c =

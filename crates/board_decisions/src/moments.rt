@@ -9,7 +9,7 @@ ghost use Rattle.board_decisions.specs.Decisions.{IsOurs, IsChosen};
 use card_sets::{Card, Seat};
 use equal_cards::one_of_equals;
 use layout_list::{Kept, LayoutFault, layouts};
-use pbn_deal::{Board, Played};
+use pbn_deal::Board;
 use std::alloc::Global;
 use trick_rules::Node;
 
@@ -20,12 +20,12 @@ pub fn trick_of(place: u16) -> u16
     place / 4 + 1
 }
 
-/// Whether the card at a place of the play is declarer's or dummy's, in this trick or a later one.
-pub fn is_turn(from: u8, place: u16, played: Played) -> bool
-    ensures { IsTrue result
-        ↔ ((is_declarers played.seat ≡ true) × (from ≤ trick_of place)) }
+/// Whether a card at a place of the play, by this seat, is declarer's or dummy's in this trick or a
+/// later one.
+pub fn is_turn(from: u8, place: u16, seat: Seat) -> bool
+    ensures { IsTrue result ↔ ((is_declarers seat ≡ true) × (from ≤ trick_of place)) }
 {
-    matches!(played.seat, Seat::Declarer | Seat::Dummy) && u16::from(from) <= trick_of(place)
+    matches!(seat, Seat::Declarer | Seat::Dummy) && u16::from(from) <= trick_of(place)
 }
 
 /// The layouts of a file, read as for the board just before the card at a place of its play, which
