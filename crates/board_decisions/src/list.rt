@@ -50,8 +50,8 @@ fn decision_at(
 /// The decisions of declarer's side in the play of a board, from a trick on, in the order of play.
 /// The bytes are those of the layout file. Tricks are counted from 1.
 ///
-/// Errors: those of `layouts`, just before the first card of declarer's side at which it is
-/// refused. If no card is declarer's side's, the file isn't read.
+/// Errors: those of `layouts`, just before the first card of declarer's side at which the file is
+/// refused. If declarer's side has played no card from that trick on, the file isn't read.
 pub fn decisions(
     alloc: Global,
     bytes: &[u8],
