@@ -11,6 +11,7 @@ mod pbn;
 mod plans;
 mod search;
 mod store;
+mod words;
 
 use std::alloc::Global;
 use std::env;

@@ -3,6 +3,7 @@
 mod wide;
 mod workload;
 
+use crate::words::choice_and_numbers;
 use byte_text::Text;
 use std::alloc::Global;
 use wide::plan_of_lines;
@@ -11,15 +12,7 @@ use workload::{is_read_back, line_count, read_often, write_often};
 /// The words: `write` or `read`, how many lines the plan has, and how many rounds of 100,000
 /// lines.
 pub fn run(rt: &impl Print, alloc: Global, words: &[&str]) -> anyhow::Result<()> {
-    let mut reads = false;
-    let mut numbers = [0u64; 2];
-    for (place, word) in words.iter().enumerate() {
-        if place == 0 {
-            reads = *word == "read";
-        } else if place <= 2 {
-            numbers[place - 1] = word.parse()?;
-        }
-    }
+    let (reads, numbers) = choice_and_numbers(words, "read")?;
     let plan = plan_of_lines(alloc, numbers[0])?;
     let mut text = Text::new(alloc);
     plan.lines(alloc, &mut text)?;
