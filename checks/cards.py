@@ -5,10 +5,10 @@ Asks ./study for every card (`cards`) of each case in cases/ that expects a repo
 NODES nodes. In endings of at most MOST_CARDS cards a hand, with at most MOST_LAYOUTS layouts, the answer must be that of a second
 reading of the definitions (playing.py, assured.py), byte for byte. In every case with an answer PROGRAM, which is ./alphamu if
 you name none, must agree: `card` with the moves that the text says names the same card, whose weight is its `most`, and `fusion`
-believes in the same weights. Each answer in the forms `csv` and `json` must be what Python's modules of these names write for the
-values of the text. A case that `card` refuses must be refused with the same line and status.
-Words with a `--form` that can't be right must be refused. The exit status is 0 only if nothing differs, and if at least LEAST texts
-were told.
+believes in the same weights. Each is asked again with three choices of the options for the search, which may change no byte. Each
+answer in the forms `csv` and `json` must be what Python's modules of these names write for the values of the text. A case that
+`card` refuses must be refused with the same line and status. Words with a `--form` that can't be right must be refused. The exit
+status is 0 only if nothing differs, and if at least LEAST texts were told.
 
 Both programs must be there and current: ./build and ./build study make them."""
 import csv
@@ -27,7 +27,7 @@ import playing
 import reading
 from cases import TOP, bytes_of, expected, is_ready, names_of_cases, parser_of, run, words_of
 from jobs import REFUSED, USAGE
-from options import job_of
+from options import ONE_WORKER, choices_for, job_of
 
 STUDY = os.path.join(TOP, "study")
 MOST_CARDS, MOST_LAYOUTS, MOST_MOVES, NODES, LEAST = 3, 6, 4, 20000, 70
@@ -156,7 +156,15 @@ def judge_others(program, case, seconds, text):
     return wrong
 
 
-def judge(program, case, seconds):
+def judge_options(case, place, seconds, words, text):
+    """The options for the search that change a byte: one of those for one worker, and two for several, by the case's place."""
+    chosen = [ONE_WORKER[place % len(ONE_WORKER)], *choices_for(place, False)[len(ONE_WORKER):]]
+    found = [(choice, run(STUDY, case, seconds, words=words, more=choice)) for choice in chosen]
+    return [f"{case} with {b' '.join(choice).decode()}: other bytes, or status {status}"
+            for choice, (out, _, status) in found if status != SPENT and (out, status) != (text, 0)]
+
+
+def judge(program, case, place, seconds):
     """What is wrong with the text of a case, and whether there was one."""
     text, line, status = expected(case)
     job = job_of(words_of(case))
@@ -175,7 +183,8 @@ def judge(program, case, seconds):
     wanted = told(case, limit)
     wrong = [f"{case}: the cards differ"] if ended or wanted not in (None, found) else []
     if not ended:
-        wrong += judge_others(program, case, seconds, found) + judge_forms(case, words, seconds, found) + judge_words(case, words, seconds)
+        wrong += judge_options(case, place, seconds, words, found) + judge_others(program, case, seconds, found)
+        wrong += judge_forms(case, words, seconds, found) + judge_words(case, words, seconds)
     return wrong, 1
 
 
@@ -186,7 +195,7 @@ def main():
     program = os.path.abspath(given.program)
     cases = fnmatch.filter(names_of_cases(), given.only)
     with ProcessPoolExecutor(given.jobs) as pool:
-        judged = list(pool.map(judge, [program] * len(cases), cases, [given.seconds] * len(cases)))
+        judged = list(pool.map(judge, [program] * len(cases), cases, range(len(cases)), [given.seconds] * len(cases)))
     wrong = [line for lines, _ in judged for line in lines]
     for line in wrong:
         print(line)

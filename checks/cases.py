@@ -1,9 +1,9 @@
 #!/usr/bin/env python3
 """cases.py [--jobs N] [--seconds N] [--only PATTERN] [PROGRAM]
 
-Runs a program on each case in cases/, and compares standard output, standard error and exit status with what the case
-expects. If you name no program it is ./alphamu at the top of the repository, which must have a current proved program:
-./build makes it. Prints what differs, and the faults of the cases themselves. The exit status is 0 only if there is
+Runs a program on each case in cases/, and ./study on each in cases/study/, and compares standard output, standard error and
+exit status with what the case expects. If you name no program it is ./alphamu at the top of the repository. Both must have a
+current proved program: ./build and ./build study make them. Prints what differs, and the faults of the cases themselves. The exit status is 0 only if there is
 nothing to print. cases/README.md says what a case is.
 """
 import argparse
@@ -17,15 +17,17 @@ from concurrent.futures import ThreadPoolExecutor
 
 TOP = os.path.dirname(os.path.dirname(os.path.abspath(__file__)))
 CASES = os.path.join(TOP, "cases")
-LAUNCHER = os.path.join(TOP, "alphamu")
+LAUNCHER, STUDY = os.path.join(TOP, "alphamu"), os.path.join(TOP, "study")
+# The folder of the cases of alphamu_study, which are run by STUDY.
+OF_STUDY = "study"
 # Why there is no current proved program, by the exit status of checks/program_state.
 STATES = {1: "the proved program is older than its sources", 2: "there is no proved program"}
 # The files of a case that aren't input.
 OWN = ("about", "args", "fill", "stdout", "stderr", "status", "stdout_to")
 # The only case without words. In any other a missing file of words is a fault.
 WITHOUT_WORDS = "no-words"
-# The least number of cases, so that none is lost unnoticed. Raise it when you add cases.
-LEAST = 480
+# The least number of cases, and of those of alphamu_study, so that none is lost unnoticed. Raise them when you add cases.
+LEAST, LEAST_OF_STUDY = 480, 30
 
 
 def bytes_of(case, name):
@@ -37,8 +39,18 @@ def bytes_of(case, name):
         return file.read()
 
 
+def folders_in(*parts):
+    return sorted(it for it in os.listdir(os.path.join(CASES, *parts)) if os.path.isdir(os.path.join(CASES, *parts, it)))
+
+
 def names_of_cases():
-    return sorted(it for it in os.listdir(CASES) if os.path.isdir(os.path.join(CASES, it)))
+    """The cases of alphamu, on which all checks are run."""
+    return [name for name in folders_in() if name != OF_STUDY]
+
+
+def names_of_study_cases():
+    """Those of alphamu_study, on which `cases.py` alone is run."""
+    return [os.path.join(OF_STUDY, name) for name in folders_in(OF_STUDY)]
 
 
 def lacks_program():
@@ -143,15 +155,15 @@ def is_ready(program, check):
 def main():
     parser = parser_of("Runs alphamu on the repository's cases.")
     given = parser.parse_args()
-    every = names_of_cases()
+    every, of_study = names_of_cases(), names_of_study_cases()
     if not is_ready(given.program, "cases"):
         return 1
-    if len(every) < LEAST:
-        print(f"cases: there are only {len(every)} cases of {LEAST}")
+    if len(every) < LEAST or len(of_study) < LEAST_OF_STUDY:
+        print(f"cases: there are only {len(every)} cases of {LEAST}, and {len(of_study)} of {LEAST_OF_STUDY}")
         return 1
-    program, cases = os.path.abspath(given.program), fnmatch.filter(every, given.only)
+    program, cases = os.path.abspath(given.program), fnmatch.filter(every + of_study, given.only)
     with ThreadPoolExecutor(given.jobs) as pool:
-        told = list(pool.map(lambda case: judge(program, case, given.seconds), cases))
+        told = list(pool.map(lambda case: judge(STUDY if case in of_study else program, case, given.seconds), cases))
     failed = report(cases, told)
     print(f"cases: {len(cases) - failed} agree, {failed} differ")
     return 0 if cases and not failed else 1

@@ -12,7 +12,7 @@ bytes. So a body that answers more than was written, or less than is there, is p
   an odd number of bytes at a time.
 - An error is the end of the file, or of the output. Caught by the trials on streams and files of checks/machine.py.
 
-The program is the proved one, which ./build makes. Prints what was wrong. The exit status is 0 only if nothing was. It
+The programs are the proved ones, which ./build and ./build study make. Prints what was wrong. The exit status is 0 only if nothing was. It
 takes less than a minute.
 """
 import argparse
@@ -95,10 +95,12 @@ def slow_pipe(given):
 
 
 def output():
-    for case, counts in ((SHORT, range(0, len(cases.expected(SHORT)[0]), 5)), (LONG, (PAGE - 1, PAGE, PAGE + 1, 2 * PAGE))):
+    of_study = machine.OF_STUDY
+    for case, counts in ((SHORT, range(0, len(cases.expected(SHORT)[0]), 5)), (LONG, (PAGE - 1, PAGE, PAGE + 1, 2 * PAGE)),
+                         (of_study, range(0, len(cases.expected(of_study)[0]), 20))):
         whole = len(cases.expected(case)[0])
         for count in (*counts, whole - 1, whole):
-            yield f"{count} of {whole} bytes", limited_to(case, count)
+            yield f"{count} of {whole} bytes of {case}", limited_to(case, count)
     yield "a pipe that takes a byte at a time", slow_pipe
 
 

@@ -25,7 +25,7 @@ from concurrent.futures import ThreadPoolExecutor
 sys.dont_write_bytecode = True
 import cases
 
-PROVED = os.path.join(cases.TOP, "crates", "alphamu", "out", "alphamu")
+PROVED, PROVED_STUDY = (os.path.join(cases.TOP, "crates", name, "out", name) for name in ("alphamu", "alphamu_study"))
 # A run of each job, one with workers, and one with all cards played out.
 JOBS = {
     "solve": "queen-two-ways",
@@ -43,6 +43,8 @@ JOBS = {
 }
 # Runs that go deep into plans.
 DEEP = {"deep plan": "check-a-deep-plan", "64 levels": "check-of-64-levels", "to the end": "queen-two-ways-to-the-end"}
+# A run of alphamu_study.
+OF_STUDY = "study/cards-queen-two-ways"
 # A run that is refused, so that it has a line to write.
 REFUSED = "deal-empty"
 # A run that is long enough to receive a signal.
@@ -102,7 +104,8 @@ def become(user):
 # How a run is made.
 
 class Trial:
-    """What a trial needs: the program, the folder for its files, its time limit and a user of its own."""
+    """What a trial needs: the program, the folder for its files, its time limit and a user of its own. Cases of alphamu_study are run by
+    that program."""
 
     def __init__(self, program, room, seconds, user):
         self.program, self.room, self.seconds, self.user = program, room, seconds, user
@@ -114,7 +117,8 @@ class Trial:
         if spoil:
             spoil(folder)
         wrapped = [sys.executable, "-I", "-c", WRAPPER.format(before=before)] if before else []
-        return subprocess.Popen([*wrapped, os.fsencode(self.program), *(words or cases.words_of(case))], cwd=folder,
+        program = PROVED_STUDY if case.startswith(cases.OF_STUDY + "/") else self.program
+        return subprocess.Popen([*wrapped, os.fsencode(program), *(words or cases.words_of(case))], cwd=folder,
                                 stdin=subprocess.DEVNULL, stdout=out, stderr=err)
 
     def run(self, case, before="", words=None, spoil=None, out=None, err=None, after=None):
@@ -234,7 +238,7 @@ def streams():
     yield "broken pipe as error, refused", broken_error(REFUSED)
     yield "full pipe that refuses", pipe_that_refuses
     yield "full pipe that waits", pipe_that_waits
-    for case in (JOBS["solve"], REFUSED, "words-help"):
+    for case in (JOBS["solve"], REFUSED, "words-help", OF_STUDY):
         for gone in ((0,), (1,), (2,), (0, 1), (0, 2), (1, 2), (0, 1, 2)):
             yield f"{case} without {' '.join(map(str, gone))}", without(case, *gone)
 

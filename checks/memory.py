@@ -1,7 +1,7 @@
 #!/usr/bin/env python3
 """memory.py [--jobs N] [--seconds N] [--only PATTERN]
 
-Runs the proved program, which ./build makes, and lets its allocations fail: in one run the first, in the next the second,
+Runs the proved programs, which ./build and ./build study make, and lets their allocations fail: in one run the first, in the next the second,
 and so on to the last; once only that allocation, and once that one and all after it. Each run must end with status 9, its
 line and no output, or with the right status and the right bytes. A few lines of C replace the C library's functions for
 memory; `cc` compiles them into a temporary folder.
@@ -21,7 +21,7 @@ from concurrent.futures import ThreadPoolExecutor
 sys.dont_write_bytecode = True
 import cases
 
-PROVED = os.path.join(cases.TOP, "crates", "alphamu", "out", "alphamu")
+PROVED, PROVED_STUDY = (os.path.join(cases.TOP, "crates", name, "out", name) for name in ("alphamu", "alphamu_study"))
 NO_MEMORY = b"", b"alphamu: out of memory\n", 9
 # The case of each run, and the words that are added to it.
 RUNS = {
@@ -43,6 +43,10 @@ RUNS = {
     "boards": ("boards", ()),
     "made": ("made-of-0", ()),
     "made with workers": ("made-of-2-with-workers", ()),
+    "cards": ("study/cards-queen-two-ways", ()),
+    "cards with weights": ("study/cards-restricted-choice", ("--no-cuts", "--no-table")),
+    "words": ("study/words-queen-two-ways", ()),
+    "lines": ("study/lines-queen-two-ways", ()),
 }
 SHIM = r"""
 #include <errno.h>
@@ -105,7 +109,8 @@ def run(shim, name, first, last, seconds):
         count.flush()
         env = {**os.environ, "LD_PRELOAD": shim, "REFUSED_COUNT": count.name, "REFUSED_FIRST": str(first),
                "REFUSED_LAST": str(last)}
-        found = cases.run(PROVED, case, seconds, env, [word.encode() for word in more])
+        program = PROVED_STUDY if case.startswith(cases.OF_STUDY + "/") else PROVED
+        found = cases.run(program, case, seconds, env, [word.encode() for word in more])
         count.seek(0)
         return found, struct.unpack("=Q", count.read(8))[0]
 
