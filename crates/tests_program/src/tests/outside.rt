@@ -14,28 +14,33 @@ use std::{fs, process, thread};
 
 mod copy;
 
+// A shelf with two files.
+fn two_files(alloc: Global) -> Result<MemoryShelf, AllocError> {
+    let mut shelf = MemoryShelf::new(alloc);
+    shelf.add("a", b"ab")?;
+    shelf.add("c", b"cd")?;
+    Ok(shelf)
+}
+
 #[test]
 fn a_file_is_read_within_its_limit(rt: HostRuntime) -> Result<(), Fail> {
     let alloc = rt.alloc();
-    let mut shelf = MemoryShelf::new(alloc);
-    shelf.add("a", b"xy")?;
-    assert_eq!(rt; shelf.read(alloc, "a", 2)?.bytes(), b"xy".as_slice());
-    assert_eq!(rt; shelf.read(alloc, "a", 1).err(), Some(ShelfFault::TooLong));
-    assert_eq!(rt; shelf.read(alloc, "b", 9).err(), Some(ShelfFault::Failed));
-    assert_eq!(rt; shelf.faults("b"), 1);
-    assert_eq!(rt; shelf.faults("a"), 0);
+    let mut shelf = two_files(alloc)?;
+    assert_eq!(rt; shelf.read(alloc, "a", 2)?.bytes(), b"ab".as_slice());
+    for (name, limit, fault) in [("a", 1, ShelfFault::TooLong), ("b", 9, ShelfFault::Failed)] {
+        assert_eq!(rt; shelf.read(alloc, name, limit).err(), Some(fault));
+    }
+    assert_eq!(rt; (shelf.faults("a"), shelf.faults("b")), (0, 1));
     Ok(())
 }
 
 #[test]
 fn a_listed_read_fails(rt: HostRuntime) -> Result<(), Fail> {
     let alloc = rt.alloc();
-    let mut shelf = MemoryShelf::new(alloc);
-    shelf.add("a", b"xy")?;
+    let mut shelf = two_files(alloc)?;
     shelf.fail_at(1)?;
     assert_eq!(rt; shelf.read(alloc, "a", 2).err(), Some(ShelfFault::Failed));
-    assert_eq!(rt; shelf.faults("a"), 1);
-    assert_eq!(rt; shelf.faults("b"), 0);
+    assert_eq!(rt; (shelf.faults("a"), shelf.faults("b")), (1, 0));
     Ok(())
 }
 
@@ -60,14 +65,6 @@ fn a_full_sink_keeps_what_fits(rt: HostRuntime) -> Result<(), Fail> {
     assert_eq!(rt; sink.bytes(), b"abc".as_slice());
     assert_eq!(rt; sink.faults(), 1);
     Ok(())
-}
-
-// A shelf with two files.
-fn two_files(alloc: Global) -> Result<MemoryShelf, AllocError> {
-    let mut shelf = MemoryShelf::new(alloc);
-    shelf.add("a", b"ab")?;
-    shelf.add("c", b"cd")?;
-    Ok(shelf)
 }
 
 #[test]
