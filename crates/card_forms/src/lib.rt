@@ -10,3 +10,4 @@ mod records;
 mod weight;
 
 pub use form::{Form, cards_in};
+pub use weight::weight_of_all;
