@@ -24,7 +24,7 @@ PAGES = os.path.join("docs", "definitions")
 # Crates whose contracts have no readers: tests and workloads.
 APART = ("tests_", "bench_")
 # What else the pages show in backticks: words of texts and files that are no names in a source.
-OTHER_WORDS = frozenset("abc abcd bit clap d end good hear match named notheld on Pass revoke say".split())
+OTHER_WORDS = frozenset("abc abcd bit clap d end good hear match named notheld on Pass review revoke say".split())
 # Cards and suits of a hand, letters of suits and seats.
 CARDS = re.compile(r"[SHDC]?[2-9TJQKA]+|[SHDCNEW]")
 NAME = r"[A-Za-z_][A-Za-z0-9_]*(?:-[A-Za-z0-9_]+)*"
