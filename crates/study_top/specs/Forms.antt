@@ -21,8 +21,12 @@ form_in (Some Cards) (word ∷ []) = form_named word
 form_in job words = Err BadWords
 
 -- the words of a study without those that say its form
+abbrev pub without_form : List (List ℕ) → List (List ℕ)
+without_form words = others_of (codes "--form") words
+
+-- and without those that say the trick that it begins with
 abbrev pub other_words : List (List ℕ) → List (List ℕ)
-other_words words = others_of (codes "--form") words
+other_words words = others_of (codes "--from") (without_form words)
 
 -- the form of a study with this job
 abbrev pub form_of : Option StudyJob → List (List ℕ) → Result Form Status

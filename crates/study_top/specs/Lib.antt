@@ -1,3 +1,4 @@
 pub mod Parted
 pub mod Forms
+pub mod Tricks
 pub mod Study

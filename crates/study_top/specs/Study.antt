@@ -1,21 +1,24 @@
 -- What a study is asked, and what comes of it.
 use Rattle.std.specs.Prelude.{◌≡◌, ◌⊎◌, ◌&&◌, not, ℕ, Bool, true, false, List, [], ◌∷◌, codes, Ok, Option, None, Some, bytes_eq, if◌then◌else◌}
+use Rattle.pbn_deal.specs.Boards.{BoardValue}
 use Rattle.am_outside.specs.Shelf.{Files}
 use Rattle.job_words.specs.declared.asks.Ask.TheVariants as asks
 use Rattle.job_words.specs.declared.asks.LayoutsJob.TheVariants as jobs
 use Rattle.am_answer.specs.declared.root.Root.{Root}
 use Rattle.am_answer.specs.declared.status.Status.{Status}
 use Rattle.am_answer.specs.declared.status.Status.TheVariants.{BadWords}
-use Rattle.am_answer.specs.Answers.{root_in, task_at}
+use Rattle.am_answer.specs.Answers.{board_in, root_in, task_at}
 use Rattle.am_answer.specs.Files.{InputsValue, inputs_read}
 use Rattle.am_answer.specs.Stages.{IsReadRefusal, IsFileRefusal}
 use Rattle.job_told.specs.ToldJob.{IsToldReport}
 use Rattle.job_lines.specs.LinesJob.{IsLinesReport}
 use Rattle.job_cards.specs.Cards.{IsCardsText, IsCardsRefusal}
+use Rattle.job_review.specs.Reviews.{IsReviewText, IsReviewRefusal}
 use Rattle.card_forms.specs.declared.form.Form.{Form}
 use Rattle.study_top.specs.Forms.{form_of, other_words}
+use Rattle.study_top.specs.Tricks.{trick_of}
 use Rattle.study_top.specs.declared.job.StudyJob.{StudyJob}
-use Rattle.study_top.specs.declared.job.StudyJob.TheVariants.{Words, Lines, Cards}
+use Rattle.study_top.specs.declared.job.StudyJob.TheVariants.{Words, Lines, Cards, Review}
 
 -- ---- the words
 
@@ -23,7 +26,7 @@ use Rattle.study_top.specs.declared.job.StudyJob.TheVariants.{Words, Lines, Card
 abbrev pub job_named : List ℕ → Option StudyJob
 job_named word =
     if bytes_eq word (codes "words") then Some Words else if bytes_eq word (codes "lines") then Some Lines
-    else if bytes_eq word (codes "cards") then Some Cards else None
+    else if bytes_eq word (codes "cards") then Some Cards else if bytes_eq word (codes "review") then Some Review else None
 
 -- the job that the word after the first `--job` names; the first of these words may be that one
 abbrev pub job_after : Bool → List (List ℕ) → Option StudyJob
@@ -40,6 +43,7 @@ abbrev pub base_word : Option StudyJob → List ℕ
 base_word (Some Words) = codes "check"
 base_word (Some Lines) = codes "check"
 base_word (Some Cards) = codes "card"
+base_word (Some Review) = codes "card"
 base_word None = []
 
 -- a word of a study, as that job of `alphamu` has it
@@ -67,35 +71,41 @@ abbrev pub IsRefusedAt : List ℕ → List ℕ → Status → (Root → Type 0) 
 IsRefusedAt deal layouts status IsRefused =
     IsFileRefusal (root_in deal layouts) status ⊎ ((root : Root) × (root_in deal layouts ≡ Ok root) × IsRefused root)
 
--- what a study's job tells of what was read; only `cards` has forms
-abbrev pub IsTextOf : Option StudyJob → Form → InputsValue → List ℕ → Type 0
-IsTextOf (Some Words) form (asks.OnLayouts deal layouts (jobs.Check report)) text = IsToldAt deal layouts (λ root. IsToldReport root report text)
-IsTextOf (Some Lines) form (asks.OnLayouts deal layouts (jobs.Check report)) text = IsToldAt deal layouts (λ root. IsLinesReport deal root report text)
-IsTextOf (Some Cards) form (asks.OnLayouts deal layouts (jobs.Card moves search)) text = IsToldAt deal layouts (λ root. IsCardsText root moves form text)
-IsTextOf _ _ _ text = ⊥
+-- what a study's job tells of what was read; only `cards` has forms, and only `review` begins with a trick
+abbrev pub IsTextOf : Option StudyJob → Form → ℕ → InputsValue → List ℕ → Type 0
+IsTextOf (Some Words) form from (asks.OnLayouts deal layouts (jobs.Check report)) text = IsToldAt deal layouts (λ root. IsToldReport root report text)
+IsTextOf (Some Lines) form from (asks.OnLayouts deal layouts (jobs.Check report)) text = IsToldAt deal layouts (λ root. IsLinesReport deal root report text)
+IsTextOf (Some Cards) form from (asks.OnLayouts deal layouts (jobs.Card moves search)) text = IsToldAt deal layouts (λ root. IsCardsText root moves form text)
+IsTextOf (Some Review) form from (asks.OnLayouts deal layouts (jobs.Card moves search)) text = (board : BoardValue) × (board_in deal ≡ Ok board) × IsReviewText board layouts moves from text
+IsTextOf _ _ _ _ text = ⊥
 
--- why it tells nothing of it: `check` refuses the report, or the tree of a card is too large
-abbrev pub IsRefusalOf : Option StudyJob → InputsValue → Status → Type 0
-IsRefusalOf (Some Words) (asks.OnLayouts deal layouts (jobs.Check report)) status = IsRefusedAt deal layouts status (λ root. IsFileRefusal (task_at root (jobs.Check report)) status)
-IsRefusalOf (Some Lines) (asks.OnLayouts deal layouts (jobs.Check report)) status = IsRefusedAt deal layouts status (λ root. IsFileRefusal (task_at root (jobs.Check report)) status)
-IsRefusalOf (Some Cards) (asks.OnLayouts deal layouts (jobs.Card moves search)) status = IsRefusedAt deal layouts status (λ root. IsCardsRefusal root moves search status)
-IsRefusalOf _ _ status = status ≡ BadWords
+-- why it tells nothing of it: `check` refuses the report, the tree of a card is too large, or a board isn't reviewed
+abbrev pub IsRefusalOf : Option StudyJob → ℕ → InputsValue → Status → Type 0
+IsRefusalOf (Some Words) from (asks.OnLayouts deal layouts (jobs.Check report)) status = IsRefusedAt deal layouts status (λ root. IsFileRefusal (task_at root (jobs.Check report)) status)
+IsRefusalOf (Some Lines) from (asks.OnLayouts deal layouts (jobs.Check report)) status = IsRefusedAt deal layouts status (λ root. IsFileRefusal (task_at root (jobs.Check report)) status)
+IsRefusalOf (Some Cards) from (asks.OnLayouts deal layouts (jobs.Card moves search)) status = IsRefusedAt deal layouts status (λ root. IsCardsRefusal root moves search status)
+IsRefusalOf (Some Review) from (asks.OnLayouts deal layouts (jobs.Card moves search)) status = IsFileRefusal (board_in deal) status
+    ⊎ ((board : BoardValue) × (board_in deal ≡ Ok board) × IsReviewRefusal board layouts moves from search.nodes status)
+IsRefusalOf _ _ _ status = status ≡ BadWords
 
--- what the words of a study ask for: this form, and these inputs, read from the files
-pub record IsAsked (words : List (List ℕ)) (files : Files) (form : Form) (inputs : InputsValue) : Type 0 where
+-- what the words of a study ask for: this form, this trick, and these inputs, read from the files
+pub record IsAsked (words : List (List ℕ)) (files : Files) (form : Form) (from : ℕ) (inputs : InputsValue) : Type 0 where
   pub formed : form_of (job_of (other_words words)) words ≡ Ok form
+  pub begins : trick_of (job_of (other_words words)) words ≡ Ok from
   pub asked : inputs_read (asked_by (other_words words)) files ≡ Ok inputs
 
 -- the text of a study: its job tells this of what its words ask for
 pub record IsStudyText (words : List (List ℕ)) (files : Files) (text : List ℕ) : Type 0 where
   pub form : Form
+  pub from : ℕ
   pub inputs : InputsValue
-  pub asked : IsAsked words files form inputs
-  pub told : IsTextOf (job_of (other_words words)) form inputs text
+  pub asked : IsAsked words files form from inputs
+  pub told : IsTextOf (job_of (other_words words)) form from inputs text
 
 -- why there is none: the words or the files can't be read, or nothing is told of them
 abbrev pub IsStudyRefusal : List (List ℕ) → Files → Status → Type 0
 IsStudyRefusal words files status =
     IsReadRefusal (form_of (job_of (other_words words)) words) status
+    ⊎ IsReadRefusal (trick_of (job_of (other_words words)) words) status
     ⊎ IsReadRefusal (inputs_read (asked_by (other_words words)) files) status
-    ⊎ ((form : Form) × (inputs : InputsValue) × IsAsked words files form inputs × IsRefusalOf (job_of (other_words words)) inputs status)
+    ⊎ ((form : Form) × (from : ℕ) × (inputs : InputsValue) × IsAsked words files form from inputs × IsRefusalOf (job_of (other_words words)) from inputs status)

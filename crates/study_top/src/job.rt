@@ -14,6 +14,8 @@ pub enum StudyJob {
     Lines,
     /// Every legal card with the bounds of the weight that it wins.
     Cards,
+    /// Every decision of a played board, and what each card cost.
+    Review,
 }
 
 // The job that a word names.
@@ -24,6 +26,7 @@ fn job_named(word: &str) -> Option<StudyJob>
         "words" => Some(StudyJob::Words),
         "lines" => Some(StudyJob::Lines),
         "cards" => Some(StudyJob::Cards),
+        "review" => Some(StudyJob::Review),
         _ => None,
     }
 }
@@ -48,7 +51,7 @@ fn base_word(job: Option<StudyJob>) -> &'static str
 {
     match job {
         Some(StudyJob::Words) | Some(StudyJob::Lines) => "check",
-        Some(StudyJob::Cards) => "card",
+        Some(StudyJob::Cards) | Some(StudyJob::Review) => "card",
         None => "",
     }
 }

@@ -13,17 +13,17 @@ ghost use Rattle.am_answer.specs.Files.{AreWithin};
 ghost use Rattle.study_top.specs.Forms.{other_words};
 ghost use Rattle.study_top.specs.Study.{asked_by as words_asked_by, IsTextOf, IsRefusalOf, IsStudyText, IsStudyRefusal};
 
-use crate::form::form_in;
-use crate::job::{StudyJob, asked_by, job_of};
-use crate::parted::parted_by;
+use crate::job::StudyJob;
+use crate::study::study_of;
 use am_answer::{FileWord, Inputs, Status};
-use am_inputs::{read_inputs, read_root};
+use am_inputs::{read_deal, read_inputs, read_root};
 use am_line::refuse;
 use am_outside::{Shelf, Sink, write_whole};
 use byte_text::Text;
 use card_forms::Form;
 use job_cards::tell_cards;
 use job_lines::tell_lines;
+use job_review::tell_review;
 use job_told::tell_report;
 use job_words::{Ask, LayoutsJob, Search};
 use std::alloc::Global;
@@ -33,9 +33,9 @@ fn words_in(alloc: Global, deal: &Text, layouts: &Text, report: &Text) -> Result
     requires deal_within { length deal.now < 2 ^ 32 - 1 }
     requires layouts_within { length layouts.now < 2 ^ 32 - 1 }
     requires report_within { length report.now < 2 ^ 32 - 1 }
-    ensures text { IfOk result (IsTextOf (Some StudyJob.Words) Form.Text
+    ensures text { IfOk result (IsTextOf (Some StudyJob.Words) Form.Text 1
         (OnLayouts deal.now layouts.now (Check report.now))) }
-    ensures refused { IfErr result (IsRefusalOf (Some StudyJob.Words)
+    ensures refused { IfErr result (IsRefusalOf (Some StudyJob.Words) 1
         (OnLayouts deal.now layouts.now (Check report.now))) }
 {
     let root = read_root(alloc, deal, layouts)?;
@@ -47,9 +47,9 @@ fn lines_in(alloc: Global, deal: &Text, layouts: &Text, report: &Text) -> Result
     requires deal_within { length deal.now < 2 ^ 32 - 1 }
     requires layouts_within { length layouts.now < 2 ^ 32 - 1 }
     requires report_within { length report.now < 2 ^ 32 - 1 }
-    ensures text { IfOk result (IsTextOf (Some StudyJob.Lines) Form.Text
+    ensures text { IfOk result (IsTextOf (Some StudyJob.Lines) Form.Text 1
         (OnLayouts deal.now layouts.now (Check report.now))) }
-    ensures refused { IfErr result (IsRefusalOf (Some StudyJob.Lines)
+    ensures refused { IfErr result (IsRefusalOf (Some StudyJob.Lines) 1
         (OnLayouts deal.now layouts.now (Check report.now))) }
 {
     let root = read_root(alloc, deal, layouts)?;
@@ -69,13 +69,35 @@ fn cards_in(
     requires layouts_within { length layouts.now < 2 ^ 32 - 1 }
     requires moves { IsMoves moves }
     requires limits { IsSearchWithinLimits search.now }
-    ensures text { IfOk result (IsTextOf (Some StudyJob.Cards) form
+    ensures text { IfOk result (IsTextOf (Some StudyJob.Cards) form 1
         (OnLayouts deal.now layouts.now (Card moves search.now))) }
-    ensures refused { IfErr result (IsRefusalOf (Some StudyJob.Cards)
+    ensures refused { IfErr result (IsRefusalOf (Some StudyJob.Cards) 1
         (OnLayouts deal.now layouts.now (Card moves search.now))) }
 {
     let root = read_root(alloc, deal, layouts)?;
     tell_cards(alloc, &root, moves, search, form)
+}
+
+// The decisions of the board of these files, from a trick on.
+fn review_in(
+    alloc: Global,
+    deal: &Text,
+    layouts: &Text,
+    moves: u8,
+    search: &Search,
+    from: u8,
+) -> Result<Text, Status>
+    requires deal_within { length deal.now < 2 ^ 32 - 1 }
+    requires layouts_within { length layouts.now < 2 ^ 32 - 1 }
+    requires moves { IsMoves moves }
+    requires limits { IsSearchWithinLimits search.now }
+    ensures text { IfOk result (IsTextOf (Some StudyJob.Review) Form.Text from
+        (OnLayouts deal.now layouts.now (Card moves search.now))) }
+    ensures refused { IfErr result (IsRefusalOf (Some StudyJob.Review) from
+        (OnLayouts deal.now layouts.now (Card moves search.now))) }
+{
+    let board = read_deal(alloc, deal)?;
+    tell_review(alloc, &board, layouts, moves, from, search)
 }
 
 // What a job tells of what was read, or why there is nothing.
@@ -83,11 +105,12 @@ fn text_in(
     alloc: Global,
     job: Option<StudyJob>,
     form: Form,
+    from: u8,
     inputs: &Inputs,
 ) -> Result<Text, Status>
     requires { AreWithin inputs.now }
-    ensures text { IfOk result (IsTextOf job form inputs.now) }
-    ensures refused { IfErr result (IsRefusalOf job inputs.now) }
+    ensures text { IfOk result (IsTextOf job form from inputs.now) }
+    ensures refused { IfErr result (IsRefusalOf job from inputs.now) }
 {
     let Ask::OnLayouts {
         deal,
@@ -107,6 +130,9 @@ fn text_in(
         (Some(StudyJob::Cards), LayoutsJob::Card { moves, search }) => {
             cards_in(alloc, deal, layouts, *moves, search, form)
         }
+        (Some(StudyJob::Review), LayoutsJob::Card { moves, search }) => {
+            review_in(alloc, deal, layouts, *moves, search, from)
+        }
         _ => Err(Status::BadWords),
     }
 }
@@ -124,18 +150,17 @@ fn text_for<S: Shelf>(alloc: Global, words: &[String], shelf: &mut S) -> Result<
         (S.faults shelf.old) (S.faults shelf.new) file }
     ensures same_files { S.told shelf.new ≡ S.told shelf.old }
 {
-    let parted = parted_by(alloc, "--form", words)?;
-    let job = job_of(&parted.others);
-    let form = form_in(job, &parted.values)?;
-    let asked = asked_by(alloc, &parted.others)?;
-    let inputs = read_inputs(alloc, &asked, shelf)?;
-    text_in(alloc, job, form, &inputs)
+    let study = study_of(alloc, words)?;
+    let inputs = read_inputs(alloc, &study.asked, shelf)?;
+    text_in(alloc, study.job, study.form, study.from, &inputs)
 }
 
-/// Tells the strategies of a report, or every legal card side by side. The words are those of
-/// `check`, except that the job is `words` or `lines`, and the report is refused as `check` refuses
-/// it; or those of `card`, except that the job is `cards`, and that `--form` may stand before the
-/// form, `text`, `csv` or `json`. The words don't include the program's name.
+/// Tells the strategies of a report, every legal card side by side, or every decision of a played
+/// board. The words are those of `check`, except that the job is `words` or `lines`, and the report
+/// is refused as `check` refuses it; or those of `card`, except that the job is `cards` or
+/// `review`. With `cards`, `--form` may stand before the form, `text`, `csv` or `json`; with
+/// `review`, `--from` before the trick to begin with, 1 to 13. The words don't include the
+/// program's name.
 ///
 /// The whole text is made before its first byte is written.
 pub fn run_study<S: Shelf, O: Sink, E: Sink>(
