@@ -1,0 +1,159 @@
+#!/usr/bin/env python3
+"""review.py [--jobs N] [--seconds N] [--only PATTERN] [PROGRAM]
+
+Asks ./study for the decisions (`review`) of each case in cases/ that has a deal with a Play section and a layout file, with
+MOVES moves and NODES nodes, from the first trick and from the last that was played. The text must be that of a second teller: it
+cuts the deal file before each card of declarer's side, finds by its own rules (reading.py, playing.py) which layouts are left and
+whether two legal cards differ, and asks `cards` there for the bounds, and PROGRAM, which is ./alphamu if you name none, for the
+card (`card`). A file that `card` refuses there must be refused with the same line and status, and so must a play without a
+decision. Words with a `--from` that can't be right must be refused. The exit status is 0 only if nothing differs, and if at least
+LEAST texts were told.
+
+Both programs must be there and current: ./build and ./build study make them."""
+import fnmatch
+import os
+import re
+import sys
+from concurrent.futures import ProcessPoolExecutor
+
+sys.dont_write_bytecode = True
+import playing
+import reading
+from cases import CASES, TOP, bytes_of, is_ready, names_of_cases, parser_of, run, words_of
+from jobs import REFUSED, USAGE
+from options import job_of
+
+STUDY = os.path.join(TOP, "study")
+MOVES, NODES, LEAST, SPENT = 2, 20000, 40, 7
+NO_DECISION = b"", b"alphamu: no card to choose\n", 6
+CUT = b"cut.pbn"
+
+
+def cut_file(game, board, place):
+    """The deal file of a board, with its play cut before the card at a place."""
+    lines = []
+    for name in (b"Deal", b"Contract", b"Declarer", b"EndNeed", b"EndLead"):
+        if tag := reading.first_tag(game, name):
+            lines.append(b'[%s "%s"]' % (name, re.sub(rb'(["\\])', rb"\\\1", tag.value)))
+    lines.append(b'[Play "%c"]' % reading.SEATS[(board.declarer + board.lead) % 4])
+    for at in range(0, place, 4):
+        row = {(seat - board.lead) % 4: playing.name_of(card) for seat, card in board.plays[at:min(at + 4, place)]}
+        lines.append(b" ".join(row.get(column, b"-") for column in range(4)))
+    return b"\n".join(lines + [b"*", b""])
+
+
+def differ(states):
+    """Whether two legal cards of the seat to play aren't equal: no card that is still out lies between equal cards."""
+    hands, trick, _, _ = states[0]
+    out = {card for hand in hands for card in hand} | {card for _, card in trick}
+    groups, last = 0, None
+    for card in playing.choices(states):
+        between = last is not None and any(last < it < card for it in out)
+        groups += last is None or between or last // 13 != card // 13
+        last = card
+    return groups > 1
+
+
+def line_at(program, case, seconds, board, place, words, file):
+    """The line of the decision at a place with its cost, or how `cards` ends there."""
+    files = {CUT: file}
+    text, line, status = run(STUDY, case, seconds, words=[b"--job", b"cards", *words, b"--moves", b"%d" % MOVES, b"--nodes", b"%d" % NODES], files=files)
+    if status:
+        return None, (text, line, status)
+    rows = {it[0]: it for it in re.findall(rb"^card (..) most (\d+) least (\d+) ", text, re.M)}
+    seat, card = board.plays[place]
+    moves, layouts, named = re.search(rb"^moves (\d+)\n(layouts \d+ weight \d+)\n(?:.*\n)*named (..)$", text, re.M).groups()
+    said = run(program, case, seconds, words=[b"--job", b"card", *words, b"--moves", moves], files=files)[0]
+    assert re.search(rb"^card %s (count|weight) %s of " % (named, rows[named][1]), said, re.M), (case, place, said)
+    played = rows[playing.name_of(card)]
+    cost = int(rows[named][1]) - int(played[1])
+    letter = reading.SEATS[(board.declarer + seat) % 4]
+    return cost, b"card %d trick %d seat %c played %s most %s least %s named %s most %s %s cost %d\n" % (
+        place + 1, place // 4 + 1, letter, *played, named, rows[named][1], layouts, cost)
+
+
+def told(program, case, seconds, options, first):
+    """The text of a case from a trick on with a line of an error and a status; none if some tree is too large."""
+    game = reading.games_read(bytes_of(case, options["deal"]))[0]
+    board = reading.board_of(game)
+    plays, lines, costs = board.plays, [], []
+    words = [b"--deal", CUT, b"--layouts", os.fsencode(options["layouts"])]
+    for place, (seat, _) in enumerate(plays):
+        if seat % 2 or place // 4 + 1 < first:
+            continue
+        board.plays = plays[:place]
+        try:
+            kept = reading.layouts_kept(bytes_of(case, options["layouts"]), board)
+        except reading.Refusal as refusal:
+            status, text, line = refusal.answer
+            return text, line, status
+        states = tuple(reading.state_of(board, layout) for layout in kept.layouts)
+        file = cut_file(game, board, place)
+        board.plays = plays
+        if differ(states):
+            cost, line = line_at(program, case, seconds, board, place, words, file)
+            if cost is None:
+                return None if line[2] == SPENT else line
+            lines.append(line)
+            costs.append(cost)
+    if not lines:
+        return NO_DECISION
+    last = b"decisions %d costly %d greatest %d\n" % (len(costs), sum(cost > 0 for cost in costs), max(costs))
+    return b"".join([b"alphamu review 1\n", b"moves %d\n" % MOVES, *lines, last]), b"", 0
+
+
+def judge_words(case, words, seconds):
+    """Words with a trick that can't be right, and a job that begins with none."""
+    refused = (b"", f"alphamu: {USAGE}\n".encode(), REFUSED)
+    more = ([b"--from"], [b"--from", b"0"], [b"--from", b"14"], [b"--from", b"01"], [b"--from", b""], [b"--from=1"], [b"--from", b"1", b"--from", b"1"])
+    wrong = [words + it for it in more] + [[b"cards" if it == b"review" else it for it in words] + [b"--from", b"1"]]
+    return [f"{case}: taken with {b' '.join(it[-4:]).decode()}" for it in wrong if run(STUDY, case, seconds, words=it) != refused]
+
+
+def judge(program, case, seconds):
+    """What is wrong with the texts of a case, and how many there were."""
+    words = words_of(case)
+    if job_of(words) not in ("solve", "card", "fusion") or bytes_of(case, "fill") or bytes_of(case, "stdout_to"):
+        return [], 0
+    options = reading.ask_of([word.decode() for word in words])[1]
+    if not os.path.isfile(os.path.join(CASES, case, options["deal"])) or b"[Play" not in bytes_of(case, options["deal"]):
+        return [], 0
+    wrong, number = [], 0
+    try:
+        tricks = len(reading.board_of(reading.games_read(bytes_of(case, options["deal"]))[0]).plays) // 4
+    except (reading.Refusal, IndexError):
+        tricks = 0
+    for first in {1, max(1, tricks)}:
+        asked = [b"--job", b"review", b"--deal", os.fsencode(options["deal"]), b"--layouts", os.fsencode(options["layouts"])]
+        asked += [b"--moves", b"%d" % MOVES, b"--nodes", b"%d" % NODES]
+        found = run(STUDY, case, seconds, words=asked + ([b"--from", b"%d" % first] if first > 1 else []))
+        try:
+            wanted = told(program, case, seconds, options, first)
+        except reading.Refusal as refusal:
+            status, text, line = refusal.answer
+            wanted = text, line, status
+        if wanted is not None and found != wanted:
+            wrong.append(f"{case} from trick {first}: {found}, and not {wanted}")
+        number += wanted is not None and not wanted[2]
+        wrong += judge_words(case, asked, seconds) if first == 1 else []
+    return wrong, number
+
+
+def main():
+    given = parser_of("Reviews the plays of alphamu's cases.").parse_args()
+    if not is_ready(given.program, "review"):
+        return 1
+    program = os.path.abspath(given.program)
+    cases = fnmatch.filter(names_of_cases(), given.only)
+    with ProcessPoolExecutor(given.jobs) as pool:
+        judged = list(pool.map(judge, [program] * len(cases), cases, [given.seconds] * len(cases)))
+    wrong = [line for lines, _ in judged for line in lines]
+    for line in wrong:
+        print(line)
+    number = sum(count for _, count in judged)
+    print(f"review: {number} texts, {len(wrong)} wrong")
+    return 0 if number >= LEAST and not wrong else 1
+
+
+if __name__ == "__main__":
+    sys.exit(main())
