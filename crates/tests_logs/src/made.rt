@@ -15,25 +15,13 @@ use win_vectors::WinVector;
 const ONE_MOVE: &str = "alphamu log 1\nleaf S2 0 - 11\nleaf S3 0 - 11\nunion - 1 1,2 11\nend\n";
 
 const TWO_MOVES: &str = "alphamu log 1
-leaf S2.S7.SJ 0 - 01
-leaf S2.S7.SK 0 - 10
-union S2.S7 1 1,2 10,01
-leaf S2.SQ.SJ 0 - 0
-leaf S2.SQ.SK 0 - 1
-union S2.SQ 1 4,5 1
-leaf S2.SA.SJ 0 - 1
-leaf S2.SA.SK 0 - 0
-union S2.SA 1 7,8 1
+leaf S2.S7.SJ 0 - 01\nleaf S2.S7.SK 0 - 10\nunion S2.S7 1 1,2 10,01
+leaf S2.SQ.SJ 0 - 0\nleaf S2.SQ.SK 0 - 1\nunion S2.SQ 1 4,5 1
+leaf S2.SA.SJ 0 - 1\nleaf S2.SA.SK 0 - 0\nunion S2.SA 1 7,8 1
 join S2 1 3,6,9 10,01
-leaf S3.S7.SJ 0 - 01
-leaf S3.S7.SK 0 - 10
-union S3.S7 1 11,12 10,01
-leaf S3.SQ.SJ 0 - 0
-leaf S3.SQ.SK 0 - 1
-union S3.SQ 1 14,15 1
-leaf S3.SA.SJ 0 - 1
-leaf S3.SA.SK 0 - 0
-union S3.SA 1 17,18 1
+leaf S3.S7.SJ 0 - 01\nleaf S3.S7.SK 0 - 10\nunion S3.S7 1 11,12 10,01
+leaf S3.SQ.SJ 0 - 0\nleaf S3.SQ.SK 0 - 1\nunion S3.SQ 1 14,15 1
+leaf S3.SA.SJ 0 - 1\nleaf S3.SA.SK 0 - 0\nunion S3.SA 1 17,18 1
 join S3 1 13,16,19 10,01
 union - 2 10,20 10,01
 end
