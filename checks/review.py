@@ -1,13 +1,13 @@
 #!/usr/bin/env python3
 """review.py [--jobs N] [--seconds N] [--only PATTERN] [PROGRAM]
 
-Asks ./study for the decisions (`review`) of each case in cases/ that has a deal with a Play section and a layout file, with
-MOVES moves and NODES nodes, from the first trick and from the last that was played. The text must be that of a second teller: it
-cuts the deal file before each card of declarer's side, finds by its own rules (reading.py, playing.py) which layouts are left and
-whether two legal cards differ, and asks `cards` there for the bounds, and PROGRAM, which is ./alphamu if you name none, for the
-card (`card`). A file that `card` refuses there must be refused with the same line and status, and so must a play without a
-decision. Words with a `--from` that can't be right must be refused. The exit status is 0 only if nothing differs, and if at least
-LEAST texts were told.
+Asks ./study for the decisions (`review`) of the cases in cases/ with a deal and a layout file, with MOVES moves and NODES nodes,
+from the first trick and from the last but one: of each deal with a Play section; and of each that has an answer and at most
+MOST_CARDS cards a hand, played out in its first kept layout. The text must be that of a second teller: it cuts the deal file before
+each card of declarer's side, finds by its own rules (reading.py, playing.py) which layouts are left and whether two legal cards
+differ, and asks `cards` there for the bounds, and PROGRAM, which is ./alphamu if you name none, for the card (`card`). A file that
+`card` refuses there must be refused with the same line and status, and so must a play without a decision. Words with a `--from` that
+can't be right must be refused. The exit status is 0 only if nothing differs, and if at least LEAST texts were told.
 
 Both programs must be there and current: ./build and ./build study make them."""
 import fnmatch
@@ -19,14 +19,14 @@ from concurrent.futures import ProcessPoolExecutor
 sys.dont_write_bytecode = True
 import playing
 import reading
-from cases import CASES, TOP, bytes_of, is_ready, names_of_cases, parser_of, run, words_of
+from cases import CASES, TOP, bytes_of, expected, is_ready, names_of_cases, parser_of, run, words_of
 from jobs import REFUSED, USAGE
 from options import job_of
 
 STUDY = os.path.join(TOP, "study")
-MOVES, NODES, LEAST, SPENT = 2, 20000, 40, 7
+MOVES, NODES, MOST_CARDS, LEAST, SPENT = 2, 20000, 5, 70, 7
 NO_DECISION = b"", b"alphamu: no card to choose\n", 6
-CUT = b"cut.pbn"
+WHOLE, CUT = b"whole.pbn", b"cut.pbn"
 
 
 def cut_file(game, board, place):
@@ -40,6 +40,22 @@ def cut_file(game, board, place):
         row = {(seat - board.lead) % 4: playing.name_of(card) for seat, card in board.plays[at:min(at + 4, place)]}
         lines.append(b" ".join(row.get(column, b"-") for column in range(4)))
     return b"\n".join(lines + [b"*", b""])
+
+
+def played_out(case, options):
+    """The deal file of a case played out in its first kept layout, each card chosen by its place; none if the hands are long."""
+    game = reading.games_read(bytes_of(case, options["deal"]))[0]
+    board = reading.board_of(game)
+    kept = reading.layouts_kept(bytes_of(case, options["layouts"]), board)
+    state = reading.state_of(board, kept.layouts[0])
+    if max(map(len, state[0])) > MOST_CARDS:
+        return None
+    while any(state[0]):
+        seat = playing.seat_to_play([state])
+        cards = playing.legal(state[0][seat], state[1])
+        board.plays.append((seat, cards[5 * len(board.plays) % len(cards)]))
+        state = playing.after(*state, board.trump, *board.plays[-1])
+    return cut_file(game, board, len(board.plays))
 
 
 def differ(states):
@@ -72,18 +88,18 @@ def line_at(program, case, seconds, board, place, words, file):
         place + 1, place // 4 + 1, letter, *played, named, rows[named][1], layouts, cost)
 
 
-def told(program, case, seconds, options, first):
-    """The text of a case from a trick on with a line of an error and a status; none if some tree is too large."""
-    game = reading.games_read(bytes_of(case, options["deal"]))[0]
+def told(program, case, seconds, whole, layouts, first):
+    """The text of a deal file from a trick on with a line of an error and a status; none if some tree is too large."""
+    game = reading.games_read(whole)[0]
     board = reading.board_of(game)
     plays, lines, costs = board.plays, [], []
-    words = [b"--deal", CUT, b"--layouts", os.fsencode(options["layouts"])]
+    words = [b"--deal", CUT, b"--layouts", os.fsencode(layouts)]
     for place, (seat, _) in enumerate(plays):
         if seat % 2 or place // 4 + 1 < first:
             continue
         board.plays = plays[:place]
         try:
-            kept = reading.layouts_kept(bytes_of(case, options["layouts"]), board)
+            kept = reading.layouts_kept(bytes_of(case, layouts), board)
         except reading.Refusal as refusal:
             status, text, line = refusal.answer
             return text, line, status
@@ -110,33 +126,41 @@ def judge_words(case, words, seconds):
     return [f"{case}: taken with {b' '.join(it[-4:]).decode()}" for it in wrong if run(STUDY, case, seconds, words=it) != refused]
 
 
-def judge(program, case, seconds):
-    """What is wrong with the texts of a case, and how many there were."""
-    words = words_of(case)
-    if job_of(words) not in ("solve", "card", "fusion") or bytes_of(case, "fill") or bytes_of(case, "stdout_to"):
-        return [], 0
-    options = reading.ask_of([word.decode() for word in words])[1]
-    if not os.path.isfile(os.path.join(CASES, case, options["deal"])) or b"[Play" not in bytes_of(case, options["deal"]):
-        return [], 0
-    wrong, number = [], 0
+def judge_file(program, case, seconds, whole, layouts):
+    """What is wrong with the texts of a deal file, and how many there were."""
     try:
-        tricks = len(reading.board_of(reading.games_read(bytes_of(case, options["deal"]))[0]).plays) // 4
-    except (reading.Refusal, IndexError):
+        tricks = len(reading.board_of(reading.games_read(whole)[0]).plays) // 4
+    except reading.Refusal:
         tricks = 0
-    for first in {1, max(1, tricks)}:
-        asked = [b"--job", b"review", b"--deal", os.fsencode(options["deal"]), b"--layouts", os.fsencode(options["layouts"])]
-        asked += [b"--moves", b"%d" % MOVES, b"--nodes", b"%d" % NODES]
-        found = run(STUDY, case, seconds, words=asked + ([b"--from", b"%d" % first] if first > 1 else []))
+    asked = [b"--job", b"review", b"--deal", WHOLE, b"--layouts", os.fsencode(layouts), b"--moves", b"%d" % MOVES, b"--nodes", b"%d" % NODES]
+    wrong, number = [], 0
+    for first in {1, max(1, tricks - 1)}:
+        found = run(STUDY, case, seconds, words=asked + ([b"--from", b"%d" % first] if first > 1 else []), files={WHOLE: whole})
         try:
-            wanted = told(program, case, seconds, options, first)
+            wanted = told(program, case, seconds, whole, layouts, first)
         except reading.Refusal as refusal:
             status, text, line = refusal.answer
             wanted = text, line, status
         if wanted is not None and found != wanted:
             wrong.append(f"{case} from trick {first}: {found}, and not {wanted}")
         number += wanted is not None and not wanted[2]
-        wrong += judge_words(case, asked, seconds) if first == 1 else []
-    return wrong, number
+    return wrong + judge_words(case, asked, seconds), number
+
+
+def judge(program, case, seconds):
+    """What is wrong with the texts of a case, and how many there were."""
+    words = words_of(case)
+    if job_of(words) not in ("solve", "card", "fusion") or bytes_of(case, "fill") or bytes_of(case, "stdout_to"):
+        return [], 0
+    ask = reading.ask_of([word.decode() for word in words])
+    if ask is None or not os.path.isfile(os.path.join(CASES, case, ask[1]["deal"])):
+        return [], 0
+    whole = bytes_of(case, ask[1]["deal"])
+    wholes = [whole] if b"[Play" in whole else []
+    if not expected(case)[2] and (whole := played_out(case, ask[1])):
+        wholes.append(whole)
+    judged = [judge_file(program, case, seconds, it, ask[1]["layouts"]) for it in wholes]
+    return [line for wrong, _ in judged for line in wrong], sum(number for _, number in judged)
 
 
 def main():

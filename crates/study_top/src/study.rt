@@ -29,7 +29,8 @@ pub struct Study {
 /// What these words ask for. Errors: `BadWords` if what they say of the form or of the trick can't
 /// be read; `Memory`.
 pub fn study_of(alloc: Global, words: &[String]) -> Result<Study, Status>
-    ensures job { IfOk result (λ study. study.job ≡ job_named_by (other_words (texts_of words.now))) }
+    ensures job { IfOk result (λ study.
+        study.job ≡ job_named_by (other_words (texts_of words.now))) }
     ensures form { IfOk result (λ study. form_of study.job (texts_of words.now) ≡ Ok study.form) }
     ensures from { IfOk result (λ study. trick_of study.job (texts_of words.now) ≡ Ok study.from) }
     ensures asked { IfOk result (λ study.
