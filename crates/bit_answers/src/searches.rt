@@ -27,41 +27,6 @@ pub fn new_table(alloc: Global) -> Result<(SharedTable, Pass), AllocError>
     SharedTable::new(alloc, 16, 16_384)
 }
 
-// One worker with cuts, over the table.
-fn options_of(asked: &Asked) -> Options
-    ensures { result ≡ record { nodes = asked.now.nodes; workers = 1; table = true; cuts = true } }
-{
-    Options {
-        nodes: asked.nodes,
-        workers: 1,
-        table: true,
-        cuts: true,
-    }
-}
-
-// What is asked of the root.
-fn question_of<'a>(
-    alloc: Global,
-    asked: &'a Asked,
-    options: &'a Options,
-    table: &'a SharedTable,
-) -> Question<'a>
-    ensures node { result.node.now ≡ asked.now.node }
-    ensures moves { result.moves ≡ asked.now.moves }
-    ensures weights { result.weights.now ≡ asked.now.weights }
-    ensures options { result.options.now ≡ options.now }
-    ensures table { result.table.now ≡ table.now }
-{
-    Question {
-        alloc,
-        node: &asked.node,
-        moves: asked.moves,
-        weights: &asked.weights,
-        options,
-        table,
-    }
-}
-
 /// The card to play, and its weight.
 pub fn root_card(alloc: Global, asked: &Asked) -> Result<RootCard, RootFault>
     requires { IsReady asked.now }
@@ -71,9 +36,21 @@ pub fn root_card(alloc: Global, asked: &Asked) -> Result<RootCard, RootFault>
         asked.now.moves root.weight) }
     ensures refused { IfErr result (IsSearchFault asked.now) }
 {
-    let options = options_of(asked);
+    let options = Options {
+        nodes: asked.nodes,
+        workers: 1,
+        table: true,
+        cuts: true,
+    };
     let (table, mut pass) = new_table(alloc)?;
-    let question = question_of(alloc, asked, &options, &table);
+    let question = Question {
+        alloc,
+        node: &asked.node,
+        moves: asked.moves,
+        weights: &asked.weights,
+        options: &options,
+        table: &table,
+    };
     question.card(&Alone { gate: &OpenGate }, &mut pass)
 }
 
@@ -101,8 +78,20 @@ pub fn front_over(
     ensures refused { IfErr result (IsSearchFault asked.now) }
     ensures pass { IsPassOf table.now pass.new }
 {
-    let options = options_of(asked);
-    let question = question_of(alloc, asked, &options, table);
+    let options = Options {
+        nodes: asked.nodes,
+        workers: 1,
+        table: true,
+        cuts: true,
+    };
+    let question = Question {
+        alloc,
+        node: &asked.node,
+        moves: asked.moves,
+        weights: &asked.weights,
+        options: &options,
+        table,
+    };
     let workers = slice::from_mut(worker);
     match question.front_by(&Alone { gate: &OpenGate }, pass, workers) {
         Ok(found) => Ok(found.front),
