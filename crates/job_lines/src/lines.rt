@@ -60,6 +60,30 @@ fn shown_at(root: &Root, lines: usize, line: usize, place: u16, made: bool) -> S
     }
 }
 
+// The game of a strategy in a layout, by their places.
+fn game_at(
+    alloc: Global,
+    solver: &mut Solver,
+    game: &Game,
+    root: &Root,
+    entries: &[ReadEntry],
+    line: usize,
+    place: u16,
+) -> Result<Text, AllocError>
+    requires a_line { line < length entries.now }
+    requires a_layout { place < length root.now.kept.node.lefts }
+    requires few { length entries.now < 2 ^ 32 }
+    requires as_many { length root.now.kept.numbers ≡ length root.now.kept.node.lefts }
+    requires fits { All (λ read. (moves : ℕ)
+        × Fits bridge read.entry.plan root.now.kept.node moves) entries.now }
+    ensures { IfOk result (IsGameAt game.now root.now entries.now line place) }
+{
+    let played = play_at(solver, &entries[line], &root.kept.node, place);
+    let shown = shown_at(root, entries.len(), line, place, played.made);
+    let cards = all_cards(alloc, root.board.plays(), &played.cards)?;
+    game_text(alloc, game, &root.board, &shown, &cards)
+}
+
 // The games of a strategy, by its place: one for each kept layout.
 fn line_games(
     alloc: Global,
@@ -79,10 +103,7 @@ fn line_games(
 {
     let mut text = Text::new(alloc);
     for place in 0..root.kept.node.width() {
-        let played = play_at(solver, &entries[line], &root.kept.node, place);
-        let shown = shown_at(root, entries.len(), line, place, played.made);
-        let cards = all_cards(alloc, root.board.plays(), &played.cards)?;
-        let next = game_text(alloc, game, &root.board, &shown, &cards)?;
+        let next = game_at(alloc, solver, game, root, entries, line, place)?;
         text.push(next.bytes())?;
     }
     Ok(text)
