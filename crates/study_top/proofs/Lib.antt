@@ -1,1 +1,2 @@
 pub mod RootBoard
+pub mod AskedFor
