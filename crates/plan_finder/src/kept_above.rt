@@ -26,6 +26,7 @@ impl Model for KeptAbove {
 }
 
 impl KeptAbove {
+    /// The vectors above a target. No clause: that they are right is the invariant of its type.
     pub fn new(key: VectorAt, front: Front) -> KeptAbove
         requires { AreAbove key.node key.moves key.vector front }
     {
