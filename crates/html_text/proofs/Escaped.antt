@@ -86,6 +86,16 @@ module _ (sign : ℕ) (amp : has sign (codes "&amp;") ≡ false) (lt : has sign 
         | inr (inr (inr (inr k))) ↦ ap (has sign) k.stays ∙ plain_has byte sign (other byte k)
       ]
 
+-- an escaped text has none of < > and "
+pub opens_none : (text : List ℕ) → list_any (λ b. b == 60) (escape text) ≡ false
+opens_none = none_in 60 (free_byte 60 refl refl refl refl (λ byte k. k.not_lt))
+
+pub closes_none : (text : List ℕ) → list_any (λ b. b == 62) (escape text) ≡ false
+closes_none = none_in 62 (free_byte 62 refl refl refl refl (λ byte k. k.not_gt))
+
+pub quotes_none : (text : List ℕ) → list_any (λ b. b == 34) (escape text) ≡ false
+quotes_none = none_in 34 (free_byte 34 refl refl refl refl (λ byte k. k.not_quot))
+
 pub no_markup : (text : List ℕ) → HasNoMarkup (escape text)
 no_markup text = record {
   opens_none = not_in 60 (free_byte 60 refl refl refl refl (λ byte k. k.not_lt)) text;

@@ -5,5 +5,7 @@
 
 mod escape;
 pub mod laws;
+mod page;
 
 pub use escape::push_escaped;
+pub use page::Page;

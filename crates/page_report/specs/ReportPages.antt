@@ -1,0 +1,133 @@
+-- The page of a report at a root.
+use Rattle.std.specs.Prelude.{◌≡◌, ℕ, ◌+◌, Bool, true, false, Option, None, Some, List, [], ◌∷◌, ◌++◌, length, sum, flat_map, codes}
+use Rattle.std.specs.Fmt.{decimal}
+use Rattle.std.specs.Option.{option_map}
+use Rattle.card_sets.specs.declared.seat.Compass.{Compass}
+use Rattle.trick_rules.specs.Positions.{to_play}
+use Rattle.trick_rules.specs.Nodes.{NodeValue}
+use Rattle.strategy_games.specs.Plans.{Plan, Stop, Play, Hear}
+use Rattle.pbn_text.specs.Games.{GameValue}
+use Rattle.pbn_deal.specs.Boards.{BoardValue, compass_of}
+use Rattle.pbn_deal.specs.Tags.{tag_named}
+use Rattle.layout_list.specs.declared.kept.Cause.{Cause}
+use Rattle.layout_list.specs.declared.kept.Cause.TheVariants.{NotHeld, Revoke}
+use Rattle.layout_list.specs.declared.kept.Dropped.{Dropped}
+use Rattle.layout_list.specs.Kept.{KeptValue}
+use Rattle.am_report.specs.declared.version.Version.{Version}
+use Rattle.am_report.specs.declared.version.Version.TheVariants.{Counts, Weights}
+use Rattle.am_report.specs.Answers.{ReadEntryValue}
+use Rattle.am_report.specs.Reading.{ReadReportValue}
+use Rattle.told_plans.specs.Told.{Told}
+use Rattle.told_layouts.specs.Looking.{step_layouts}
+use Rattle.told_words.specs.Words.{told_text}
+use Rattle.told_report.specs.ToldReport.{AreToldOf}
+use Rattle.html_text.specs.declared.page.Piece.{Piece}
+use Rattle.html_text.specs.Pages.{own, told, written}
+use Rattle.html_text.specs.Escapes.{escape}
+use Rattle.page_text.specs.declared.lines.Line.{Line}
+use Rattle.page_text.specs.declared.markup.TheConstants.{NAVIGATION, END, REPORT, REPORT_END}
+use Rattle.page_text.specs.declared.verdict.Scale.{Scale}
+use Rattle.page_text.specs.Frames.{TagValues, start, facts, report}
+use Rattle.page_text.specs.Verdicts.{headline, promise, horizon}
+use Rattle.page_text.specs.Tables.{table}
+use Rattle.page_text.specs.Lines.{trade_offs, lines_pieces}
+use Rattle.page_text.specs.Layouts.{layouts}
+use Rattle.page_report.specs.declared.markup.TheConstants.{DROPPED, AT_CARD, DROPPED_END}
+
+-- ---- what a page shows
+
+-- the first card of a strategy
+abbrev pub first_card : Plan ℕ → Option ℕ
+first_card Stop = None
+first_card (Play card rest) = Some card
+first_card (Hear replies) = None
+
+-- a strategy of the report, by its number, with its told plan in words
+abbrev pub line_of : Compass → NodeValue → ℕ → ReadEntryValue → Told → Line
+line_of declarer node number read told = record {
+  number = number;
+  vector = read.entry.vector;
+  weight = read.weight;
+  begins = first_card read.entry.plan;
+  words = told_text declarer (step_layouts read.entry.plan node) told node;
+}
+
+-- the strategies, numbered onwards from the first one's number
+abbrev pub lines_from : Compass → NodeValue → ℕ → List ReadEntryValue → List Told → List Line
+lines_from declarer node number (read ∷ entries) (told ∷ tolds) = line_of declarer node number read told ∷ lines_from declarer node (number + 1) entries tolds
+lines_from declarer node number (read ∷ entries) [] = []
+lines_from declarer node number [] tolds = []
+
+-- the strategies with their words
+pub record AreLines (declarer : Compass) (node : NodeValue) (entries : List ReadEntryValue) (lines : List Line) : Type 0 where
+  pub tolds : List Told
+  pub are_told : AreToldOf node entries tolds
+  pub are_lines : lines ≡ lines_from declarer node 1 entries tolds
+
+-- whether a report weighs its layouts
+abbrev pub is_weighed : Version → Bool
+is_weighed Counts = false
+is_weighed Weights = true
+
+-- what all kept layouts come to
+abbrev pub scale_of : KeptValue → Version → Scale
+scale_of kept version = record { total = sum kept.weights; by_weight = is_weighed version }
+
+-- the value of a game's tag
+abbrev pub value_of : List ℕ → GameValue → Option (List ℕ)
+value_of name game = option_map (λ tag. tag.value) (tag_named name game)
+
+-- what the page tells of a game's tags
+abbrev pub tags_of : GameValue → TagValues
+tags_of game = record { event = value_of (codes "Event") game; board = value_of (codes "Board") game; contract = value_of (codes "Contract") game }
+
+-- why the play rules a layout out
+abbrev pub cause_words : Cause → List ℕ
+cause_words NotHeld = codes " of the play the defender doesn&#8217;t hold that card.</p>\n"
+cause_words Revoke = codes " of the play the defender could have followed suit.</p>\n"
+
+-- a layout that is left out, by its number in the layout file
+unfoldable pub dropped_pieces : Dropped → List Piece
+dropped_pieces layout = own DROPPED.now ++ told (decimal layout.number) ++ own AT_CARD.now ++ told (decimal layout.play) ++ own (cause_words layout.cause)
+
+-- the layouts that are left out
+unfoldable pub left_out : List Dropped → List Piece
+left_out dropped = flat_map dropped_pieces dropped ++ own DROPPED_END.now
+
+-- ---- the page
+
+-- the card to play, what it keeps, and how far the lines are planned
+unfoldable pub verdict : KeptValue → ReadReportValue → List Line → List Piece
+verdict kept read lines =
+    headline kept.node.position read.card ++ promise (scale_of kept read.version) read.card lines ++ horizon kept.node.position read.moves
+
+-- the top of the page
+unfoldable pub top : GameValue → BoardValue → KeptValue → ReadReportValue → List Line → List Piece
+top game board kept read lines =
+    start read.card ++ facts (tags_of game) (compass_of board.declarer (to_play kept.node.position)) ++ verdict kept read lines ++ own NAVIGATION.now
+
+-- what the lines are about, side by side and in words
+unfoldable pub middle : BoardValue → KeptValue → ReadReportValue → List Line → List Piece
+middle board kept read lines =
+    table board.declarer kept.node ++ trade_offs (length kept.node.lefts) lines ++ lines_pieces (scale_of kept read.version) lines
+    ++ layouts board.declarer kept.node kept.numbers ++ left_out kept.dropped
+
+-- the page, which ends with the report
+unfoldable pub page : GameValue → BoardValue → KeptValue → ReadReportValue → List ℕ → List Line → List Piece
+page game board kept read bytes lines = top game board kept read lines ++ middle board kept read lines ++ report bytes ++ own END.now
+
+-- a page of a report
+pub record IsReportPage (game : GameValue) (board : BoardValue) (kept : KeptValue) (read : ReadReportValue) (bytes text : List ℕ) : Type 0 where
+  pub lines : List Line
+  pub are_lines : AreLines board.declarer kept.node read.entries lines
+  pub is_text : text ≡ written (page game board kept read bytes lines)
+
+-- a text has these bytes, escaped and nothing else, in the element that the report stands in
+pub record HoldsReport (bytes text : List ℕ) : Type 0 where
+  pub before : List ℕ
+  pub after : List ℕ
+  pub is_text : text ≡ before ++ (REPORT.now ++ (escape bytes ++ (REPORT_END.now ++ after)))
+
+-- the page of a report holds that report
+abbrev pub HoldsItsReport : Type 0
+HoldsItsReport = (game : GameValue) (board : BoardValue) (kept : KeptValue) (read : ReadReportValue) (bytes text : List ℕ) → IsReportPage game board kept read bytes text → HoldsReport bytes text

@@ -1,0 +1,12 @@
+//! The page of a report at a root. It builds on `told_words` for the lines and on `page_text` for
+//! the parts of the page. Its contract promises the page, and `laws` says that the page holds the
+//! report.
+#![tactic(auto)]
+
+mod dropped;
+pub mod laws;
+mod lines;
+mod markup;
+mod page;
+
+pub use page::{Shown, report_page};

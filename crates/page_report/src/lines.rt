@@ -1,0 +1,90 @@
+//! The strategies of a report as lines of a page.
+ghost use Rattle.std.specs.Prelude.{◌≡◌, ℕ, All, IfOk};
+ghost use Rattle.strategy_games.specs.Plans.{Fits};
+ghost use Rattle.strategy_tree.specs.Bridge.{bridge};
+ghost use Rattle.strategy_tree.specs.PlanMeaning.{plan_of};
+ghost use Rattle.told_plans.specs.Told.{Told};
+ghost use Rattle.told_layouts.specs.Looking.{step_layouts};
+ghost use Rattle.told_words.specs.Words.{told_text};
+ghost use Rattle.told_report.specs.ToldReport.{IsToldOf};
+ghost use Rattle.page_report.specs.ReportPages.{first_card as first_card_of, line_of, AreLines};
+
+use am_report::ReadEntry;
+use byte_text::Text;
+use card_sets::{Card, Compass};
+use page_text::Line;
+use std::alloc::{AllocError, Global};
+use strategy_tree::Plan;
+use told_plans::ToldPlan;
+use told_words::{Strategy, Writer};
+use trick_rules::Node;
+
+// The first card of a strategy.
+fn first_card(plan: &Plan) -> Option<Card>
+    ensures { result ≡ first_card_of (plan_of plan.now) }
+{
+    match plan {
+        Plan::Play(card, _) => Some(*card),
+        Plan::Stop | Plan::Hear(_) => None,
+    }
+}
+
+// A strategy in words.
+fn words_of(
+    alloc: Global,
+    declarer: Compass,
+    node: &Node,
+    read: &ReadEntry,
+) -> Result<Text, AllocError>
+    requires fits { (moves : ℕ) × Fits bridge read.now.entry.plan node.now moves }
+    ensures { IfOk result (λ words. (told : Told) × IsToldOf node.now read.now told
+        × (words ≡ told_text declarer
+        (step_layouts read.now.entry.plan node.now) told node.now)) }
+{
+    let plan = &read.entry.plan;
+    let told = ToldPlan::of(alloc, plan)?;
+    let mut writer = Writer::new(alloc);
+    writer.push_told(declarer, &Strategy { plan, node }, &told)?;
+    Ok(writer.finish())
+}
+
+// A strategy by its number.
+fn line_of(
+    alloc: Global,
+    declarer: Compass,
+    node: &Node,
+    number: u64,
+    read: &ReadEntry,
+) -> Result<Line, AllocError>
+    requires fits { (moves : ℕ) × Fits bridge read.now.entry.plan node.now moves }
+    ensures { IfOk result (λ line. (told : Told) × IsToldOf node.now read.now told
+        × (line ≡ line_of declarer node.now number read.now told)) }
+{
+    let words = words_of(alloc, declarer, node, read)?;
+    Ok(Line {
+        number,
+        vector: read.entry.vector,
+        weight: read.weight,
+        begins: first_card(&read.entry.plan),
+        words,
+    })
+}
+
+/// The strategies, numbered from 1, with their words.
+pub fn lines_of(
+    alloc: Global,
+    declarer: Compass,
+    node: &Node,
+    entries: &[ReadEntry],
+) -> Result<Vec<Line>, AllocError>
+    requires fit { All (λ read. (moves : ℕ) × Fits bridge read.entry.plan node.now moves)
+        entries.now }
+    ensures { IfOk result (λ lines. AreLines declarer node.now entries.now lines.items) }
+{
+    let mut lines = Vec::new(alloc);
+    for (place, read) in entries.iter().enumerate() {
+        let line = line_of(alloc, declarer, node, place as u64 + 1, read)?;
+        lines.push(line)?;
+    }
+    Ok(lines)
+}

@@ -1,0 +1,6 @@
+use Rattle.std.proofs.Common.{◌≡◌, take}
+use Rattle.page_text.specs.Verdicts.{best_from}
+use Rattle.page_text.proofs.verdict.best_from.Given as goal
+
+abbrev pub invariant-loop-line : goal.invariant-loop-line
+invariant-loop-line l = l.best ≡ best_from l.card (take l.line-index l.lines)

@@ -1,0 +1,6 @@
+pub mod Signs
+pub mod Verdicts
+pub mod Tables
+pub mod Lines
+pub mod Layouts
+pub mod Frames

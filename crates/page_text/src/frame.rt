@@ -1,0 +1,104 @@
+//! What stands round the parts of a page.
+ghost use Rattle.std.specs.Prelude.{◌≡◌, ◌++◌, OnOk, option_copied};
+ghost use Rattle.html_text.specs.Pages.{own};
+ghost use Rattle.page_text.specs.declared.markup.TheConstants.{NAVIGATION, END};
+ghost use Rattle.page_text.specs.Frames.{start, told_by, fact, tags as tag_pieces, facts, report};
+
+use crate::markup::{
+    BOARD, CONTRACT, END, EVENT, FACTS, FACTS_END, HEAD, HEAD_END, NAVIGATION, REPORT, REPORT_END,
+    STYLE, TITLE_END,
+};
+use crate::signs::compass_word;
+use card_letters::letters_of;
+use card_sets::{Card, Compass};
+use html_text::Page;
+use std::alloc::{AllocError, Global};
+
+/// Adds the head, with the card to play as its title.
+#[tactic(auto, unfolding(crate::specs::Frames::start))]
+pub fn push_start(page: &mut Page, card: Card) -> Result<(), AllocError>
+    ensures { OnOk result (page.new ≡ page.old ++ start card) }
+{
+    page.own(HEAD)?;
+    page.told(&letters_of(card))?;
+    page.own(TITLE_END)?;
+    page.own(STYLE)?;
+    page.own(HEAD_END)
+}
+
+// Adds what a tag of the deal file says, if it is there.
+#[tactic(auto, unfolding(crate::specs::Frames::fact))]
+fn push_fact(
+    page: &mut Page,
+    alloc: Global,
+    front: &'static [u8],
+    value: Option<&[u8]>,
+) -> Result<(), AllocError>
+    ensures { OnOk result (page.new ≡ page.old ++ fact front.now (option_copied value.entry)) }
+{
+    let Some(bytes) = value else {
+        return Ok(());
+    };
+    let text = String::from_utf8_lossy(alloc, bytes)?;
+    page.own(front)?;
+    page.told(text.as_bytes())?;
+    page.own(b"</li>\n")
+}
+
+/// What the deal file says of its first game: the values of its tags.
+#[derive(Clone, Copy)]
+pub struct Tags<'a> {
+    pub event: Option<&'a [u8]>,
+    pub board: Option<&'a [u8]>,
+    pub contract: Option<&'a [u8]>,
+}
+
+#[tactic(auto, unfolding(crate::specs::Frames::tags))]
+fn push_tags(page: &mut Page, alloc: Global, tags: &Tags) -> Result<(), AllocError>
+    ensures { OnOk result (page.new ≡ page.old ++ tag_pieces (told_by tags.now)) }
+{
+    page.own(FACTS)?;
+    push_fact(page, alloc, EVENT, tags.event)?;
+    push_fact(page, alloc, BOARD, tags.board)?;
+    push_fact(page, alloc, CONTRACT, tags.contract)
+}
+
+/// Adds what the deal file says, and whose turn it is.
+#[tactic(auto, unfolding(crate::specs::Frames::facts))]
+pub fn push_facts(
+    page: &mut Page,
+    alloc: Global,
+    tags: &Tags,
+    turn: Compass,
+) -> Result<(), AllocError>
+    ensures { OnOk result (page.new ≡ page.old ++ facts (told_by tags.now) turn) }
+{
+    push_tags(page, alloc, tags)?;
+    page.own(b"<li>")?;
+    page.own(compass_word(turn))?;
+    page.own(FACTS_END)
+}
+
+/// Adds links to the parts of the page.
+pub fn push_navigation(page: &mut Page) -> Result<(), AllocError>
+    ensures { OnOk result (page.new ≡ page.old ++ own NAVIGATION.now) }
+{
+    page.own(NAVIGATION)
+}
+
+/// Adds the report itself, byte for byte.
+#[tactic(auto, unfolding(crate::specs::Frames::report))]
+pub fn push_report(page: &mut Page, bytes: &[u8]) -> Result<(), AllocError>
+    ensures { OnOk result (page.new ≡ page.old ++ report bytes.now) }
+{
+    page.own(REPORT)?;
+    page.told(bytes)?;
+    page.own(REPORT_END)
+}
+
+/// Adds the end of the page.
+pub fn push_end(page: &mut Page) -> Result<(), AllocError>
+    ensures { OnOk result (page.new ≡ page.old ++ own END.now) }
+{
+    page.own(END)
+}

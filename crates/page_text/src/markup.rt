@@ -1,0 +1,174 @@
+//! The markup of a page's own, part by part.
+
+// ---- what stands round the parts
+
+pub const HEAD: &[u8] = b"<!DOCTYPE html>
+<html lang='en'>
+<head>
+<meta charset='utf-8'/>
+<meta name='viewport' content='width=device-width, initial-scale=1'/>
+<meta http-equiv='Content-Security-Policy' content='default-src &#39;none&#39;; style-src &#39;unsafe-inline&#39;'/>
+<title>Play ";
+
+pub const STYLE: &[u8] = b"
+:root{color-scheme:light dark;--ink:#1c1c1a;--soft:#5b5b55;--paper:#fcfbf8;--card:#fff;--edge:#d6d4cb;--head:#e6f0e9;--felt:#14533a;--red:#b3261e;--orange:#a84300;--green:#14633f;--yes:#e0f1e5;--no:#fbe3e0}
+@media (prefers-color-scheme:dark){:root{--ink:#ecebe6;--soft:#b3b1a8;--paper:#171815;--card:#1f211d;--edge:#44463f;--head:#1d2b23;--felt:#1b5e42;--red:#ff8a80;--orange:#ffb26b;--green:#7fd6a4;--yes:#1d3a2a;--no:#4a211f}}
+*{box-sizing:border-box}
+body{margin:0;font:1rem/1.55 system-ui,sans-serif;color:var(--ink);background:var(--paper)}
+header,main,footer{padding:1rem max(1rem,calc(50vw - 36rem))}
+header{background:var(--head);border-bottom:1px solid var(--edge)}
+h1{font-size:2rem;line-height:1.2;margin:.25rem 0 .5rem}
+h2{font-size:1.35rem;margin:1.5rem 0 .5rem}
+h3{font-size:.85rem;margin:0}
+p{margin:.4rem 0;max-width:46rem}
+.promise{font-size:1.15rem}
+.note,footer{color:var(--soft);font-size:.9rem}
+.facts{list-style:none;display:flex;flex-wrap:wrap;gap:.2rem 1.2rem;margin:0;padding:0;color:var(--soft)}
+a{color:var(--green)}
+nav a{display:inline-block;margin-right:1rem}
+a:focus-visible,summary:focus-visible,[tabindex]:focus-visible{outline:3px solid var(--orange);outline-offset:2px}
+.h{color:var(--red)}.d{color:var(--orange)}.c{color:var(--green)}
+.table{display:grid;grid-template-areas:'. n .' 'w m e' '. f .';grid-template-columns:1fr auto 1fr;gap:.6rem;width:max-content;max-width:100%;background:var(--card);border:1px solid var(--edge);border-radius:.6rem;padding:1rem}
+.n{grid-area:n}.e{grid-area:e}.f{grid-area:f}.w{grid-area:w}
+.m{grid-area:m;background:var(--felt);color:#fff;border-radius:.4rem;padding:.5rem .8rem;text-align:center;font-size:.9rem}
+.m span{background:#fff;color:#1c1c1a;border-radius:.2rem;padding:0 .2rem}
+.m .h{color:#b3261e}.m .d{color:#a84300}.m .c{color:#14633f}
+.table ul,.side ul{list-style:none;margin:0;padding:0}
+.side{display:inline-block;min-width:16rem;margin-right:1rem}
+.side ul{display:inline}
+.side li{display:inline-block;margin-left:.6rem;white-space:nowrap}
+.wide{overflow-x:auto;position:relative}
+table{border-collapse:collapse;font-variant-numeric:tabular-nums}
+th,td{border-bottom:1px solid var(--edge);padding:.25rem .55rem;text-align:center}
+.y{background:var(--yes);color:var(--green)}.x{background:var(--no);color:var(--red)}
+td i{position:absolute;width:1px;height:1px;overflow:hidden;clip-path:inset(50%)}
+details{border:1px solid var(--edge);border-radius:.5rem;background:var(--card);margin:.6rem 0;padding:.5rem .8rem}
+summary{cursor:pointer;font-weight:600}
+pre{white-space:pre-wrap;overflow-wrap:anywhere;margin:.5rem 0 0;font:.85rem/1.5 ui-monospace,monospace}
+.words{font:1rem/1.6 system-ui,sans-serif;tab-size:2}
+@media (max-width:34rem){.table{gap:.3rem;padding:.5rem;font-size:.9rem}h1{font-size:1.6rem}}
+@media print{body{background:#fff}header{background:none}nav,footer{display:none}.wide{overflow:visible}details{break-inside:avoid-page}}
+";
+
+pub const NAVIGATION: &[u8] =
+    b"<nav><a href='#table'>The table</a> <a href='#trade-offs'>Side by side</a> <a href='#lines'>In words</a> <a href='#layouts'>The layouts</a> <a href='#report'>The report</a></nav>
+</header>
+<main>
+";
+
+pub const END: &[u8] = b"</main>
+<footer><p>Nothing on this page is loaded from a network.</p></footer>
+</body>
+</html>
+";
+
+pub const TITLE_END: &[u8] = b"</title>\n<style>";
+
+pub const HEAD_END: &[u8] = b"</style>\n</head>\n<body>\n<header>\n";
+
+pub const FACTS: &[u8] = b"<ul class='facts'>\n";
+
+pub const EVENT: &[u8] = b"<li>";
+
+pub const BOARD: &[u8] = b"<li>Board ";
+
+pub const CONTRACT: &[u8] = b"<li>Contract ";
+
+pub const FACTS_END: &[u8] = b" to play</li>\n</ul>\n";
+
+pub const REPORT: &[u8] =
+    b"<section>\n<details id='report'><summary>The report itself</summary>\n<pre id='text'>";
+
+pub const REPORT_END: &[u8] = b"</pre></details>\n</section>\n";
+
+// ---- the verdict
+
+pub const HEADLINE: &[u8] = b"<h1>Play the ";
+
+pub const PROMISE: &[u8] = b"<p class='promise'>It keeps a line that makes <strong>";
+
+pub const WHATEVER: &[u8] = b"</strong>, whatever the defenders do. ";
+
+pub const ALL_PLANNED: &[u8] =
+    b"<p>Every card of declarer&#8217;s side is planned, to the end of the play.</p>\n";
+
+pub const PLANNED: &[u8] = b"<p>Cards of declarer&#8217;s side that are planned: ";
+
+pub const PLANNED_END: &[u8] =
+    b". If the result is open after them, it is judged as if all hands were seen: with more cards planned the figure can be lower, never higher.</p>\n";
+
+// ---- the table
+
+pub const TABLE_START: &[u8] = b"<section id='table'>
+<h2>The table</h2>
+<div class='table'>
+";
+
+pub const TABLE_END: &[u8] = b"</div>
+<p class='note'>A defender&#8217;s hand has every card that may be in it. Bold: held in every layout.</p>
+</section>
+";
+
+pub const HAND_END: &[u8] = b"</ul></div>\n";
+
+pub const TRUMPS: &[u8] = b" trumps</p>\n<p>";
+
+pub const CENTRE: &[u8] = b"<div class='m'><p>";
+
+pub const NEEDED: &[u8] = b" tricks needed</p>\n<p>";
+
+pub const CENTRE_END: &[u8] = b"</p></div>\n";
+
+// ---- the lines
+
+pub const TRADE_OFFS: &[u8] = b"<section id='trade-offs'>
+<h2>The lines side by side</h2>
+<p class='note'>A line is a way to play that needs no sight of the defenders&#8217; cards. A column is one of the <a href='#layouts'>layouts</a>: &#10003; the line makes it against any defence, &#10007; some defence beats the line.</p>
+<div class='wide' tabindex='0'><table>
+<thead><tr><th scope='col'>Line</th><th scope='col'>begins</th><th scope='col'>makes</th>";
+
+pub const LINES: &[u8] = b"<section id='lines'>
+<h2>The lines in words</h2>
+<p class='note'>Replies after which a line goes on alike are told together. In brackets stand the <a href='#layouts'>layouts</a> that are made from there, and those that fail. A card gives up a layout if the contract could be made there before it, with all hands seen, and no longer after it.</p>
+";
+
+pub const COLUMN: &[u8] = b"<th scope='col'>";
+
+pub const LINK: &[u8] = b"<a href='#line-";
+
+pub const ROW: &[u8] = b"<tr><th scope='row'>";
+
+pub const FIRST_CARD: &[u8] = b"</th><td>";
+
+pub const WEIGHT: &[u8] = b"</td><td>";
+
+pub const ROWS: &[u8] = b"</tr></thead>\n<tbody>\n";
+
+pub const ROWS_END: &[u8] = b"</tbody></table></div>\n</section>\n";
+
+pub const LINE: &[u8] = b"<details id='line-";
+
+pub const SUMMARY: &[u8] = b"<summary>Line ";
+
+pub const WORDS: &[u8] = b"</summary>\n<pre class='words'>";
+
+pub const WORDS_END: &[u8] = b"</pre></details>\n";
+
+pub const SECTION_END: &[u8] = b"</section>\n";
+
+// ---- the layouts
+
+pub const LAYOUTS: &[u8] = b"<section id='layouts'>
+<h2>The layouts</h2>
+<p class='note'>The defenders&#8217; hands now, numbered as the columns and the words are.</p>
+<ol>
+";
+
+pub const SIDE: &[u8] = b"<div class='side'><b>";
+
+pub const SIDE_HAND: &[u8] = b"</b>\n<ul>\n";
+
+pub const NUMBERS: &[u8] = b"</ol>
+<p class='note'>Their numbers in the layout file:";
+
+pub const NUMBERS_END: &[u8] = b"</p>\n";
