@@ -1,8 +1,8 @@
 -- The forms of the text of a table.
 use Rattle.std.specs.Prelude.{ℕ, List}
 use Rattle.card_brackets.specs.declared.table.CardTable.{CardTable}
-use Rattle.card_forms.specs.declared.form.Form.{Form}
-use Rattle.card_forms.specs.declared.form.Form.TheVariants.{Text, Csv, Json}
+use Rattle.text_forms.specs.declared.form.Form.{Form}
+use Rattle.text_forms.specs.declared.form.Form.TheVariants.{Text, Csv, Json}
 use Rattle.card_forms.specs.Plain.{cards_text}
 use Rattle.card_forms.specs.Records.{cards_csv}
 use Rattle.card_forms.specs.Objects.{cards_json}

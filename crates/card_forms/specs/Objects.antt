@@ -1,11 +1,10 @@
 -- The cards of a root side by side as an object of JSON.
 use Rattle.std.specs.Prelude.{ℕ, List, length, map, sum, codes}
-use Rattle.byte_text.specs.Lines.{line_of}
 use Rattle.serde_json.specs.Data.{Data, number, unsigned, boolean, string, array, object, member, no_members}
 use Rattle.serde_json.specs.View.{items_of}
-use Rattle.serde_json.specs.Written.{compact_text}
 use Rattle.card_letters.specs.Letters.{letters_of}
 use Rattle.bit_letters.specs.Bits.{bit_letter}
+use Rattle.text_forms.specs.Objects.{json_line}
 use Rattle.card_brackets.specs.declared.rows.CardRow.{CardRow}
 use Rattle.card_brackets.specs.declared.table.CardTable.{CardTable}
 use Rattle.card_brackets.specs.Rows.{is_final}
@@ -33,4 +32,4 @@ cards_data weights table = object
 
 -- its text without blanks, as a line
 unfoldable pub cards_json : List ℕ → CardTable → List ℕ
-cards_json weights table = line_of (compact_text (cards_data weights table))
+cards_json weights table = json_line (cards_data weights table)

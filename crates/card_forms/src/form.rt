@@ -8,18 +8,8 @@ use crate::records::cards_csv;
 use byte_text::Text;
 use card_brackets::CardTable;
 use std::alloc::{AllocError, Global};
+use text_forms::Form;
 use win_vectors::Weights;
-
-/// How a table of cards is written. Each form has the same values.
-#[derive(Clone, Copy, Debug, PartialEq, Eq)]
-pub enum Form {
-    /// A line for each card, for people.
-    Text,
-    /// A record of CSV for each card, after a record with the names of the fields.
-    Csv,
-    /// One object of JSON, on a line of its own.
-    Json,
-}
 
 /// The cards of a root side by side, in a form. The weights are those of the layouts.
 ///

@@ -1,5 +1,5 @@
 //! The cards of a root side by side in three forms: plain text, records of CSV and an object of
-//! JSON. It builds on `card_brackets` for the table, and on `csv` and `serde_json`.
+//! JSON. It builds on `card_brackets` for the table, and on `text_forms`.
 //! Its contract promises the text of each form by its definition.
 #![tactic(auto)]
 
@@ -9,5 +9,5 @@ mod plain;
 mod records;
 mod weight;
 
-pub use form::{Form, cards_in};
+pub use form::cards_in;
 pub use weight::weight_of_all;

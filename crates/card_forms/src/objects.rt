@@ -1,8 +1,6 @@
 //! The cards of a root as an object of JSON.
 ghost use Rattle.std.specs.Prelude.{◌≡◌, IfOk, map, string_bytes};
-ghost use Rattle.std.specs.Str.{IsAscii};
 ghost use Rattle.serde_json.specs.View.{view};
-ghost use Rattle.card_letters.specs.Letters.{letters_of};
 ghost use Rattle.bit_letters.specs.Bits.{bit_letter};
 ghost use Rattle.card_forms.specs.Objects.{card_data, cards_data, cards_json};
 
@@ -10,18 +8,10 @@ use crate::weight::weight_of_all;
 use bit_letters::push_bits;
 use byte_text::Text;
 use card_brackets::{CardRow, CardTable};
-use card_letters::letters_of;
-use card_sets::Card;
 use serde_json::{Value, json};
 use std::alloc::{AllocError, Global};
+use text_forms::{card_string, json_line};
 use win_vectors::{Weights, WinVector};
-
-// The letters of a card as a string.
-fn card_string(alloc: Global, card: Card) -> Result<String, AllocError>
-    ensures { IfOk result (λ string. string_bytes string ≡ letters_of card) }
-{
-    String::from_utf8_lossy(alloc, &letters_of(card))
-}
 
 // The bits of a vector as a string.
 fn vector_string(alloc: Global, vector: WinVector) -> Result<String, AllocError>
@@ -81,12 +71,8 @@ fn cards_value(alloc: Global, weights: &Weights, table: &CardTable) -> Result<Va
 /// No blanks stand between them, and a line feed at the end.
 ///
 /// Errors: an allocation fails.
-#[tactic(auto, unfolding(crate::specs::Objects::cards_json))]
 pub fn cards_json(alloc: Global, weights: &Weights, table: &CardTable) -> Result<Text, AllocError>
     ensures { IfOk result (λ text. text ≡ cards_json weights.now table.now) }
 {
-    let string = cards_value(alloc, weights, table)?.to_string(alloc)?;
-    let mut text = Text::from_bytes(alloc, string.as_bytes())?;
-    text.push(b"\n")?;
-    Ok(text)
+    json_line(alloc, &cards_value(alloc, weights, table)?)
 }

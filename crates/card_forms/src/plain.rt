@@ -1,6 +1,5 @@
 //! The cards of a root as plain text.
 ghost use Rattle.std.specs.Prelude.{◌≡◌, ◌++◌, IfOk, OnOk, flat_map};
-ghost use Rattle.std.specs.Fmt.{decimal};
 ghost use Rattle.byte_text.specs.Lines.{line_of};
 ghost use Rattle.card_forms.specs.Plain.{final_text, bounds_text, outcome_text, row_line, cards_head, cards_text};
 
@@ -10,15 +9,8 @@ use byte_text::Text;
 use card_brackets::{CardRow, CardTable};
 use card_letters::letters_of;
 use std::alloc::{AllocError, Global};
+use text_forms::push_number;
 use win_vectors::Weights;
-
-// Appends a word and a number.
-fn push_number(text: &mut Text, alloc: Global, word: &[u8], number: u32) -> Result<(), AllocError>
-    ensures { OnOk result (text.new ≡ text.old ++ word.now ++ decimal number) }
-{
-    text.push(word)?;
-    text.push_number(alloc, u64::from(number))
-}
 
 // Appends whether a row is final.
 fn push_final(text: &mut Text, is_final: bool) -> Result<(), AllocError>
@@ -36,9 +28,9 @@ fn push_final(text: &mut Text, is_final: bool) -> Result<(), AllocError>
 fn push_bounds(text: &mut Text, alloc: Global, row: &CardRow) -> Result<(), AllocError>
     ensures { OnOk result (text.new ≡ text.old ++ bounds_text row.now) }
 {
-    push_number(text, alloc, b" most ", row.most)?;
-    push_number(text, alloc, b" least ", row.least)?;
-    push_number(text, alloc, b" sampled ", row.sampled)
+    push_number(text, alloc, b" most ", u64::from(row.most))?;
+    push_number(text, alloc, b" least ", u64::from(row.least))?;
+    push_number(text, alloc, b" sampled ", u64::from(row.sampled))
 }
 
 // Appends whether a row is final, and its vector.
@@ -80,9 +72,14 @@ fn cards_head(alloc: Global, weights: &Weights, moves: u8) -> Result<Text, Alloc
 {
     let mut text = Text::new(alloc);
     text.push(b"alphamu cards 1\n")?;
-    push_number(&mut text, alloc, b"moves ", u32::from(moves))?;
-    push_number(&mut text, alloc, b"\nlayouts ", u32::from(weights.width()))?;
-    push_number(&mut text, alloc, b" weight ", weight_of_all(weights))?;
+    push_number(&mut text, alloc, b"moves ", u64::from(moves))?;
+    push_number(&mut text, alloc, b"\nlayouts ", u64::from(weights.width()))?;
+    push_number(
+        &mut text,
+        alloc,
+        b" weight ",
+        u64::from(weight_of_all(weights)),
+    )?;
     text.push(b"\n")?;
     Ok(text)
 }

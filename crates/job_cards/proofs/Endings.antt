@@ -9,7 +9,7 @@ use Rattle.am_answer.specs.declared.root.Root.{Root}
 use Rattle.am_answer.specs.Refusals.{root_status}
 use Rattle.card_brackets.specs.declared.table.CardTable.{CardTable}
 use Rattle.card_brackets.specs.Rows.{IsTableUpTo}
-use Rattle.card_forms.specs.declared.form.Form.{Form}
+use Rattle.text_forms.specs.declared.form.Form.{Form}
 use Rattle.card_forms.specs.Forms.{cards_in}
 use Rattle.job_cards.specs.Cards.{IsCardsText, IsCardsRefusal}
 

@@ -7,7 +7,7 @@ use Rattle.am_answer.specs.declared.status.Status.{Status}
 use Rattle.am_answer.specs.declared.status.Status.TheVariants.{Spent, Memory}
 use Rattle.card_brackets.specs.declared.table.CardTable.{CardTable}
 use Rattle.card_brackets.specs.Rows.{IsTableUpTo}
-use Rattle.card_forms.specs.declared.form.Form.{Form}
+use Rattle.text_forms.specs.declared.form.Form.{Form}
 use Rattle.card_forms.specs.Forms.{cards_in}
 
 -- the text of a root for a limit of moves, in a form

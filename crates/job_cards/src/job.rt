@@ -7,11 +7,12 @@ ghost use Rattle.job_cards.specs.Cards.{IsCardsText, IsCardsRefusal};
 use am_answer::{Root, Status};
 use byte_text::Text;
 use card_brackets::card_table;
-use card_forms::{Form, cards_in};
+use card_forms::cards_in;
 use job_words::Search;
 use root_answers::{options_of, table_of};
 use root_workers::Question;
 use std::alloc::Global;
+use text_forms::Form;
 
 /// Every legal card of a root with the bounds of the weight that it wins, for at most `moves` moves
 /// of declarer's side: the least number of moves with which each card is final, or else that one.

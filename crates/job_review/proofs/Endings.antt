@@ -12,20 +12,17 @@ use Rattle.am_answer.specs.Refusals.{layout_status, root_status}
 use Rattle.board_decisions.specs.declared.list.Decision.{Decision}
 use Rattle.board_decisions.specs.Decisions.{AreDecisions, IsFaultBefore}
 use Rattle.review_text.specs.declared.reviewed.Reviewed.{Reviewed}
-use Rattle.review_text.specs.Texts.{review_text}
-use Rattle.job_review.specs.Reviews.{IsToldOf, IsReviewText, IsRefusedBefore, IsReviewRefusal}
+use Rattle.job_review.specs.Reviews.{IsToldOf, IsReview, IsRefusedBefore, IsReviewRefusal}
 
 module _ (board : BoardValue) (layouts : List ℕ) (limit from : ℕ) where
-  pub text_of : (decisions : List Decision) (told : List Reviewed) (text : List ℕ) → 0 < length decisions → AreDecisions board layouts from decisions
-      → AllZip (IsToldOf board limit) decisions told → text ≡ review_text limit told → IsReviewText board layouts limit from text
-  text_of [] told text some are is written = absurd (omega arith)
-  text_of (first ∷ later) told text some are is written = record {
+  pub review_is : (decisions : List Decision) (told : List Reviewed) → 0 < length decisions → AreDecisions board layouts from decisions
+      → AllZip (IsToldOf board limit) decisions told → IsReview board layouts limit from told
+  review_is [] told some are is = absurd (omega arith)
+  review_is (first ∷ later) told some are is = record {
     first = first;
     later = later;
-    told = told;
     are_decisions = are;
     are_told = is;
-    is_text = written;
   }
 
   -- what holds of a fault other than a failed allocation

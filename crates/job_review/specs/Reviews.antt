@@ -14,7 +14,8 @@ use Rattle.card_brackets.specs.declared.rows.CardRow.{CardRow}
 use Rattle.card_brackets.specs.declared.table.CardTable.{CardTable}
 use Rattle.card_brackets.specs.Rows.{IsTableUpTo}
 use Rattle.review_text.specs.declared.reviewed.Reviewed.{Reviewed}
-use Rattle.review_text.specs.Texts.{review_text}
+use Rattle.text_forms.specs.declared.form.Form.{Form}
+use Rattle.review_forms.specs.Forms.{review_in}
 
 -- ---- what is told of a decision
 
@@ -47,18 +48,21 @@ pub record IsToldOf (board : BoardValue) (limit : ℕ) (decision : Decision) (to
   pub card : told.played ≡ decision.played.card
   pub at_node : IsToldAt decision.kept.node decision.kept.weights limit told
 
--- ---- the text
+-- ---- a board, and its text
 
--- the text of a board with at least one decision: told of each, in order
-pub record IsReviewText (board : BoardValue) (layouts : List ℕ) (limit from : ℕ) (text : List ℕ) : Type 0 where
+-- told of each decision of a board, in order; there is at least one
+pub record IsReview (board : BoardValue) (layouts : List ℕ) (limit from : ℕ) (told : List Reviewed) : Type 0 where
   pub first : Decision
   pub later : List Decision
-  pub told : List Reviewed
   pub are_decisions : AreDecisions board layouts from (first ∷ later)
   pub are_told : AllZip (IsToldOf board limit) (first ∷ later) told
-  pub is_text : text ≡ review_text limit told
 
--- ---- why there is no text
+-- the text of such a review in a form
+abbrev pub IsReviewText : BoardValue → List ℕ → ℕ → ℕ → Form → List ℕ → Type 0
+IsReviewText board layouts limit from form text =
+    (told : List Reviewed) × IsReview board layouts limit from told × (text ≡ review_in form limit told)
+
+-- ---- why there is no review
 
 -- a root card of a decision has a tree that is too large
 pub record IsSpentBefore (board : BoardValue) (layouts : List ℕ) (limit from nodes card : ℕ) : Type 0 where

@@ -43,7 +43,14 @@ last_line told = line_of
     (codes "decisions " ++ decimal (length told) ++ codes " costly " ++ decimal (costly_among told)
     ++ codes " greatest " ++ decimal (greatest_cost told))
 
--- the greatest number of moves, a line for each decision, and the last line
+-- a line for each decision, and the last line
+unfoldable pub decisions_text : List Reviewed → List ℕ
+decisions_text told = flat_map decision_line told ++ last_line told
+
+-- what the text is, and the greatest number of moves
+unfoldable pub head_text : List ℕ → ℕ → List ℕ
+head_text title limit = line_of title ++ line_of (codes "moves " ++ decimal limit)
+
+-- the head, and what was told of each decision
 unfoldable pub review_text : ℕ → List Reviewed → List ℕ
-review_text limit told =
-    line_of (codes "alphamu review 1") ++ line_of (codes "moves " ++ decimal limit) ++ flat_map decision_line told ++ last_line told
+review_text limit told = head_text (codes "alphamu review 1") limit ++ decisions_text told

@@ -1,9 +1,12 @@
-//! The text of a review: the decisions of a played board, and what each card cost. It builds on
-//! `byte_text` and `card_letters`. Its contract promises the text by its definition.
+//! The text of a review: the decisions of a played board, or of many games, and what each card
+//! cost. It builds on `text_forms` and `card_letters`. Its contracts promise the text by its
+//! definition.
 #![tactic(auto)]
 
+mod game;
 mod reviewed;
 mod text;
 
+pub use game::{GameReview, all_told, reviews_text};
 pub use reviewed::Reviewed;
-pub use text::review_text;
+pub use text::{costly_among, greatest_cost, review_text};

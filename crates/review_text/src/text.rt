@@ -1,21 +1,13 @@
 //! The lines of a review.
 ghost use Rattle.std.specs.Prelude.{◌≡◌, ◌++◌, IfOk, OnOk, flat_map};
-ghost use Rattle.std.specs.Fmt.{decimal};
 ghost use Rattle.review_text.specs.Texts.{costly_among, greatest_cost, turn_text, cards_text};
-ghost use Rattle.review_text.specs.Texts.{cost_text, decision_line, last_line, review_text};
+ghost use Rattle.review_text.specs.Texts.{cost_text, decision_line, last_line, decisions_text, head_text, review_text};
 
 use crate::reviewed::Reviewed;
 use byte_text::Text;
 use card_letters::{compass_letter, letters_of};
 use std::alloc::{AllocError, Global};
-
-// Appends a word and a number.
-fn push_number(text: &mut Text, alloc: Global, word: &[u8], number: u64) -> Result<(), AllocError>
-    ensures { OnOk result (text.new ≡ text.old ++ word.now ++ decimal number) }
-{
-    text.push(word)?;
-    text.push_number(alloc, number)
-}
+use text_forms::push_number;
 
 // Appends which card it was, and who played it.
 #[tactic(auto, unfolding(crate::specs::Texts::turn_text))]
@@ -63,8 +55,8 @@ fn push_decision(text: &mut Text, alloc: Global, told: &Reviewed) -> Result<(), 
     text.push(b"\n")
 }
 
-// Appends the lines of all decisions.
-fn push_decisions(text: &mut Text, alloc: Global, told: &[Reviewed]) -> Result<(), AllocError>
+// Appends a line for each decision.
+fn push_lines(text: &mut Text, alloc: Global, told: &[Reviewed]) -> Result<(), AllocError>
     ensures { OnOk result (text.new ≡ text.old ++ flat_map decision_line told.now) }
 {
     for decision in told {
@@ -73,15 +65,15 @@ fn push_decisions(text: &mut Text, alloc: Global, told: &[Reviewed]) -> Result<(
     Ok(())
 }
 
-// How many decisions cost something.
-fn costly_among(told: &[Reviewed]) -> usize
+/// How many decisions cost something.
+pub fn costly_among(told: &[Reviewed]) -> usize
     ensures { result ≡ costly_among told.now }
 {
     told.iter().filter(|decision| decision.cost() > 0).count()
 }
 
-// The greatest cost of a decision.
-fn greatest_cost(told: &[Reviewed]) -> u32
+/// The greatest cost of a decision; 0 if there is none.
+pub fn greatest_cost(told: &[Reviewed]) -> u32
     ensures { result ≡ greatest_cost told.now }
 {
     let mut greatest = 0;
@@ -91,9 +83,9 @@ fn greatest_cost(told: &[Reviewed]) -> u32
     greatest
 }
 
-// Appends the last line.
+/// Appends the last line.
 #[tactic(auto, unfolding(crate::specs::Texts::last_line))]
-fn push_last(text: &mut Text, alloc: Global, told: &[Reviewed]) -> Result<(), AllocError>
+pub(crate) fn push_last(text: &mut Text, alloc: Global, told: &[Reviewed]) -> Result<(), AllocError>
     ensures { OnOk result (text.new ≡ text.old ++ last_line told.now) }
 {
     push_number(text, alloc, b"decisions ", told.len() as u64)?;
@@ -102,22 +94,40 @@ fn push_last(text: &mut Text, alloc: Global, told: &[Reviewed]) -> Result<(), Al
     text.push(b"\n")
 }
 
+/// Appends a line for each decision, and the last line.
+#[tactic(auto, unfolding(crate::specs::Texts::decisions_text))]
+pub(crate) fn push_decisions(
+    text: &mut Text,
+    alloc: Global,
+    told: &[Reviewed],
+) -> Result<(), AllocError>
+    ensures { OnOk result (text.new ≡ text.old ++ decisions_text told.now) }
+{
+    push_lines(text, alloc, told)?;
+    push_last(text, alloc, told)
+}
+
+/// What a text is, and the greatest number of moves.
+#[tactic(auto, unfolding(crate::specs::Texts::head_text))]
+pub(crate) fn head_of(alloc: Global, title: &[u8], moves: u8) -> Result<Text, AllocError>
+    ensures { IfOk result (λ text. text ≡ head_text title.now moves) }
+{
+    let mut text = Text::from_bytes(alloc, title)?;
+    push_number(&mut text, alloc, b"\nmoves ", u64::from(moves))?;
+    text.push(b"\n")?;
+    Ok(text)
+}
+
 /// A line for each decision, with the card played, the card named and what the card cost. Before
 /// them stands the greatest number of moves, and behind them how many decisions there are, how many
 /// of them cost something, and the greatest cost.
+///
+/// Errors: an allocation fails.
 #[tactic(auto, unfolding(crate::specs::Texts::review_text))]
 pub fn review_text(alloc: Global, moves: u8, told: &[Reviewed]) -> Result<Text, AllocError>
     ensures { IfOk result (λ text. text ≡ review_text moves told.now) }
 {
-    let mut text = Text::new(alloc);
-    push_number(
-        &mut text,
-        alloc,
-        b"alphamu review 1\nmoves ",
-        u64::from(moves),
-    )?;
-    text.push(b"\n")?;
+    let mut text = head_of(alloc, b"alphamu review 1", moves)?;
     push_decisions(&mut text, alloc, told)?;
-    push_last(&mut text, alloc, told)?;
     Ok(text)
 }

@@ -1,4 +1,4 @@
-use Rattle.std.proofs.Common.{rules}
+use Rattle.std.proofs.lemmas.Result.{IfOk-weaker}
 use Rattle.card_forms.specs.Objects.{cards_json}
 use Rattle.card_forms.proofs.Whole.{table_is_whole}
 use Rattle.card_forms.proofs.objects.cards_json.Goals as goal
@@ -6,6 +6,5 @@ use Rattle.card_forms.proofs.objects.cards_json.Goals as goal
 pub returns : goal.returns
 unfolding cards_json
 returns c =
-    let text = rw c.in_ok-cards_value.ensures at c.in_ok-string.ensures.text in
-    let string = text (table_is_whole c.args.weights.now c.args.table.now) in
-    search rules
+    let line = rw c.in_ok-cards_value.ensures at c.json_line.ensures in
+    IfOk-weaker c.json_line.result _ _ (λ text is. is (table_is_whole c.args.weights.now c.args.table.now)) line

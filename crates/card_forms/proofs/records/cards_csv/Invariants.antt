@@ -1,6 +1,7 @@
-use Rattle.std.proofs.Common.{◌++◌, flat_map, take}
-use Rattle.card_forms.specs.Records.{HasWritten, names_record, row_record}
+use Rattle.std.proofs.Common.{◌≡◌, ◌++◌, flat_map, take}
+use Rattle.text_forms.specs.Records.{record_text}
+use Rattle.card_forms.specs.Records.{field_names, row_fields}
 use Rattle.card_forms.proofs.records.cards_csv.Given as goal
 
 abbrev pub invariant-loop-row : goal.invariant-loop-row
-invariant-loop-row l = HasWritten l.writer (names_record ++ flat_map (row_record l.weights l.table) (take l.row-index l.table.rows.items))
+invariant-loop-row l = l.text ≡ record_text field_names ++ flat_map (λ row. record_text (row_fields l.weights l.table row)) (take l.row-index l.table.rows.items)

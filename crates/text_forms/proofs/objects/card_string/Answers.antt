@@ -1,6 +1,6 @@
 use Rattle.std.proofs.lemmas.Result.{IfOk-weaker}
-use Rattle.card_forms.proofs.Ascii.{card_is_utf8}
-use Rattle.card_forms.proofs.objects.card_string.Goals as goal
+use Rattle.text_forms.proofs.Ascii.{card_is_utf8}
+use Rattle.text_forms.proofs.objects.card_string.Goals as goal
 
 pub returns : goal.returns
 returns c =

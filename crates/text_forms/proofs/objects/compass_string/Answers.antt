@@ -1,0 +1,8 @@
+use Rattle.std.proofs.lemmas.Result.{IfOk-weaker}
+use Rattle.text_forms.proofs.Ascii.{compass_is_utf8}
+use Rattle.text_forms.proofs.objects.compass_string.Goals as goal
+
+pub returns : goal.returns
+returns c =
+    let lossy = rw c.compass_letter.ensures.value at c.from_utf8_lossy.ensures.ok in
+    IfOk-weaker c.from_utf8_lossy.result _ _ (λ string is. is (compass_is_utf8 c.args.seat)) lossy
