@@ -1,9 +1,10 @@
 -- Which of the first rows leads.
-use Rattle.std.proofs.Common.{◌≡◌, ◌∙◌, ◌+◌, ◌-◌, ◌<◌, ◌≤◌, ℕ, suc, false, true, Bool, nat_lt, if◌then◌else◌, refl, Option, Some, None, List, [], ◌∷◌, ◌++◌, Contains, take, length, get_or, slice_get, sym, ap, subst, arith}
+use Rattle.std.proofs.Common.{◌≡◌, ◌∙◌, ◌+◌, ◌-◌, ◌<◌, ◌≤◌, ℕ, suc, false, true, Bool, nat_lt, if◌then◌else◌, refl, Option, Some, None, List, [], ◌∷◌, ◌++◌, Contains, take, length, get_or, slice_get, sym, ap, ap₂, not, ◌&&◌, subst, arith}
 use Rattle.std.specs.List.{AllZip}
 use Rattle.std.proofs.lemmas.Bool.{ltb-true, ltb-false}
 use Rattle.std.proofs.lemmas.List.{take_more}
 use Rattle.std.proofs.lemmas.Option.{slice_get-get_or, slice_get_within, get_or_from_slice_get}
+use Rattle.std.proofs.lemmas.List.Folds.{list_all-append}
 use Rattle.win_vectors.specs.Fronts.{Vector}
 use Rattle.win_vectors.specs.Weights.{weight_of}
 use Rattle.win_vectors.proofs.WeightLemmas.{weight_of-monotone}
@@ -16,7 +17,7 @@ use Rattle.strategy_tree.proofs.Rules.{lawful}
 use Rattle.strategy_tree.proofs.BridgeLaws.{leaders}
 use Rattle.root_workers.specs.Leaders.{leader}
 use Rattle.card_brackets.specs.declared.rows.CardRow.{CardRow}
-use Rattle.card_brackets.specs.Rows.{IsRow}
+use Rattle.card_brackets.specs.Rows.{IsRow, is_final, are_final}
 
 -- a card and its row more
 zip_more : (R : ℕ → CardRow → Type 0) (cards : List ℕ) (rows : List CardRow) (card : ℕ) (row : CardRow) → AllZip R cards rows → R card row → AllZip R (cards ++ card ∷ []) (rows ++ row ∷ [])
@@ -24,6 +25,16 @@ zip_more R [] [] card row none is = (is, tt)
 zip_more R (c ∷ cards) (r ∷ rows) card row both is = (both.0, zip_more R cards rows card row both.1 is)
 zip_more R [] (r ∷ rows) card row none is = absurd none
 zip_more R (c ∷ cards) [] card row none is = absurd none
+
+-- a row that doesn't end a round of which only a final table is wanted
+pub final_if_not_open : (final only : Bool) → (only && not final) ≡ false → only ≡ true → final ≡ true
+final_if_not_open true only goes_on wanted = refl
+final_if_not_open false true goes_on wanted = sym goes_on
+final_if_not_open false false goes_on wanted = wanted
+
+-- a final row more
+pub finals_more : (rows : List CardRow) (row : CardRow) → are_final rows ≡ true → is_final row ≡ true → are_final (rows ++ row ∷ []) ≡ true
+finals_more rows row all one = list_all-append is_final rows (row ∷ []) ∙ ap₂ (λ (a b : Bool). a && (b && true)) all one
 
 module _ (n : NodeValue) (ws : List ℕ) (moves : ℕ) where
   law : HasLeaders bridge IsNode (weight_of ws)

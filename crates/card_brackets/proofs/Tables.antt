@@ -1,5 +1,5 @@
 -- The least number of moves with which each row is final.
-use Rattle.std.proofs.Common.{◌≡◌, ◌+◌, ◌-◌, ◌<◌, ◌≤◌, ℕ, true, false, List, Contains, inl, inr, ⊎_elim, sym, subst, arith}
+use Rattle.std.proofs.Common.{◌≡◌, ◌+◌, ◌-◌, ◌<◌, ◌≤◌, ℕ, true, List, Contains, inl, inr, ⊎_elim, sym, subst, arith}
 use Rattle.std.proofs.lemmas.Bool.{cases_lt}
 use Rattle.trick_rules.specs.Nodes.{NodeValue, choices, child}
 use Rattle.strategy_games.specs.Plans.{tree_size}
@@ -21,10 +21,10 @@ module _ (n : NodeValue) (ws : List ℕ) where
   pub open_none : (moves : ℕ) → moves ≤ 1 → AreOpenBelow moves
   open_none moves none fewer some less = absurd (omega arith)
 
-  pub open_more : (moves : ℕ) (table : CardTable) → AreOpenBelow moves → IsTableWith n ws moves table → are_final table.rows.items ≡ false → AreOpenBelow (moves + 1)
-  open_more moves table below is not_yet fewer some less = ⊎_elim
+  pub open_more : (moves : ℕ) → AreOpenBelow moves → IsOpenWith n ws moves → AreOpenBelow (moves + 1)
+  open_more moves below now fewer some less = ⊎_elim
       (λ (earlier : fewer < moves). below fewer some earlier)
-      (λ (last : moves ≤ fewer). let same : moves ≡ fewer = omega arith in subst (λ m. IsOpenWith n ws m) same (table.rows.items, is.rows, not_yet))
+      (λ (last : moves ≤ fewer). let same : moves ≡ fewer = omega arith in subst (λ m. IsOpenWith n ws m) same now)
       (cases_lt fewer moves)
 
   pub open_within : (moves limit : ℕ) → limit ≤ moves → AreOpenBelow moves → AreOpenBelow limit

@@ -1,5 +1,5 @@
 -- A bracket round the weight that each card wins.
-use Rattle.std.specs.Prelude.{◌≡◌, ◌<◌, ◌≤◌, ◌+◌, ◌-◌, ◌==◌, ℕ, Bool, true, false, List, Contains}
+use Rattle.std.specs.Prelude.{◌≡◌, ◌<◌, ◌≤◌, ◌+◌, ◌-◌, ◌==◌, ℕ, Bool, true, false, Option, Some, None, List, Contains}
 use Rattle.std.specs.List.{AllZip, list_all}
 use Rattle.win_vectors.specs.Fronts.{Vector}
 use Rattle.win_vectors.specs.Weights.{weight_of}
@@ -43,9 +43,15 @@ pub record IsTableWith (n : NodeValue) (weights : List ℕ) (moves : ℕ) (table
   pub rows : AreRows n weights moves table.rows.items
   pub named : IsNamedByWeight bridge weights n moves table.named
 
--- with this many moves some row isn't final
+-- with this many moves the row of some card isn't final
 abbrev pub IsOpenWith : NodeValue → List ℕ → ℕ → Type 0
-IsOpenWith n weights moves = (rows : List CardRow) × AreRows n weights moves rows × (are_final rows ≡ false)
+IsOpenWith n weights moves = (card : ℕ) × (row : CardRow) × Contains (choices n) card
+    × IsRow n weights moves card row × (is_final row ≡ false)
+
+-- what a round with this many moves comes to: a table; or none, if only a final one is wanted and some row isn't final
+abbrev pub IsRoundWith : NodeValue → List ℕ → ℕ → Bool → Option CardTable → Type 0
+IsRoundWith n weights moves only_final (Some table) = IsTableWith n weights moves table × (only_final ≡ true → are_final table.rows.items ≡ true)
+IsRoundWith n weights moves only_final None = (only_final ≡ true) × IsOpenWith n weights moves
 
 -- the rows with the least number of moves, up to a limit, with which each is final; or else with the limit
 pub record IsTableUpTo (n : NodeValue) (weights : List ℕ) (limit : ℕ) (table : CardTable) : Type 0 where

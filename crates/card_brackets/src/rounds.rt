@@ -1,12 +1,12 @@
 //! The rows of all cards with a number of moves.
-ghost use Rattle.std.specs.Prelude.{◌≡◌, true, IfOk};
+ghost use Rattle.std.specs.Prelude.{◌≡◌, true, IfOk, ◌&&◌, not};
 ghost use Rattle.card_sets.specs.SetWords.{has_card};
 ghost use Rattle.trick_rules.specs.Nodes.{choices};
 ghost use Rattle.fusion_base.specs.Sampling.{made_after, card_vectors};
 ghost use Rattle.shared_table.specs.Passes.{IsPassOf};
 ghost use Rattle.root_workers.specs.Questions.{IsQuestion, NamesSpent};
 ghost use Rattle.root_workers.specs.Leaders.{leader};
-ghost use Rattle.card_brackets.specs.Rows.{IsRow, IsTableWith};
+ghost use Rattle.card_brackets.specs.Rows.{IsRow, IsRoundWith, is_final};
 
 use crate::bounds::bounds_after;
 use crate::rows::{CardRow, row_of};
@@ -53,19 +53,28 @@ fn leader(best: Option<(Card, u32)>, card: Card, weight: u32) -> (Card, u32)
     }
 }
 
+// Whether a row ends a round of which only a final table is wanted.
+fn ends(only_final: bool, row: &CardRow) -> bool
+    ensures { result ≡ (only_final && not (is_final row.now)) }
+{
+    only_final && !row.is_final()
+}
+
 /// The rows of all cards with the moves of the question, by what sampling believes of each, and the
-/// card that is named.
+/// card that is named. If only a final table is wanted, the first row that isn't final ends the
+/// round, and there is none.
 pub fn round_table(
     question: &Question,
     pass: &mut Pass,
     solver: &mut Solver,
     believed: &[CardVector],
-) -> Result<CardTable, RootFault>
+    only_final: bool,
+) -> Result<Option<CardTable>, RootFault>
     requires question { IsQuestion question.now }
     requires believed { believed.now ≡ card_vectors question.now.node.now }
     requires pass { IsPassOf question.now.table.now pass.old }
-    ensures table { IfOk result (IsTableWith question.now.node.now question.now.weights.now
-        question.now.moves) }
+    ensures end { IfOk result (IsRoundWith question.now.node.now question.now.weights.now
+        question.now.moves only_final) }
     ensures spent { NamesSpent question.now result }
     ensures pass { IsPassOf question.now.table.now pass.new }
 {
@@ -74,15 +83,18 @@ pub fn round_table(
     let mut best = None;
     for entry in believed {
         let row = row_after(question, pass, solver, entry)?;
+        if ends(only_final, &row) {
+            return Ok(None);
+        }
         best = Some(leader(best, row.card, row.most));
         rows.push(row)?;
     }
     match best {
-        Some(best) => Ok(CardTable {
+        Some(best) => Ok(Some(CardTable {
             moves: question.moves,
             rows,
             named: best.0,
-        }),
+        })),
         None => unreachable!(),
     }
 }

@@ -3,7 +3,7 @@ ghost use Rattle.std.specs.Prelude.{◌≡◌, ◌<◌, ◌≤◌, IfOk};
 ghost use Rattle.fusion_base.specs.Sampling.{card_vectors};
 ghost use Rattle.shared_table.specs.Passes.{IsPassOf};
 ghost use Rattle.root_workers.specs.Questions.{IsQuestion, NamesSpent};
-ghost use Rattle.card_brackets.specs.Rows.{IsTableWith, IsTableUpTo, are_final};
+ghost use Rattle.card_brackets.specs.Rows.{IsRoundWith, IsTableUpTo};
 
 use crate::rounds::round_table;
 use crate::rows::CardRow;
@@ -23,30 +23,23 @@ pub struct CardTable {
     pub named: Card,
 }
 
-impl CardTable {
-    /// Whether each row is final.
-    pub fn is_final(&self) -> bool
-        ensures { result ≡ are_final self.now.rows.items }
-    {
-        self.rows.iter().all(|row| row.is_final())
-    }
-}
-
-// The rows with this many of the moves that are asked for.
+// The rows with this many of the moves that are asked for. If only a final table is wanted, there
+// may be none.
 fn table_with(
     question: &Question,
     pass: &mut Pass,
     solver: &mut Solver,
     believed: &[CardVector],
     moves: u8,
-) -> Result<CardTable, RootFault>
+    only_final: bool,
+) -> Result<Option<CardTable>, RootFault>
     requires question { IsQuestion question.now }
     requires some { 1 ≤ moves }
     requires few { moves ≤ question.now.moves }
     requires believed { believed.now ≡ card_vectors question.now.node.now }
     requires pass { IsPassOf question.now.table.now pass.old }
-    ensures table { IfOk result
-        (IsTableWith question.now.node.now question.now.weights.now moves) }
+    ensures end { IfOk result (IsRoundWith question.now.node.now question.now.weights.now
+        moves only_final) }
     ensures spent { NamesSpent question.now result }
     ensures pass { IsPassOf question.now.table.now pass.new }
 {
@@ -58,7 +51,7 @@ fn table_with(
         options: question.options,
         table: question.table,
     };
-    round_table(&round, pass, solver, believed)
+    round_table(&round, pass, solver, believed, only_final)
 }
 
 /// The rows of all legal cards of a root, with the least number of moves, up to that of the
@@ -77,11 +70,21 @@ pub fn card_table(question: &Question, pass: &mut Pass) -> Result<CardTable, Roo
     let believed = per_card_alone(question.alloc, question.node)?;
     let mut solver = Solver::new(question.alloc);
     for moves in 1..question.moves {
-        let table = table_with(question, pass, &mut solver, &believed, moves)?;
-        if table.is_final() {
+        let found = table_with(question, pass, &mut solver, &believed, moves, true)?;
+        if let Some(table) = found {
             return Ok(table);
         }
     }
-    let last = table_with(question, pass, &mut solver, &believed, question.moves)?;
-    Ok(last)
+    let last = table_with(
+        question,
+        pass,
+        &mut solver,
+        &believed,
+        question.moves,
+        false,
+    )?;
+    match last {
+        Some(table) => Ok(table),
+        None => unreachable!(),
+    }
 }

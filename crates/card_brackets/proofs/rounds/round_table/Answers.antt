@@ -1,12 +1,15 @@
-use Rattle.std.proofs.Common.{◌≡◌, ◌+◌, ◌≤◌, List, ℕ, [], Some, Err, ap, take, length, refl, sym, subst, rules}
+use Rattle.std.proofs.Common.{◌≡◌, ◌∙◌, not, true, ◌+◌, ◌≤◌, List, ℕ, [], Some, Err, ap, take, length, refl, sym, subst, rules}
 use Rattle.std.specs.List.{AllZip}
+use Rattle.std.proofs.lemmas.Bool.{and_parts, not-true}
 use Rattle.std.proofs.lemmas.List.{take_all}
 use Rattle.trick_rules.specs.Nodes.{choices}
+use Rattle.strategy_tree.proofs.CardLists.{Contains-from_has_card}
 use Rattle.alphamu_core.specs.declared.answers.RootFault.TheVariants.{Spent}
 use Rattle.root_workers.proofs.Stops.{passed_on}
-use Rattle.card_brackets.specs.Rows.{IsRow}
+use Rattle.card_brackets.specs.declared.rows.CardRow.{CardRow}
+use Rattle.card_brackets.specs.Rows.{IsRow, is_final, are_final}
 use Rattle.card_brackets.proofs.Sampled.{within, entry_card, entry_choice, entry_vector, all_entries}
-use Rattle.card_brackets.proofs.Leading.{Leads, RowsSoFar, rows_none, rows_more, named_of, some_leads}
+use Rattle.card_brackets.proofs.Leading.{finals_more, final_if_not_open, Leads, RowsSoFar, rows_none, rows_more, named_of, some_leads}
 use Rattle.card_brackets.proofs.rounds.round_table.Goals as goal
 
 pub row_after-requires-clause-card : goal.row_after-requires-clause-card
@@ -32,11 +35,22 @@ loop-entry-preserved c =
           (rows_more n ws moves place entry.card c.in_ok-row.row c.leader.result c.loop-entry.rows.items c.loop-entry.best
           (within n believed place entry is c.loop-entry-test.true c.entry-item.is) (entry_card n believed place entry is c.loop-entry-test.true c.entry-item.is)
           c.in_ok-row.ensures.row c.loop-entry.invariant.so c.leader.ensures);
+      finals = λ wanted.
+          subst (λ (rows : List CardRow). are_final rows ≡ true) (sym c.in_ok-push.ensures.items)
+          (finals_more c.loop-entry.rows.items c.in_ok-row.row (c.loop-entry.invariant.finals wanted) (final_if_not_open (is_final c.in_ok-row.row) c.args.only_final (sym c.ends.ensures ∙ c.if-ends.false) wanted));
       pass = c.row_after.ensures.pass;
     }
 
-pub returns-clause-table : goal.returns-clause-table
-returns-clause-table c =
+pub returns-then-ends-clause-end : goal.returns-then-ends-clause-end
+returns-then-ends-clause-end c =
+    let n = c.args.question.now.node.now in
+    let entry = c.entry-item.result in
+    let choice = entry_choice n c.args.believed.now c.loop-entry.entry-index entry c.requires.believed c.loop-entry-test.true c.entry-item.is in
+    let both = and_parts c.args.only_final (not (is_final c.in_ok-row.row)) (sym c.ends.ensures ∙ c.if-ends.true) in
+    (both.0, (entry.card, c.in_ok-row.row, Contains-from_has_card (choices n) entry.card choice, c.in_ok-row.ensures.row, not-true (is_final c.in_ok-row.row) both.1))
+
+pub returns-clause-end : goal.returns-clause-end
+returns-clause-end c =
     let n = c.args.question.now.node.now in
     let ws = c.args.question.now.weights.now in
     let moves = c.args.question.now.moves in
@@ -44,12 +58,14 @@ returns-clause-table c =
     let so = c.loop-entry.invariant.so in
     let past : length c.args.believed.now ≤ place = search rules in
     let all : take place (choices n) ≡ choices n = take_all place (choices n) (all_entries n c.args.believed.now place c.requires.believed past) in
-    let leads = subst (λ best. Leads n ws moves best (take place (choices n))) c.in-Some.is so.leads in
-    record {
-      moves_are = refl;
-      rows = subst (λ cards. AllZip (IsRow n ws moves) cards c.loop-entry.rows.items) all so.rows_are;
-      named = named_of n ws moves c.in-Some.best c.requires.question.some_moves c.width-width.ensures.a_node c.requires.question.goes_on c.requires.question.ours (subst (λ tried. Leads n ws moves (Some c.in-Some.best) tried) all leads);
-    }
+    let leads = subst (λ best. Leads n ws moves best (take place (choices n))) c.in-Some.is so.leads in (
+      record {
+        moves_are = refl;
+        rows = subst (λ cards. AllZip (IsRow n ws moves) cards c.loop-entry.rows.items) all so.rows_are;
+        named = named_of n ws moves c.in-Some.best c.requires.question.some_moves c.width-width.ensures.a_node c.requires.question.goes_on c.requires.question.ours (subst (λ tried. Leads n ws moves (Some c.in-Some.best) tried) all leads);
+      },
+      c.loop-entry.invariant.finals,
+    )
 
 pub unreachable-requires : goal.unreachable-requires
 unreachable-requires c =

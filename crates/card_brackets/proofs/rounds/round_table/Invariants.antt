@@ -1,3 +1,5 @@
+use Rattle.std.proofs.Common.{◌≡◌, true}
+use Rattle.card_brackets.specs.Rows.{are_final}
 use Rattle.shared_table.specs.Passes.{IsPassOf}
 use Rattle.card_brackets.proofs.Leading.{RowsSoFar}
 use Rattle.card_brackets.proofs.rounds.round_table.Given as goal
@@ -5,5 +7,6 @@ use Rattle.card_brackets.proofs.rounds.round_table.Given as goal
 abbrev pub invariant-loop-entry : goal.invariant-loop-entry
 invariant-loop-entry l = record {
   so : RowsSoFar l.question.node.now l.question.weights.now l.question.moves l.entry-index l.rows.items l.best;
+  finals : l.only_final ≡ true → are_final l.rows.items ≡ true;
   pass : IsPassOf l.question.table.now l.pass;
 }

@@ -1,6 +1,7 @@
-use Rattle.std.proofs.Common.{◌≡◌, ◌∙◌, ◌<◌, ◌≤◌, true, false, Err, ap, sym, rules, arith}
+use Rattle.std.proofs.Common.{◌<◌, ◌≤◌, true, false, true≢false, Err, refl, ap, sym, subst, rules, arith}
 use Rattle.alphamu_core.specs.declared.answers.RootFault.TheVariants.{Spent}
 use Rattle.root_workers.proofs.Stops.{passed_on}
+use Rattle.card_brackets.specs.Rows.{IsRoundWith}
 use Rattle.card_brackets.proofs.Tables.{open_none, open_more, open_within, table_up_to}
 use Rattle.card_brackets.proofs.table.card_table.Goals as goal
 
@@ -10,19 +11,19 @@ loop-moves-init c = record {
   pass = c.requires.pass;
 }
 
-pub returns-then-is_final-clause-table : goal.returns-then-is_final-clause-table
-returns-then-is_final-clause-table c =
+pub returns-in-Some-clause-table : goal.returns-in-Some-clause-table
+returns-in-Some-clause-table c =
     let q = c.args.question.now in
     let some : 1 ≤ c.loop-moves.moves = search rules in
     let few : c.loop-moves.moves < q.moves = search rules in
-    table_up_to q.node.now q.weights.now q.moves c.loop-moves.moves c.in_ok-table.table some (omega (arith, few)) c.loop-moves.invariant.below c.in_ok-table.ensures.table
-    (λ less. sym c.is_final.ensures ∙ c.if-is_final.true)
+    let end = subst (IsRoundWith q.node.now q.weights.now c.loop-moves.moves true) c.in-Some.is c.in_ok-found.ensures.end in
+    table_up_to q.node.now q.weights.now q.moves c.loop-moves.moves c.in-Some.table some (omega (arith, few)) c.loop-moves.invariant.below end.0 (λ less. end.1 refl)
 
 pub loop-moves-preserved : goal.loop-moves-preserved
 loop-moves-preserved c =
     let q = c.args.question.now in
     record {
-      below = open_more q.node.now q.weights.now c.loop-moves.moves c.in_ok-table.table c.loop-moves.invariant.below c.in_ok-table.ensures.table (sym c.is_final.ensures ∙ c.if-is_final.false);
+      below = open_more q.node.now q.weights.now c.loop-moves.moves c.loop-moves.invariant.below (subst (IsRoundWith q.node.now q.weights.now c.loop-moves.moves true) c.in_default.is c.in_ok-found.ensures.end).1;
       pass = c.table_with.ensures.pass;
     }
 
@@ -30,12 +31,19 @@ pub returns-clause-table : goal.returns-clause-table
 returns-clause-table c =
     let q = c.args.question.now in
     let past : q.moves ≤ c.loop-moves.moves = search rules in
-    table_up_to q.node.now q.weights.now q.moves q.moves c.in_ok-last.last c.requires.question.some_moves (omega arith) (open_within q.node.now q.weights.now c.loop-moves.moves q.moves past c.loop-moves.invariant.below) c.in_ok-last.ensures.table
+    let end = subst (IsRoundWith q.node.now q.weights.now q.moves false) c.in-Some-last.is c.in_ok-last.ensures.end in
+    table_up_to q.node.now q.weights.now q.moves q.moves c.in-Some-last.table c.requires.question.some_moves (omega arith) (open_within q.node.now q.weights.now c.loop-moves.moves q.moves past c.loop-moves.invariant.below) end.0
     (λ less. absurd (omega (arith, less)))
 
-pub returns-in_err-table-clause-spent : goal.returns-in_err-table-clause-spent
-returns-in_err-table-clause-spent c = λ card e.
-    c.in_err-table.ensures.spent card (ap Err (passed_on c.from_residual-in_err-table.result c.in_err-table.field-0.0 (Spent card) c.from_residual-in_err-table.ensures.1 e))
+pub unreachable-requires : goal.unreachable-requires
+unreachable-requires c =
+    let q = c.args.question.now in
+    let end = subst (IsRoundWith q.node.now q.weights.now q.moves false) c.in-None.is c.in_ok-last.ensures.end in
+    absurd (true≢false (sym end.0))
+
+pub returns-in_err-found-clause-spent : goal.returns-in_err-found-clause-spent
+returns-in_err-found-clause-spent c = λ card e.
+    c.in_err-found.ensures.spent card (ap Err (passed_on c.from_residual-in_err-found.result c.in_err-found.field-0.0 (Spent card) c.from_residual-in_err-found.ensures.1 e))
 
 pub returns-in_err-last-clause-spent : goal.returns-in_err-last-clause-spent
 returns-in_err-last-clause-spent c = λ card e.
