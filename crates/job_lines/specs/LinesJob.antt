@@ -1,11 +1,11 @@
 -- The strategies of a report as games, each in each layout.
-use Rattle.std.specs.Prelude.{◌≡◌, ℕ, Bool, zero, suc, ◌+◌, ◌*◌, List, [], ◌∷◌, ◌++◌, length, map, slice_get, Some, Ok, codes}
+use Rattle.std.specs.Prelude.{◌≡◌, ◌<◌, ◌^◌, ℕ, Bool, zero, suc, ◌+◌, ◌*◌, All, List, [], ◌∷◌, ◌++◌, length, map, slice_get, Some, Ok, codes}
 use Rattle.byte_text.specs.Lines.{line_of}
 use Rattle.card_sets.specs.declared.seat.Seat.TheVariants.{Left, Right}
 use Rattle.trick_rules.specs.Positions.{State}
 use Rattle.trick_rules.specs.Play.{hand_of}
 use Rattle.trick_rules.specs.Nodes.{states}
-use Rattle.strategy_games.specs.Plans.{wins}
+use Rattle.strategy_games.specs.Plans.{Fits, wins}
 use Rattle.strategy_tree.specs.Bridge.{bridge}
 use Rattle.pbn_text.specs.Games.{GameValue}
 use Rattle.pbn_text.specs.Grammar.{games_read}
@@ -16,6 +16,12 @@ use Rattle.am_answer.specs.declared.root.Root.{Root}
 use Rattle.am_answer.specs.Judging.{plans_in}
 use Rattle.pbn_games.specs.declared.game.Shown.{Shown}
 use Rattle.pbn_games.specs.GameText.{dealt_hand, game_text}
+
+-- the strategies of a report fit the root, and each of its layouts has a number
+pub record AreLines (root : Root) (entries : List ReadEntryValue) : Type 0 where
+  pub few : length entries < 2 ^ 32
+  pub as_many : length root.kept.numbers ≡ length root.kept.node.lefts
+  pub fits : All (λ read. (moves : ℕ) × Fits bridge read.entry.plan root.kept.node moves) entries
 
 -- texts one after another, one for each place, which are counted from 0
 abbrev pub AreTexts : (ℕ → List ℕ → Type 0) → ℕ → List ℕ → Type 0

@@ -5,4 +5,4 @@
 
 mod lines;
 
-pub use lines::tell_lines;
+pub use lines::{games_in, tell_lines};

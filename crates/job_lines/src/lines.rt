@@ -9,7 +9,8 @@ ghost use Rattle.line_plays.specs.Defended.{PlaysOut};
 ghost use Rattle.job_words.specs.declared.asks.LayoutsJob.TheVariants as jobs;
 ghost use Rattle.am_answer.specs.Answers.{board_in, task_at};
 ghost use Rattle.am_answer.specs.Stages.{IsFileRefusal};
-ghost use Rattle.job_lines.specs.LinesJob.{AreTexts, shown_at as shown_in, IsGameAt, AreGames, IsLinesReport};
+ghost use Rattle.job_lines.specs.LinesJob.{AreTexts, shown_at as shown_in, IsGameAt, AreGames};
+ghost use Rattle.job_lines.specs.LinesJob.{AreLines, IsLinesReport};
 
 use am_answer::{PbnKind, Root, Status};
 use am_report::ReadEntry;
@@ -35,105 +36,94 @@ fn play_at(solver: &mut Solver, read: &ReadEntry, node: &Node, place: u16) -> Pl
     play_against_best_defence(solver, &read.entry.plan, node.position(), node.left(place))
 }
 
-// What is shown of the strategy of a place in the layout of a place.
-fn shown_at(root: &Root, lines: usize, line: usize, place: u16, made: bool) -> Shown
-    requires a_line { line < lines }
-    requires a_layout { place < length root.now.kept.node.lefts }
-    requires few { lines < 2 ^ 32 }
-    requires as_many { length root.now.kept.numbers ≡ length root.now.kept.node.lefts }
-    ensures { (number : ℕ) (s : State) → slice_get root.now.kept.numbers place ≡ Some number
-        → slice_get (states root.now.kept.node) place ≡ Some s
-        → result ≡ shown_in root.now lines line place made number s }
-{
-    let node = &root.kept.node;
-    let plays = root.board.plays();
-    let left = node.left(place);
-    let right = node.position().hand(Seat::Right, left);
-    Shown {
-        board: line as u64 * u64::from(node.width()) + u64::from(place) + 1,
-        line: line as u64 + 1,
-        lines: lines as u64,
-        layout: root.kept.numbers[usize::from(place)],
-        made,
-        left: dealt_hand(plays, Seat::Left, left),
-        right: dealt_hand(plays, Seat::Right, right),
+// The strategies of a report at a root, to be written as games with the tags of a game.
+#[derive(Drop)]
+struct Lines<'a> {
+    alloc: Global,
+    game: &'a Game,
+    root: &'a Root,
+    entries: &'a [ReadEntry],
+}
+
+impl Lines<'_> {
+    // What is shown of the strategy of a place in the layout of a place.
+    fn shown_at(&self, line: usize, place: u16, made: bool) -> Shown
+        requires lines { AreLines self.now.root.now self.now.entries.now }
+        requires a_line { line < length self.now.entries.now }
+        requires a_layout { place < length self.now.root.now.kept.node.lefts }
+        ensures { (number : ℕ) (s : State)
+            → slice_get self.now.root.now.kept.numbers place ≡ Some number
+            → slice_get (states self.now.root.now.kept.node) place ≡ Some s
+            → result ≡ shown_in self.now.root.now (length self.now.entries.now)
+            line place made number s }
+    {
+        let root = self.root;
+        let node = &root.kept.node;
+        let plays = root.board.plays();
+        let left = node.left(place);
+        let right = node.position().hand(Seat::Right, left);
+        Shown {
+            board: line as u64 * u64::from(node.width()) + u64::from(place) + 1,
+            line: line as u64 + 1,
+            lines: self.entries.len() as u64,
+            layout: root.kept.numbers[usize::from(place)],
+            made,
+            left: dealt_hand(plays, Seat::Left, left),
+            right: dealt_hand(plays, Seat::Right, right),
+        }
+    }
+
+    // The game of a strategy in a layout, by their places.
+    fn game_at(&self, solver: &mut Solver, line: usize, place: u16) -> Result<Text, AllocError>
+        requires lines { AreLines self.now.root.now self.now.entries.now }
+        requires a_line { line < length self.now.entries.now }
+        requires a_layout { place < length self.now.root.now.kept.node.lefts }
+        ensures { IfOk result
+            (IsGameAt self.now.game.now self.now.root.now self.now.entries.now line place) }
+    {
+        let root = self.root;
+        let played = play_at(solver, &self.entries[line], &root.kept.node, place);
+        let shown = self.shown_at(line, place, played.made);
+        let cards = all_cards(self.alloc, root.board.plays(), &played.cards)?;
+        game_text(self.alloc, self.game, &root.board, &shown, &cards)
+    }
+
+    // The games of a strategy, by its place: one for each kept layout.
+    fn games_of(&self, solver: &mut Solver, line: usize) -> Result<Text, AllocError>
+        requires lines { AreLines self.now.root.now self.now.entries.now }
+        requires a_line { line < length self.now.entries.now }
+        ensures { IfOk result
+            (AreTexts (IsGameAt self.now.game.now self.now.root.now self.now.entries.now line)
+            (length self.now.root.now.kept.node.lefts)) }
+    {
+        let root = self.root;
+        let mut text = Text::new(self.alloc);
+        for place in 0..root.kept.node.width() {
+            let next = self.game_at(solver, line, place)?;
+            text.push(next.bytes())?;
+        }
+        Ok(text)
+    }
+
+    // The games of all strategies.
+    fn all_games(&self) -> Result<Text, AllocError>
+        requires lines { AreLines self.now.root.now self.now.entries.now }
+        ensures { IfOk result
+            (AreGames self.now.game.now self.now.root.now self.now.entries.now) }
+    {
+        let mut solver = Solver::new(self.alloc);
+        let mut text = Text::new(self.alloc);
+        for line in 0..self.entries.len() {
+            let next = self.games_of(&mut solver, line)?;
+            text.push(next.bytes())?;
+        }
+        Ok(text)
     }
 }
 
-// The game of a strategy in a layout, by their places.
-fn game_at(
-    alloc: Global,
-    solver: &mut Solver,
-    game: &Game,
-    root: &Root,
-    entries: &[ReadEntry],
-    line: usize,
-    place: u16,
-) -> Result<Text, AllocError>
-    requires a_line { line < length entries.now }
-    requires a_layout { place < length root.now.kept.node.lefts }
-    requires few { length entries.now < 2 ^ 32 }
-    requires as_many { length root.now.kept.numbers ≡ length root.now.kept.node.lefts }
-    requires fits { All (λ read. (moves : ℕ)
-        × Fits bridge read.entry.plan root.now.kept.node moves) entries.now }
-    ensures { IfOk result (IsGameAt game.now root.now entries.now line place) }
-{
-    let played = play_at(solver, &entries[line], &root.kept.node, place);
-    let shown = shown_at(root, entries.len(), line, place, played.made);
-    let cards = all_cards(alloc, root.board.plays(), &played.cards)?;
-    game_text(alloc, game, &root.board, &shown, &cards)
-}
-
-// The games of a strategy, by its place: one for each kept layout.
-fn line_games(
-    alloc: Global,
-    solver: &mut Solver,
-    game: &Game,
-    root: &Root,
-    entries: &[ReadEntry],
-    line: usize,
-) -> Result<Text, AllocError>
-    requires a_line { line < length entries.now }
-    requires few { length entries.now < 2 ^ 32 }
-    requires as_many { length root.now.kept.numbers ≡ length root.now.kept.node.lefts }
-    requires fits { All (λ read. (moves : ℕ)
-        × Fits bridge read.entry.plan root.now.kept.node moves) entries.now }
-    ensures { IfOk result (AreTexts (IsGameAt game.now root.now entries.now line)
-        (length root.now.kept.node.lefts)) }
-{
-    let mut text = Text::new(alloc);
-    for place in 0..root.kept.node.width() {
-        let next = game_at(alloc, solver, game, root, entries, line, place)?;
-        text.push(next.bytes())?;
-    }
-    Ok(text)
-}
-
-// The games of all strategies.
-fn all_games(
-    alloc: Global,
-    game: &Game,
-    root: &Root,
-    entries: &[ReadEntry],
-) -> Result<Text, AllocError>
-    requires few { length entries.now < 2 ^ 32 }
-    requires as_many { length root.now.kept.numbers ≡ length root.now.kept.node.lefts }
-    requires fits { All (λ read. (moves : ℕ)
-        × Fits bridge read.entry.plan root.now.kept.node moves) entries.now }
-    ensures { IfOk result (AreGames game.now root.now entries.now) }
-{
-    let mut solver = Solver::new(alloc);
-    let mut text = Text::new(alloc);
-    for line in 0..entries.len() {
-        let next = line_games(alloc, &mut solver, game, root, entries, line)?;
-        text.push(next.bytes())?;
-    }
-    Ok(text)
-}
-
-// The games of a deal file that has a board.
+/// The games of a deal file that has a board. Errors: `Memory` alone, if it has one.
 #[tactic(auto, unfolding(am_answer::specs::Answers::board_in))]
-fn games_in(alloc: Global, deal: &Text) -> Result<Vec<Game>, Status>
+pub fn games_in(alloc: Global, deal: &Text) -> Result<Vec<Game>, Status>
     requires { length deal.now < 2 ^ 32 - 1 }
     ensures read { IfOk result (λ games. games_read deal.now ≡ Ok games.items) }
     ensures some { IfOk result (λ games. 1 ≤ length games.items) }
@@ -164,8 +154,13 @@ pub fn tell_lines(alloc: Global, deal: &Text, root: &Root, report: &Text) -> Res
 {
     let read = good_report(alloc, root, report)?;
     let games = games_in(alloc, deal)?;
-    let lines = all_games(alloc, &games[0], root, &read.entries)?;
+    let lines = Lines {
+        alloc,
+        game: &games[0],
+        root,
+        entries: &read.entries,
+    };
     let mut text = Text::from_bytes(alloc, b"% alphamu lines 1\n")?;
-    text.push(lines.bytes())?;
+    text.push(lines.all_games()?.bytes())?;
     Ok(text)
 }

@@ -250,19 +250,32 @@ fn the_heavier_layout_decides(rt: HostRuntime) -> Result<(), Fail> {
     Ok(())
 }
 
+// The card of a root that these workers search with two moves, with its weight and how many vectors
+// the front has. Fails if the workers don't meet at the gate.
+fn met_at<R: Threads + Abort + Sync>(
+    rt: &R,
+    alloc: Global,
+    node: &Node,
+    workers: u32,
+    cuts: bool,
+    gate: &Meeting,
+) -> Result<(Card, u32, usize), Fail> {
+    let options = Options {
+        nodes: 1000,
+        workers,
+        table: true,
+        cuts,
+    };
+    let root = front_of(rt, alloc, node, 2, &options, gate)??;
+    assert!(rt; gate.took_place());
+    Ok((root.card, root.weight, root.front.len()))
+}
+
 #[test]
 fn two_workers_are_beside_each_other(rt: HostRuntime) -> Result<(), Fail> {
     let gate = Meeting::new(spade(2), spade(3), 0);
     let node = guess(&rt, rt.alloc())?;
-    let options = Options {
-        nodes: 1000,
-        workers: 2,
-        table: true,
-        cuts: false,
-    };
-    let root = front_of(&rt, rt.alloc(), &node, 2, &options, &gate)??;
-    assert!(rt; gate.took_place());
-    assert!(rt; root.card == spade(2) && root.weight == 1 && root.front.len() == 2);
+    assert!(rt; met_at(&rt, rt.alloc(), &node, 2, false, &gate)? == (spade(2), 1, 2));
     Ok(())
 }
 
@@ -272,14 +285,6 @@ fn two_workers_are_beside_each_other(rt: HostRuntime) -> Result<(), Fail> {
 fn two_workers_share_what_won_with_a_move_less(rt: HostRuntime) -> Result<(), Fail> {
     let gate = Meeting::new(spade(11), spade(13), 1);
     let node = after_seven(&rt, rt.alloc())?;
-    let options = Options {
-        nodes: 1000,
-        workers: 4,
-        table: true,
-        cuts: true,
-    };
-    let root = front_of(&rt, rt.alloc(), &node, 2, &options, &gate)??;
-    assert!(rt; gate.took_place());
-    assert!(rt; root.card == spade(11) && root.weight == 1 && root.front.len() == 2);
+    assert!(rt; met_at(&rt, rt.alloc(), &node, 4, true, &gate)? == (spade(11), 1, 2));
     Ok(())
 }

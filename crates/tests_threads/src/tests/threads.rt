@@ -50,82 +50,33 @@ fn put_all(alloc: Global, table: &SharedTable, mut pass: Pass, node: &Node) -> P
     pass
 }
 
-// Two threads put all entries.
-fn put_by_two<R: Threads>(
+// This many threads put all entries: one, or half of them beside the other half.
+fn put_by<R: Threads + Sync>(
     rt: &R,
     alloc: Global,
     table: &SharedTable,
     mut pass: Pass,
     node: &Node,
+    threads: u32,
 ) -> Pass
     requires { IsPassOf table.now pass }
     ensures { IsPassOf table.now result }
 {
-    let other = table.split(&mut pass);
-    let (mut pass, other) = thread::join(
-        rt,
-        move || -> Pass
-            requires { IsPassOf table.now pass }
-            ensures { IsPassOf table.entry.now result }
-        { put_all(alloc, table, pass, node) },
-        move || -> Pass
-            requires { IsPassOf table.now other }
-            ensures { IsPassOf table.entry.now result }
-        { put_all(alloc, table, other, node) },
-    );
-    table.join(&mut pass, other);
-    pass
-}
-
-// Four threads put all entries.
-fn put_by_four<R: Threads + Sync>(
-    rt: &R,
-    alloc: Global,
-    table: &SharedTable,
-    mut pass: Pass,
-    node: &Node,
-) -> Pass
-    requires { IsPassOf table.now pass }
-    ensures { IsPassOf table.now result }
-{
+    if threads < 2 {
+        return put_all(alloc, table, pass, node);
+    }
+    let half = threads / 2;
     let other = table.split(&mut pass);
     let (mut pass, other) = thread::join(
         rt,
         move || -> Pass
             requires { IsSync R.row × IsPassOf table.now pass }
             ensures { IsPassOf table.entry.now result }
-        { put_by_two(rt, alloc, table, pass, node) },
+        { put_by(rt, alloc, table, pass, node, half) },
         move || -> Pass
             requires { IsSync R.row × IsPassOf table.now other }
             ensures { IsPassOf table.entry.now result }
-        { put_by_two(rt, alloc, table, other, node) },
-    );
-    table.join(&mut pass, other);
-    pass
-}
-
-// Eight threads put all entries.
-fn put_by_eight<R: Threads + Sync>(
-    rt: &R,
-    alloc: Global,
-    table: &SharedTable,
-    mut pass: Pass,
-    node: &Node,
-) -> Pass
-    requires { IsPassOf table.now pass }
-    ensures { IsPassOf table.now result }
-{
-    let other = table.split(&mut pass);
-    let (mut pass, other) = thread::join(
-        rt,
-        move || -> Pass
-            requires { IsSync R.row × IsPassOf table.now pass }
-            ensures { IsPassOf table.entry.now result }
-        { put_by_four(rt, alloc, table, pass, node) },
-        move || -> Pass
-            requires { IsSync R.row × IsPassOf table.now other }
-            ensures { IsPassOf table.entry.now result }
-        { put_by_four(rt, alloc, table, other, node) },
+        { put_by(rt, alloc, table, other, node, half) },
     );
     table.join(&mut pass, other);
     pass
@@ -162,22 +113,18 @@ fn entries_of(closed: &ClosedTable) -> usize {
     total
 }
 
-// Fails if a table with this many shards hasn't each entry once, after two threads have put all of
-// them, or eight have.
+// Fails if a table with this many shards hasn't each entry once, after this many threads have put
+// all of them.
 fn assert_kept_once<R: Threads + Abort + Sync>(
     rt: &R,
     alloc: Global,
     shards: u32,
-    eight: bool,
+    threads: u32,
 ) -> Result<(), Fail> {
     assert!(rt; 1 <= shards && shards <= 64);
     let node = after_two(rt, alloc)?;
     let (table, pass) = SharedTable::new(alloc, shards, 64)?;
-    let pass = if eight {
-        put_by_eight(rt, alloc, &table, pass, &node)
-    } else {
-        put_by_two(rt, alloc, &table, pass, &node)
-    };
+    let pass = put_by(rt, alloc, &table, pass, &node, threads);
     let mut pass = put_all(alloc, &table, pass, &node);
     assert_eq!(rt; found(alloc, &table, &mut pass, &node)?, 8);
     assert_eq!(rt; entries_of(&table.close(&mut pass)?), 8);
@@ -186,22 +133,22 @@ fn assert_kept_once<R: Threads + Abort + Sync>(
 
 #[test]
 fn two_threads_on_one_shard(rt: HostRuntime) -> Result<(), Fail> {
-    assert_kept_once(&rt, rt.alloc(), 1, false)
+    assert_kept_once(&rt, rt.alloc(), 1, 2)
 }
 
 #[test]
 fn two_threads_on_many_shards(rt: HostRuntime) -> Result<(), Fail> {
-    assert_kept_once(&rt, rt.alloc(), 16, false)
+    assert_kept_once(&rt, rt.alloc(), 16, 2)
 }
 
 #[test]
 fn eight_threads_on_one_shard(rt: HostRuntime) -> Result<(), Fail> {
-    assert_kept_once(&rt, rt.alloc(), 1, true)
+    assert_kept_once(&rt, rt.alloc(), 1, 8)
 }
 
 #[test]
 fn eight_threads_on_many_shards(rt: HostRuntime) -> Result<(), Fail> {
-    assert_kept_once(&rt, rt.alloc(), 16, true)
+    assert_kept_once(&rt, rt.alloc(), 16, 8)
 }
 
 // Draws until there is no number left.
