@@ -3,19 +3,19 @@ use Rattle.std.proofs.Common.{◌≡◌, ℕ, List, Option, None, Some, Ok, Resu
 use Rattle.am_outside.specs.Shelf.{Files}
 use Rattle.am_answer.specs.declared.status.Status.{Status}
 use Rattle.am_answer.specs.Files.{InputsValue, inputs_read}
-use Rattle.card_forms.specs.declared.form.Form.{Form}
+use Rattle.text_forms.specs.declared.form.Form.{Form}
 use Rattle.study_top.specs.declared.job.StudyJob.{StudyJob}
-use Rattle.study_top.specs.Forms.{form_of, other_words}
+use Rattle.study_top.specs.Forms.{form_of}
 use Rattle.study_top.specs.Tricks.{trick_of}
-use Rattle.study_top.specs.Study.{job_of, asked_by, IsTextOf, IsRefusalOf, IsAsked, IsStudyText, IsStudyRefusal}
+use Rattle.study_top.specs.Study.{job_of, asked_words, IsTextOf, IsRefusalOf, IsAsked, IsStudyText, IsStudyRefusal}
 
 pub some_more : {A : Type 0} (o : Option A) (P Q : A → Type 0) → ((a : A) → P a → Q a) → IfSome o P → IfSome o Q
 some_more None P Q more h = tt
 some_more (Some a) P Q more h = more a h
 
 module _ (words : List (List ℕ)) (files : Files) (job : Option StudyJob) (form : Form) (from : ℕ) (asked : List (List ℕ)) (inputs : InputsValue)
-    (job_is : job ≡ job_of (other_words words)) (formed : form_of job words ≡ Ok form) (begins : trick_of job words ≡ Ok from)
-    (asked_is : asked ≡ asked_by (other_words words)) (read : inputs_read asked files ≡ Ok inputs) where
+    (job_is : job ≡ job_of words) (formed : form_of job words ≡ Ok form) (begins : trick_of job words ≡ Ok from)
+    (asked_is : asked ≡ asked_words words) (read : inputs_read asked files ≡ Ok inputs) where
   is_asked : IsAsked words files form from inputs
   is_asked = record {
     formed = subst (λ j. form_of j words ≡ Ok form) job_is formed;

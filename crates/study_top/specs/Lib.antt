@@ -1,4 +1,6 @@
+pub mod Apart
 pub mod Parted
+pub mod AllGames
 pub mod Forms
 pub mod Tricks
 pub mod Study

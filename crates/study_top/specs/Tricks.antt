@@ -6,12 +6,13 @@ use Rattle.am_answer.specs.declared.status.Status.TheVariants.{BadWords}
 use Rattle.study_top.specs.Parted.{values_of}
 use Rattle.study_top.specs.Forms.{without_form}
 use Rattle.study_top.specs.declared.job.StudyJob.{StudyJob}
-use Rattle.study_top.specs.declared.job.StudyJob.TheVariants.{Review}
+use Rattle.study_top.specs.declared.job.StudyJob.TheVariants.{Review, Reviews}
 
 -- the trick that these words name, from 1 to 13: the first if there are none; only `review` takes one, and no job several
 abbrev pub trick_in : Option StudyJob → List (List ℕ) → Result ℕ Status
 trick_in job [] = Ok 1
 trick_in (Some Review) (word ∷ []) = ok_or (number_within 1 13 word) BadWords
+trick_in (Some Reviews) (word ∷ []) = ok_or (number_within 1 13 word) BadWords
 trick_in job words = Err BadWords
 
 -- the trick of a study with this job

@@ -5,7 +5,7 @@ ghost use Rattle.study_top.specs.Forms.{form_in, form_named};
 
 use crate::job::StudyJob;
 use am_answer::Status;
-use card_forms::Form;
+use text_forms::Form;
 
 // The form that a word names.
 fn form_named(word: &str) -> Result<Form, Status>
@@ -20,13 +20,18 @@ fn form_named(word: &str) -> Result<Form, Status>
 }
 
 /// The form that these words name, for a job: text if there are none. Errors: `BadWords` if a word
-/// names no form, if there are several, or if there is one and the job isn't `cards`.
+/// names no form, if there are several, or if there is one and the job is neither
+/// `cards` nor `review`.
 pub fn form_in(job: Option<StudyJob>, words: &[String]) -> Result<Form, Status>
     ensures { result ≡ form_in job (texts_of words.now) }
 {
     match words {
         [] => Ok(Form::Text),
-        [word] if matches!(job, Some(StudyJob::Cards)) => form_named(word.as_str()),
+        [word]
+            if matches!(
+                job,
+                Some(StudyJob::Cards | StudyJob::Review | StudyJob::Reviews)
+            ) => form_named(word.as_str()),
         _ => Err(Status::BadWords),
     }
 }

@@ -1,7 +1,7 @@
 //! The jobs of a study, and its words as those of `alphamu`.
 ghost use Rattle.std.specs.Prelude.{◌≡◌, IfOk, string_bytes};
 ghost use Rattle.job_words.specs.Asks.{texts_of};
-ghost use Rattle.study_top.specs.Study.{job_named, job_of, base_word, asked_word, asked_by};
+ghost use Rattle.study_top.specs.Study.{job_named, named_job, job_with, base_word, asked_word, asked_by};
 
 use std::alloc::{AllocError, Global};
 
@@ -12,10 +12,25 @@ pub enum StudyJob {
     Words,
     /// The strategies of a report as PBN games, each played out in each kept layout.
     Lines,
+    /// A report as a page of HTML.
+    Page,
     /// Every legal card with the bounds of the weight that it wins.
     Cards,
     /// Every decision of a played board, and what each card cost.
     Review,
+    /// The same of all games of a deal file, each with its own layout file.
+    Reviews,
+}
+
+// The job, if all games are asked for or the first alone.
+fn job_with(all: bool, job: Option<StudyJob>) -> Option<StudyJob>
+    ensures { result ≡ job_with all job }
+{
+    match (all, job) {
+        (false, job) => job,
+        (true, Some(StudyJob::Review)) => Some(StudyJob::Reviews),
+        (true, _) => None,
+    }
 }
 
 // The job that a word names.
@@ -25,20 +40,22 @@ fn job_named(word: &str) -> Option<StudyJob>
     match word {
         "words" => Some(StudyJob::Words),
         "lines" => Some(StudyJob::Lines),
+        "page" => Some(StudyJob::Page),
         "cards" => Some(StudyJob::Cards),
         "review" => Some(StudyJob::Review),
         _ => None,
     }
 }
 
-/// The job of a study: what the word after the first `--job` names.
-pub fn job_of(words: &[String]) -> Option<StudyJob>
-    ensures { result ≡ job_of (texts_of words.now) }
+/// The job of a study, for all games or for the first alone: what the word after the first `--job`
+/// names.
+pub fn job_of(all: bool, words: &[String]) -> Option<StudyJob>
+    ensures { result ≡ job_with all (named_job (texts_of words.now)) }
 {
     let mut names_job = false;
     for word in words {
         if names_job {
-            return job_named(word.as_str());
+            return job_with(all, job_named(word.as_str()));
         }
         names_job = word.as_str() == "--job";
     }
@@ -50,30 +67,31 @@ fn base_word(job: Option<StudyJob>) -> &'static str
     ensures { result.now ≡ base_word job }
 {
     match job {
-        Some(StudyJob::Words) | Some(StudyJob::Lines) => "check",
+        Some(StudyJob::Words) | Some(StudyJob::Lines) | Some(StudyJob::Page) => "check",
         Some(StudyJob::Cards) | Some(StudyJob::Review) => "card",
+        Some(StudyJob::Reviews) => "boards",
         None => "",
     }
 }
 
-fn asked_word(alloc: Global, names_job: bool, word: &str) -> Result<String, AllocError>
-    ensures { IfOk result (λ text. string_bytes text ≡ asked_word names_job word.now) }
+fn asked_word(alloc: Global, all: bool, names_job: bool, word: &str) -> Result<String, AllocError>
+    ensures { IfOk result (λ text. string_bytes text ≡ asked_word all names_job word.now) }
 {
     if names_job {
-        String::from_str(alloc, base_word(job_named(word)))
+        String::from_str(alloc, base_word(job_with(all, job_named(word))))
     } else {
         String::from_str(alloc, word)
     }
 }
 
 /// The words of a study, with the job of `alphamu` that reads the same in place of its own.
-pub fn asked_by(alloc: Global, words: &[String]) -> Result<Vec<String>, AllocError>
-    ensures { IfOk result (λ asked. texts_of asked.items ≡ asked_by (texts_of words.now)) }
+pub fn asked_by(alloc: Global, all: bool, words: &[String]) -> Result<Vec<String>, AllocError>
+    ensures { IfOk result (λ asked. texts_of asked.items ≡ asked_by all (texts_of words.now)) }
 {
     let mut asked = Vec::new(alloc);
     let mut names_job = false;
     for word in words {
-        asked.push(asked_word(alloc, names_job, word.as_str())?)?;
+        asked.push(asked_word(alloc, all, names_job, word.as_str())?)?;
         names_job = !names_job && word.as_str() == "--job";
     }
     Ok(asked)

@@ -1,8 +1,10 @@
 //! The program `alphamu_study` as one call: words and files in, a text or a refusal out. It builds
-//! on the reading of inputs, on `job_told`, `job_lines`, `job_cards` and `job_review`, and on the
-//! line of a refusal.
+//! on the reading of inputs, on `job_told`, `job_lines`, `job_page`, `job_cards` and `job_review`,
+//! and on the line of a refusal.
 #![tactic(auto)]
 
+mod all_games;
+mod apart;
 mod form;
 mod job;
 mod parted;

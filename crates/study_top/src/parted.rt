@@ -14,8 +14,8 @@ pub struct Parted {
     pub others: Vec<String>,
 }
 
-// Adds a word at the end, if it is wanted.
-fn push_if(
+/// Adds a word at the end, if it is wanted.
+pub(crate) fn push_if(
     alloc: Global,
     words: &mut Vec<String>,
     wanted: bool,

@@ -10,39 +10,27 @@ ghost use Rattle.am_answer.specs.Lines.{status_line};
 ghost use Rattle.am_answer.specs.Refusals.{IsUnread};
 ghost use Rattle.am_line.specs.Said.{IsSaid};
 ghost use Rattle.am_answer.specs.Files.{AreWithin};
-ghost use Rattle.study_top.specs.Forms.{other_words};
-ghost use Rattle.study_top.specs.Study.{asked_by as words_asked_by, IsTextOf, IsRefusalOf, IsStudyText, IsStudyRefusal};
+ghost use Rattle.study_top.specs.Study.{asked_words, IsTextOf, IsRefusalOf, IsStudyText, IsStudyRefusal};
 
 use crate::job::StudyJob;
-use crate::study::study_of;
+use crate::study::{Study, study_of};
 use am_answer::{FileWord, Inputs, Status};
 use am_inputs::{read_deal, read_inputs, read_root};
 use am_line::refuse;
 use am_outside::{Shelf, Sink, write_whole};
 use byte_text::Text;
-use card_forms::Form;
 use job_cards::tell_cards;
 use job_lines::tell_lines;
-use job_review::tell_review;
+use job_page::tell_page;
+use job_review::{Asked, tell_review};
+use job_reviews::tell_reviews;
 use job_told::tell_report;
 use job_words::{Ask, LayoutsJob, Search};
 use std::alloc::Global;
+use std::thread::Threads;
+use text_forms::Form;
 
-// The strategies of a report in words, at the root of these files.
-fn words_in(alloc: Global, deal: &Text, layouts: &Text, report: &Text) -> Result<Text, Status>
-    requires deal_within { length deal.now < 2 ^ 32 - 1 }
-    requires layouts_within { length layouts.now < 2 ^ 32 - 1 }
-    requires report_within { length report.now < 2 ^ 32 - 1 }
-    ensures text { IfOk result (IsTextOf (Some StudyJob.Words) Form.Text 1
-        (OnLayouts deal.now layouts.now (Check report.now))) }
-    ensures refused { IfErr result (IsRefusalOf (Some StudyJob.Words) 1
-        (OnLayouts deal.now layouts.now (Check report.now))) }
-{
-    let root = read_root(alloc, deal, layouts)?;
-    tell_report(alloc, &root, report)
-}
-
-// The same strategies as PBN games.
+// The strategies of a report as PBN games, at the root of these files.
 fn lines_in(alloc: Global, deal: &Text, layouts: &Text, report: &Text) -> Result<Text, Status>
     requires deal_within { length deal.now < 2 ^ 32 - 1 }
     requires layouts_within { length layouts.now < 2 ^ 32 - 1 }
@@ -54,6 +42,20 @@ fn lines_in(alloc: Global, deal: &Text, layouts: &Text, report: &Text) -> Result
 {
     let root = read_root(alloc, deal, layouts)?;
     tell_lines(alloc, deal, &root, report)
+}
+
+// The report as a page, at the root of these files.
+fn page_in(alloc: Global, deal: &Text, layouts: &Text, report: &Text) -> Result<Text, Status>
+    requires deal_within { length deal.now < 2 ^ 32 - 1 }
+    requires layouts_within { length layouts.now < 2 ^ 32 - 1 }
+    requires report_within { length report.now < 2 ^ 32 - 1 }
+    ensures text { IfOk result (IsTextOf (Some StudyJob.Page) Form.Text 1
+        (OnLayouts deal.now layouts.now (Check report.now))) }
+    ensures refused { IfErr result (IsRefusalOf (Some StudyJob.Page) 1
+        (OnLayouts deal.now layouts.now (Check report.now))) }
+{
+    let root = read_root(alloc, deal, layouts)?;
+    tell_page(alloc, deal, &root, report)
 }
 
 // Every legal card at the root of these files.
@@ -83,62 +85,102 @@ fn review_in(
     alloc: Global,
     deal: &Text,
     layouts: &Text,
-    moves: u8,
-    search: &Search,
-    from: u8,
+    asked: &Asked,
+    form: Form,
 ) -> Result<Text, Status>
     requires deal_within { length deal.now < 2 ^ 32 - 1 }
     requires layouts_within { length layouts.now < 2 ^ 32 - 1 }
-    requires moves { IsMoves moves }
-    requires limits { IsSearchWithinLimits search.now }
-    ensures text { IfOk result (IsTextOf (Some StudyJob.Review) Form.Text from
-        (OnLayouts deal.now layouts.now (Card moves search.now))) }
-    ensures refused { IfErr result (IsRefusalOf (Some StudyJob.Review) from
-        (OnLayouts deal.now layouts.now (Card moves search.now))) }
+    requires moves { IsMoves asked.now.moves }
+    requires limits { IsSearchWithinLimits asked.now.search }
+    ensures text { IfOk result (IsTextOf (Some StudyJob.Review) form asked.now.from
+        (OnLayouts deal.now layouts.now (Card asked.now.moves asked.now.search))) }
+    ensures refused { IfErr result (IsRefusalOf (Some StudyJob.Review) asked.now.from
+        (OnLayouts deal.now layouts.now (Card asked.now.moves asked.now.search))) }
 {
     let board = read_deal(alloc, deal)?;
-    tell_review(alloc, &board, layouts, moves, from, search)
+    tell_review(alloc, &board, layouts, asked, form)
 }
 
-// What a job tells of what was read, or why there is nothing.
-fn text_in(
+// What a job tells of a deal and its layouts, or why there is nothing.
+fn text_on(
     alloc: Global,
-    job: Option<StudyJob>,
-    form: Form,
-    from: u8,
-    inputs: &Inputs,
+    study: &Study,
+    deal: &Text,
+    layouts: &Text,
+    asked: &LayoutsJob<Text>,
 ) -> Result<Text, Status>
-    requires { AreWithin inputs.now }
-    ensures text { IfOk result (IsTextOf job form from inputs.now) }
-    ensures refused { IfErr result (IsRefusalOf job from inputs.now) }
+    requires { AreWithin (OnLayouts deal.now layouts.now asked.now) }
+    ensures text { IfOk result (IsTextOf study.now.job study.now.form study.now.from
+        (OnLayouts deal.now layouts.now asked.now)) }
+    ensures refused { IfErr result (IsRefusalOf study.now.job study.now.from
+        (OnLayouts deal.now layouts.now asked.now)) }
 {
-    let Ask::OnLayouts {
-        deal,
-        layouts,
-        job: asked,
-    } = inputs
-    else {
-        return Err(Status::BadWords);
-    };
-    match (job, asked) {
+    match (study.job, asked) {
         (Some(StudyJob::Words), LayoutsJob::Check { report }) => {
-            words_in(alloc, deal, layouts, report)
+            let root = read_root(alloc, deal, layouts)?;
+            tell_report(alloc, &root, report)
         }
         (Some(StudyJob::Lines), LayoutsJob::Check { report }) => {
             lines_in(alloc, deal, layouts, report)
         }
+        (Some(StudyJob::Page), LayoutsJob::Check { report }) => {
+            page_in(alloc, deal, layouts, report)
+        }
         (Some(StudyJob::Cards), LayoutsJob::Card { moves, search }) => {
-            cards_in(alloc, deal, layouts, *moves, search, form)
+            cards_in(alloc, deal, layouts, *moves, search, study.form)
         }
         (Some(StudyJob::Review), LayoutsJob::Card { moves, search }) => {
-            review_in(alloc, deal, layouts, *moves, search, from)
+            let asked = Asked {
+                moves: *moves,
+                from: study.from,
+                search: *search,
+            };
+            review_in(alloc, deal, layouts, &asked, study.form)
+        }
+        _ => Err(Status::BadWords),
+    }
+}
+
+// What a job tells of what was read, or why there is nothing.
+fn text_in<R: Threads + Sync>(
+    rt: &R,
+    alloc: Global,
+    study: &Study,
+    inputs: &Inputs,
+) -> Result<Text, Status>
+    requires { AreWithin inputs.now }
+    ensures text { IfOk result
+        (IsTextOf study.now.job study.now.form study.now.from inputs.now) }
+    ensures refused { IfErr result (IsRefusalOf study.now.job study.now.from inputs.now) }
+{
+    match (study.job, inputs) {
+        (_, Ask::OnLayouts { deal, layouts, job }) => text_on(alloc, study, deal, layouts, job),
+        (
+            Some(StudyJob::Reviews),
+            Ask::Boards {
+                games,
+                moves,
+                search,
+            },
+        ) => {
+            let asked = Asked {
+                moves: *moves,
+                from: study.from,
+                search: *search,
+            };
+            Ok(tell_reviews(rt, alloc, games, &asked, study.form)?)
         }
         _ => Err(Status::BadWords),
     }
 }
 
 // The text of the study, or why there is none.
-fn text_for<S: Shelf>(alloc: Global, words: &[String], shelf: &mut S) -> Result<Text, Status>
+fn text_for<R: Threads + Sync, S: Shelf>(
+    rt: &R,
+    alloc: Global,
+    words: &[String],
+    shelf: &mut S,
+) -> Result<Text, Status>
     ensures text { IfSome (S.told shelf.old) (λ files.
         IfOk result (IsStudyText (texts_of words.now) files)) }
     ensures refused { IfSome (S.told shelf.old) (λ files.
@@ -146,24 +188,27 @@ fn text_for<S: Shelf>(alloc: Global, words: &[String], shelf: &mut S) -> Result<
     ensures not_done { IfErr result (λ status.
         (status ≢ Status.Done) × (status ≢ Status.Unwritten)) }
     ensures unread { (file : FileWord) → IsErrOf result (Status.Unread file)
-        → IsUnread (S.told shelf.old) (words_asked_by (other_words (texts_of words.now)))
+        → IsUnread (S.told shelf.old) (asked_words (texts_of words.now))
         (S.faults shelf.old) (S.faults shelf.new) file }
     ensures same_files { S.told shelf.new ≡ S.told shelf.old }
 {
     let study = study_of(alloc, words)?;
     let inputs = read_inputs(alloc, &study.asked, shelf)?;
-    text_in(alloc, study.job, study.form, study.from, &inputs)
+    text_in(rt, alloc, &study, &inputs)
 }
 
-/// Tells the strategies of a report, every legal card side by side, or every decision of a played
-/// board. The words are those of `check`, except that the job is `words` or `lines`, and the report
-/// is refused as `check` refuses it; or those of `card`, except that the job is `cards` or
-/// `review`. With `cards`, `--form` may stand before the form, `text`, `csv` or `json`; with
-/// `review`, `--from` before the trick to begin with, 1 to 13. The words don't include the
-/// program's name.
+/// Tells the strategies of a report or shows it as a page, puts every legal card side by side, or
+/// goes through every decision of a played board. The words are those of `check`, except that the
+/// job is `words`, `lines` or `page`, and the report is refused as `check` refuses it; or those of
+/// `card`, except that the job is `cards` or `review`. With these two, `--form` may stand before the
+/// form, `text`, `csv` or `json`; with `review`, `--from` before the trick to begin with, 1 to 13.
+/// Such an option and its value may also be one word, joined by `=`. With `review`, `--games` may
+/// stand among the words, which are then those of `boards`: every game of the deal file is reviewed,
+/// with its own layout file. The words don't include the program's name.
 ///
-/// The whole text is made before its first byte is written.
-pub fn run_study<S: Shelf, O: Sink, E: Sink>(
+/// The whole text is made before its first byte is written. The workers are joined, so it may wait.
+pub fn run_study<R: Threads + Sync, S: Shelf, O: Sink, E: Sink>(
+    rt: &R,
     alloc: Global,
     words: &[String],
     shelf: &mut S,
@@ -181,7 +226,7 @@ pub fn run_study<S: Shelf, O: Sink, E: Sink>(
         × AppendsPart (O.told out.old) text (O.told out.new)) }
     ensures untouched { (result ≢ Status.Done) → (result ≢ Status.Unwritten) → out.new ≡ out.old }
     ensures unread { (file : FileWord) → result ≡ Status.Unread file
-        → IsUnread (S.told shelf.old) (words_asked_by (other_words (texts_of words.now)))
+        → IsUnread (S.told shelf.old) (asked_words (texts_of words.now))
         (S.faults shelf.old) (S.faults shelf.new) file }
     ensures unwritten { result ≡ Status.Unwritten → Rose (O.faults out.old) (O.faults out.new) }
     ensures quiet { result ≡ Status.Done → err.new ≡ err.old }
@@ -190,7 +235,7 @@ pub fn run_study<S: Shelf, O: Sink, E: Sink>(
         (E.faults err.old) (E.faults err.new) }
     ensures same_files { S.told shelf.new ≡ S.told shelf.old }
 {
-    match text_for(alloc, words, shelf) {
+    match text_for(rt, alloc, words, shelf) {
         Ok(text) => match write_whole(out, text.bytes()) {
             Ok(()) => Status::Done,
             Err(_) => refuse(Status::Unwritten, err),

@@ -2,17 +2,19 @@
 ghost use Rattle.std.specs.Prelude.{◌≡◌, ◌⊎◌, Ok, IfOk, IfErr};
 ghost use Rattle.job_words.specs.Asks.{texts_of};
 ghost use Rattle.am_answer.specs.Stages.{IsReadRefusal};
-ghost use Rattle.study_top.specs.Forms.{form_of, other_words};
+ghost use Rattle.study_top.specs.Forms.{form_of};
 ghost use Rattle.study_top.specs.Tricks.{trick_of};
-ghost use Rattle.study_top.specs.Study.{asked_by as words_asked_by, job_of as job_named_by};
+ghost use Rattle.study_top.specs.Study.{asked_words, job_of as job_asked};
 
+use crate::all_games::games_asked;
+use crate::apart::apart;
 use crate::form::form_in;
 use crate::job::{StudyJob, asked_by, job_of};
 use crate::parted::parted_by;
 use crate::trick::trick_in;
 use am_answer::Status;
-use card_forms::Form;
 use std::alloc::Global;
+use text_forms::Form;
 
 /// What the words of a study ask for.
 #[derive(Drop)]
@@ -30,25 +32,27 @@ pub struct Study {
 /// be read; `Memory`.
 pub fn study_of(alloc: Global, words: &[String]) -> Result<Study, Status>
     ensures job { IfOk result (λ study.
-        study.job ≡ job_named_by (other_words (texts_of words.now))) }
+        study.job ≡ job_asked (texts_of words.now)) }
     ensures form { IfOk result (λ study. form_of study.job (texts_of words.now) ≡ Ok study.form) }
     ensures from { IfOk result (λ study. trick_of study.job (texts_of words.now) ≡ Ok study.from) }
     ensures asked { IfOk result (λ study.
-        texts_of study.asked.items ≡ words_asked_by (other_words (texts_of words.now))) }
+        texts_of study.asked.items ≡ asked_words (texts_of words.now)) }
     ensures refused { IfErr result (λ status.
-        IsReadRefusal (form_of (job_named_by (other_words (texts_of words.now)))
+        IsReadRefusal (form_of (job_asked (texts_of words.now))
         (texts_of words.now)) status
-        ⊎ IsReadRefusal (trick_of (job_named_by (other_words (texts_of words.now)))
+        ⊎ IsReadRefusal (trick_of (job_asked (texts_of words.now))
         (texts_of words.now)) status) }
     ensures only { IfErr result (λ status.
         (status ≡ Status.BadWords) ⊎ (status ≡ Status.Memory)) }
 {
-    let by_form = parted_by(alloc, "--form", words)?;
+    let parts = apart(alloc, words)?;
+    let by_form = parted_by(alloc, "--form", &parts)?;
     let by_from = parted_by(alloc, "--from", &by_form.others)?;
-    let job = job_of(&by_from.others);
+    let games = games_asked(alloc, &by_from.others)?;
+    let job = job_of(games.all, &games.others);
     let form = form_in(job, &by_form.values)?;
     let from = trick_in(job, &by_from.values)?;
-    let asked = asked_by(alloc, &by_from.others)?;
+    let asked = asked_by(alloc, games.all, &games.others)?;
     Ok(Study {
         job,
         form,

@@ -24,7 +24,7 @@ pub fn trick_in(job: Option<StudyJob>, words: &[String]) -> Result<u8, Status>
 {
     match words {
         [] => Ok(1),
-        [word] if matches!(job, Some(StudyJob::Review)) => {
+        [word] if matches!(job, Some(StudyJob::Review | StudyJob::Reviews)) => {
             trick_named(word.as_str()).ok_or(Status::BadWords)
         }
         _ => Err(Status::BadWords),
