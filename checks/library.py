@@ -169,9 +169,12 @@ def by_bits(trial):
 def shown():
     """What the front page shows of its suit combination: for each card what a simulation believes, and the true card and weight."""
     text = (TOP / "README.md").read_text(encoding="utf-8")
-    block = re.search(r"```\nalphamu fusion 2\n(.*?)```", text, re.S)[1]
-    card, weight, total = re.search(r"```\nalphamu card 2\ncard (\w\w) weight (\d+) of (\d+)\n```", text).groups()
-    return re.findall(r"^card (\w\w) vector \d+ weight (\d+)$", block, re.M), card, weight, total
+    block = re.search(r"```\n(alphamu cards 1\n.*?)```", text, re.S)[1]
+    [total] = re.findall(r"^layouts \d+ weight (\d+)$", block, re.M)
+    [card] = re.findall(r"^named (\w\w)$", block, re.M)
+    rows = re.findall(r"^card (\w\w) most \d+ least (\d+) sampled (\d+) ", block, re.M)
+    [weight] = [least for name, least, _ in rows if name == card]
+    return [(name, sampled) for name, _, sampled in rows], card, weight, total
 
 
 def strategy_shown(trial, suit):
