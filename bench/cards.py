@@ -5,7 +5,7 @@ The endings are random ones of seven tricks with 20 layouts; sampling decides no
 MOVES moves, so it may stop with fewer; `solve` plans as many as `cards` says that it did.
 
 Usage: bench/cards.py [ENDINGS] [RUNS]: how many endings (default 20), and how often each is timed (default 3); the fastest counts. The
-programs must be built: ./build and ./build study."""
+programs must be built: ./build."""
 import math
 import pathlib
 import re

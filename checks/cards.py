@@ -10,7 +10,7 @@ answer in the forms `csv` and `json` must be what Python's modules of these name
 `card` refuses must be refused with the same line and status. Words with a `--form` that can't be right must be refused. The exit
 status is 0 only if nothing differs, and if at least LEAST texts were told.
 
-Both programs must be there and current: ./build and ./build study make them."""
+Both programs must be there and current: ./build makes them."""
 import csv
 import fnmatch
 import functools
@@ -126,7 +126,7 @@ def judge_forms(case, words, seconds, text):
     shared, rows = values_of(text)
     wrong = []
     for form, wanted in ((b"csv", csv_of(shared, rows)), (b"json", json_of(shared, rows)), (b"text", text)):
-        if run(STUDY, case, seconds, words=words + [b"--form", form]) != (wanted, b"", 0):
+        if run(STUDY, case, seconds, words=words + ([b"--form=json"] if form == b"json" else [b"--form", form])) != (wanted, b"", 0):
             wrong.append(f"{case}: the form {form.decode()} differs")
     return wrong
 
@@ -134,7 +134,7 @@ def judge_forms(case, words, seconds, text):
 def judge_words(case, words, seconds):
     """Words with a form that can't be right, and a job that has no forms."""
     refused = (b"", f"alphamu: {USAGE}\n".encode(), REFUSED)
-    more = ([b"--form"], [b"--form", b"xml"], [b"--form", b"CSV"], [b"--form", b""], [b"--form=csv"], [b"--form", b"csv", b"--form", b"csv"])
+    more = ([b"--form"], [b"--form", b"xml"], [b"--form", b"CSV"], [b"--form", b""], [b"--form="], [b"--form=CSV"], [b"--form=csv", b"--form", b"csv"])
     wrong = [words + it for it in more] + [asked(case, b"words", None) + [b"--report", b"none", b"--form", b"text"]]
     return [f"{case}: taken with {b' '.join(it[-4:]).decode()}" for it in wrong if run(STUDY, case, seconds, words=it) != refused]
 

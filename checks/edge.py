@@ -12,7 +12,7 @@ bytes. So a body that answers more than was written, or less than is there, is p
   an odd number of bytes at a time.
 - An error is the end of the file, or of the output. Caught by the trials on streams and files of checks/machine.py.
 
-The programs are the proved ones, which ./build and ./build study make. Prints what was wrong. The exit status is 0 only if nothing was. It
+The programs are the proved ones, which ./build makes. Prints what was wrong. The exit status is 0 only if nothing was. It
 takes less than a minute.
 """
 import argparse

@@ -7,7 +7,7 @@ byte. `list` of PROGRAM, which is ./alphamu if you name none, must read the firs
 own layout. A report that `check` refuses must be refused with the same line and status. The exit status is 0 only if nothing
 differs, and if at least LEAST games were told.
 
-Both programs must be there and current: ./build and ./build study make them."""
+Both programs must be there and current: ./build makes them."""
 import fnmatch
 import os
 import sys

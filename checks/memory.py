@@ -1,7 +1,7 @@
 #!/usr/bin/env python3
 """memory.py [--jobs N] [--seconds N] [--only PATTERN]
 
-Runs the proved programs, which ./build and ./build study make, and lets their allocations fail: in one run the first, in the next the second,
+Runs the proved programs, which ./build makes, and lets their allocations fail: in one run the first, in the next the second,
 and so on to the last; once only that allocation, and once that one and all after it. Each run must end with status 9, its
 line and no output, or with the right status and the right bytes. A few lines of C replace the C library's functions for
 memory; `cc` compiles them into a temporary folder.
@@ -47,6 +47,7 @@ RUNS = {
     "cards with weights": ("study/cards-restricted-choice", ("--no-cuts", "--no-table")),
     "words": ("study/words-queen-two-ways", ()),
     "lines": ("study/lines-queen-two-ways", ()),
+    "review of all games": ("study/review-games", ("--workers", "2")),
 }
 SHIM = r"""
 #include <errno.h>

@@ -39,7 +39,7 @@ ANSWERS = """echo answer; echo "alphamu: a line" >&2; echo "run=ended status=7 r
 FAILS = """echo "checked: no-answer: too hot" >&2; echo "run=none proved=no" >&2; exit 2"""
 # (a TERM that comes before the child runs `sleep` would be lost)
 WAITS = """trap 'kill -9 $!; exit 143' TERM; sleep 60 & echo $! >>"$TMPDIR/../children"; wait"""
-BUILDS = f"""cp '{PROVED}' out/alphamu"""
+BUILDS = f"""cp '{PROVED}' "out/${{PWD##*/}}" """
 ANSWER = b"answer\n", b"alphamu: a line\n", 7
 
 
@@ -454,7 +454,7 @@ def build_by_link(place):
     place.add_toolchain(BUILDS)
     os.symlink(place.top + "/build", place.work + "/linked")
     built = [place.run([], command=["./linked"]), place.run([], command=["bash", "build"], cwd=place.top)]
-    is_told = built[1][1].startswith(b"build: nothing to do") and place.calls() == 2
+    is_told = built[1][1].startswith(b"build: nothing to do") and place.calls() == 4
     return None if is_told and built[0][2] == built[1][2] == 0 == state(place) else f"{built!r}"
 
 

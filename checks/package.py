@@ -6,7 +6,7 @@ the checksums of BUILD agree, and the man page is well formed and has each job, 
 After dpkg has removed the package nothing is left. What needs a command that isn't there, or the right to install, is left out, with
 a line.
 
-There must be current proved programs and a library, which ./build, ./build study and ./build library make."""
+There must be current proved programs and a library, which ./build and ./build library make."""
 import gzip
 import os
 import pathlib
@@ -59,10 +59,10 @@ def try_answer(prefix):
 def try_words(prefix):
     """A report told in words by the second program, as docs/USING.md shows it."""
     found = pages.commands((TOP / "docs/USING.md").read_text(encoding="utf-8"))
-    place = next(at for at, (_, it, _) in enumerate(found) if it.startswith("./study"))
-    report, answer = found[place - 1][1], found[place][2]
+    words, answer = next((it, lines) for _, it, lines in found if it.startswith("./study --job words"))
+    report = next(it for _, it, _ in found if it.endswith(f" > {words.split()[-1]}"))
     with tempfile.TemporaryDirectory() as room:
-        line = " && ".join((report, found[place][1])).replace("./alphamu", "alphamu").replace("./study", "alphamu_study")
+        line = f"{report} && {words}".replace("./alphamu", "alphamu").replace("./study", "alphamu_study")
         env = {"PATH": f"{prefix}/bin:/usr/bin:/bin"}
         told = run(["sh", "-c", line.replace("/tmp/", f"{room}/")], cwd=prefix / DOCS, env=env)
     expect(f"{prefix}: the strategies in words: {told.stdout!r}", told.returncode == 0 and told.stdout.splitlines() == answer)

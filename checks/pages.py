@@ -8,7 +8,7 @@ next heading, the command must print the lines of the block, standard output and
 further lines. If no block follows, the command must end with status 0. The commands of one page run in order, since some write
 files in /tmp for later ones.
 
-There must be current proved programs, which ./build and ./build study make."""
+There must be current proved programs, which ./build makes."""
 import pathlib
 import re
 import shutil

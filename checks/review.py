@@ -6,11 +6,13 @@ from the first trick and from the last but one: of each deal with a Play section
 MOST_CARDS cards a hand, played out in its first kept layout. The text must be that of a second teller: it cuts the deal file before
 each card of declarer's side, finds by its own rules (reading.py, playing.py) which layouts are left and whether two legal cards
 differ, and asks `cards` there for the bounds, and PROGRAM, which is ./alphamu if you name none, for the card (`card`). A file that
-`card` refuses there must be refused with the same line and status, and so must a play without a decision. Words with a `--from` that
-can't be right must be refused. The exit status is 0 only if nothing differs, and if at least LEAST texts were told.
+`card` refuses there must be refused with the same line and status, and so must a play without a decision. From the last trick but
+one the CSV and the JSON must have the values of the text, byte for byte as docs/FORMS.md says. Words with a `--from` or a `--form`
+that can't be right must be refused. The exit status is 0 only if nothing differs, and if at least LEAST texts were told.
 
-Both programs must be there and current: ./build and ./build study make them."""
+Both programs must be there and current: ./build makes them."""
 import fnmatch
+import json
 import os
 import re
 import sys
@@ -25,6 +27,10 @@ from options import job_of
 
 STUDY = os.path.join(TOP, "study")
 MOVES, NODES, MOST_CARDS, LEAST, SPENT = 2, 20000, 5, 70, 7
+LINE = re.compile(rb"card (\d+) trick (\d+) seat (.) played (..) most (\d+) least (\d+) named (..) most (\d+) "
+                  rb"layouts (\d+) weight (\d+) cost (\d+)\n")
+FIELDS = b"number trick seat played most least named named_most layouts weight cost moves".split()
+LETTERS = b"seat played named".split()
 NO_DECISION = b"", b"alphamu: no card to choose\n", 6
 WHOLE, CUT = b"whole.pbn", b"cut.pbn"
 
@@ -118,10 +124,33 @@ def told(program, case, seconds, whole, layouts, first):
     return b"".join([b"alphamu review 1\n", b"moves %d\n" % MOVES, *lines, last]), b"", 0
 
 
+def csv_of(text):
+    """The CSV that has the values of a text."""
+    moves = re.search(rb"^moves (\d+)$", text, re.M)[1]
+    return b"".join(b",".join(row) + b"\n" for row in [FIELDS, *([*row, moves] for row in LINE.findall(text))])
+
+
+def json_of(text):
+    """The JSON that has the values of a text."""
+    costly, greatest = re.search(rb" costly (\d+) greatest (\d+)\n$", text).groups()
+    decisions = [{name.decode(): value.decode() if name in LETTERS else int(value) for name, value in zip(FIELDS, row)} for row in LINE.findall(text)]
+    said = {"costly": int(costly), "decisions": decisions, "greatest": int(greatest), "moves": MOVES}
+    return json.dumps(said, sort_keys=True, separators=(",", ":")).encode() + b"\n"
+
+
+def judge_forms(case, words, seconds, files, text):
+    """What differs between a text and its other forms. The job and the form are each asked for by one word."""
+    words = [b"--job=review", *words[2:]]
+    wanted = {b"text": text, b"csv": csv_of(text), b"json": json_of(text)}
+    return [f"{case}: another {form.decode()}" for form, content in wanted.items()
+            if run(STUDY, case, seconds, words=[*words, b"--form=" + form], files=files) != (content, b"", 0)]
+
+
 def judge_words(case, words, seconds):
-    """Words with a trick that can't be right, and a job that begins with none."""
+    """Words with a trick or a form that can't be right, and a job that begins with no trick."""
     refused = (b"", f"alphamu: {USAGE}\n".encode(), REFUSED)
-    more = ([b"--from"], [b"--from", b"0"], [b"--from", b"14"], [b"--from", b"01"], [b"--from", b""], [b"--from=1"], [b"--from", b"1", b"--from", b"1"])
+    more = ([b"--from"], [b"--from", b"0"], [b"--from", b"14"], [b"--from", b"01"], [b"--from", b""], [b"--from="], [b"--from=14"],
+            [b"--from=1", b"--from", b"1"], [b"--form=xml"], [b"--form=csv", b"--form", b"csv"], [b"--job=review"])
     wrong = [words + it for it in more] + [[b"cards" if it == b"review" else it for it in words] + [b"--from", b"1"]]
     return [f"{case}: taken with {b' '.join(it[-4:]).decode()}" for it in wrong if run(STUDY, case, seconds, words=it) != refused]
 
@@ -143,6 +172,8 @@ def judge_file(program, case, seconds, whole, layouts):
             wanted = text, line, status
         if wanted is not None and found != wanted:
             wrong.append(f"{case} from trick {first}: {found}, and not {wanted}")
+        elif first > 1 and not found[2]:
+            wrong += judge_forms(case, [*asked, b"--from=%d" % first], seconds, {WHOLE: whole}, found[0])
         number += wanted is not None and not wanted[2]
     return wrong + judge_words(case, asked, seconds), number
 

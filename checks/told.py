@@ -2,7 +2,7 @@
 """told.py [--jobs N] [--seconds N] [--only PATTERN] [PROGRAM]
 
 Tells the report of each case in cases/ that expects one, as docs/definitions/told-plans.md says, and compares the text with that of
-a program for the job `words`. If you name no program it is ./study, which ./build study makes. The layouts of a step are found
+a program for the job `words`. If you name no program it is ./study, which ./build makes. The layouts of a step are found
 by following the report's plan in each layout, with double dummy as plain minimax (playing.py). The exit status is 0 only if
 nothing differs and something was told.
 """

@@ -6,9 +6,10 @@ import re
 TITLE, SECTION = re.compile(r"^# "), re.compile(r"^## (.*)$")
 BULLET = "\\(bu"
 # The jobs of alphamu_study, each with the job of alphamu whose words it reads.
-STUDY_JOBS = {"words": "check", "lines": "check", "cards": "card", "review": "card"}
+STUDY_JOBS = {"words": "check", "lines": "check", "page": "check", "cards": "card", "review": "card"}
 # What such a job takes beside them.
-OWN_OPTIONS = {"cards": ["[\\fB\\-\\-form\\fR \\fBtext\\fR|\\fBcsv\\fR|\\fBjson\\fR]"], "review": ["[\\fB\\-\\-from\\fR \\fIN\\fR]"]}
+FORM = "[\\fB\\-\\-form\\fR \\fBtext\\fR|\\fBcsv\\fR|\\fBjson\\fR]"
+OWN_OPTIONS = {"cards": [FORM], "review": ["[\\fB\\-\\-from\\fR \\fIN\\fR]", "[\\fB\\-\\-games\\fR]", FORM]}
 
 
 def escaped(text):
@@ -131,12 +132,12 @@ def synopsis(jobs):
 def page(readme, refusals, using, jobs, version):
     """The man page as text."""
     what = readme[:readme.index("## ")]
-    first, words, games, cards, review = (
+    first, shown, words, games, cards, review, evening = (
         section(using, it).replace("./alphamu", "alphamu").replace("    ./study", "    alphamu_study")
-        for it in ("A first question", "The strategies in words", "The strategies as games", "Every card side by side: `cards`",
-                   "What each card cost: `review`"))
+        for it in ("A first question", "A page to look at: `page`", "The strategies in words", "The strategies as games",
+                   "Every card side by side: `cards`", "What each card cost: `review`", "A whole evening reviewed: `review --games`"))
     # Whoever has the man page has the program.
-    words = re.sub(r" A package has it .*", "", words)
+    shown = re.sub(r" A package has the program .*", "", shown)
     words = re.sub(r" `\./study` runs .*", "", words)
     refusals = refusals[refusals.index("\n## "):]
     out = [
@@ -147,10 +148,12 @@ def page(readme, refusals, using, jobs, version):
         ".SH JOBS", *converted(section(readme, "What it does")),
         *converted(refusals),
         ".SH EXAMPLE", *converted(first),
+        ".SH A PAGE TO LOOK AT", *converted(shown),
         ".SH THE STRATEGIES IN WORDS", *converted(words),
         ".SH THE STRATEGIES AS GAMES", *converted(games),
         ".SH EVERY CARD SIDE BY SIDE", *converted(cards),
         ".SH WHAT EACH CARD COST", *converted(review),
+        ".SH A WHOLE EVENING REVIEWED", *converted(evening),
         ".SH SEE ALSO", *converted("The pages and the files of the examples are in `share/doc/alphamu` beside this page's folder: "
                                    "begin with `docs/USING.md`. Run the commands of the pages in that folder."),
     ]

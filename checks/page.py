@@ -1,0 +1,167 @@
+#!/usr/bin/env python3
+"""page.py [--jobs N] [--seconds N] [--only PATTERN] [PROGRAM]
+
+Asks ./study for the page (`page`) of each case in cases/ that expects a report, of the same with hostile tags in its deal file, and
+of a report of MOVES moves for the board of each folder in EXAMPLES. A page must be well formed (each tag closed in order, and XML after its document type), its links must lead to parts of
+it, nothing on it may be loaded, its element `text` must hold the report byte for byte, and its signs and words must say what
+the report's vectors say. A report that `check` refuses must be refused with the same line and status. The exit status is 0
+only if nothing is wrong, and if at least LEAST pages were made.
+
+Both programs must be there and current: ./build makes them."""
+import fnmatch
+import os
+import re
+import subprocess
+import sys
+import tempfile
+import xml.etree.ElementTree
+from concurrent.futures import ProcessPoolExecutor
+from html.parser import HTMLParser
+
+sys.dont_write_bytecode = True
+import reading
+from cases import TOP, bytes_of, expected, is_ready, names_of_cases, parser_of, run, words_of
+from options import job_of
+
+STUDY = os.path.join(TOP, "study")
+REPORT, LINES = b"report.of.the.case", b"words.of.the.case"
+# Reports with more lines are left out: telling them takes long.
+MOST_LINES, LEAST = 20000, 100
+EXAMPLES, MOVES = ("restricted-choice", "slam", "squeeze-or-finesse", "two-way-finesse"), "4"
+HOSTILE = b'</li><script>alert(1)</script>&amp;<b class=\'x\'>\xe9'
+SHOWN = "</li><script>alert(1)</script>&amp;<b class='x'>\ufffd"
+
+
+class Reader(HTMLParser):
+    """The elements of a page, and what is wrong with it."""
+
+    def __init__(self):
+        super().__init__()
+        self.open, self.ids, self.links, self.wrong, self.texts = [], set(), [], [], {}
+
+    def handle_starttag(self, tag, attrs):
+        self.open.append((tag, dict(attrs).get("id")))
+        self.note(tag, attrs)
+
+    def handle_startendtag(self, tag, attrs):
+        self.note(tag, attrs)
+
+    def handle_endtag(self, tag):
+        if not self.open or self.open[-1][0] != tag:
+            self.wrong.append(f"</{tag}> closes {self.open[-1:]}")
+        else:
+            self.open.pop()
+
+    def handle_data(self, data):
+        for key in {self.open[-1], *((tag, None) for tag, _ in self.open)} if self.open else ():
+            self.texts[key] = self.texts.get(key, "") + data
+
+    def note(self, tag, attrs):
+        names = dict(attrs)
+        if tag in ("script", "img", "link", "iframe", "object") or "src" in names or any(name.startswith("on") for name in names):
+            self.wrong.append(f"<{tag}> loads or runs something")
+        if names.get("id") in self.ids:
+            self.wrong.append(f"two elements are called {names['id']}")
+        if "id" in names:
+            self.ids.add(names["id"])
+        if "href" in names:
+            self.links.append(names["href"])
+
+
+def faults_of(page, report, words):
+    """What is wrong with a page of this report, whose strategies in words are these."""
+    reader = Reader()
+    text = page.decode()
+    reader.feed(text)
+    reader.close()
+    wrong = reader.wrong + [f"<{tag}> isn't closed" for tag, _ in reader.open]
+    wrong += [f"{link} leads nowhere" for link in reader.links if not link.startswith("#") or link[1:] not in reader.ids]
+    try:
+        xml.etree.ElementTree.fromstring(text.split("\n", 1)[1])
+    except xml.etree.ElementTree.ParseError as error:
+        wrong.append(f"no XML: {error}")
+    if reader.texts.get(("pre", "text"), "").encode() != report:
+        wrong.append("the report on the page differs")
+    entries = reading.report_of(report)[2]
+    cells = "".join("1" if made else "0" for made in re.findall(r"<td class='(?:(y)|x)'>", text))
+    if cells.encode() != b"".join(bits for bits, _, _ in entries):
+        wrong.append("the signs differ from the vectors")
+    told = re.split(r"^vector .*\n", words.decode(), flags=re.M)[1:]
+    shown = re.findall(r"<pre class='words'>(.*?)</pre>", text, re.S)
+    if shown != [it.replace("&", "&amp;").replace("<", "&lt;").replace(">", "&gt;").replace('"', "&quot;") for it in told]:
+        wrong.append("the words of the lines differ from those of the job words")
+    best = max(weight for _, weight, _ in entries)
+    promised = re.search(r"<strong>(\d+) of", text)
+    if int(promised[1]) == best and "No line of this report makes more." not in text:
+        wrong.append("the best line is said not to be the best")
+    return wrong
+
+
+def judge(case, seconds):
+    """What is wrong with the pages of a case, and how many there are."""
+    report, _, status = expected(case)
+    if status or job_of(words_of(case)) != "solve" or report.count(b"\n") > MOST_LINES:
+        return [], 0
+    options = reading.ask_of([word.decode() for word in words_of(case)])[1]
+    deal, layouts = (os.fsencode(options[it]) for it in ("deal", "layouts"))
+
+    def told(job, more=()):
+        words = [b"--job", job, b"--deal", deal, b"--layouts", layouts, b"--report", REPORT]
+        return run(STUDY, case, seconds, words=words, files={REPORT: report, **dict(more)})
+
+    page, said, status = told(b"page")
+    if status:
+        return [f"{case}: no page: {said!r}"], 0
+    wrong = faults_of(page, report, told(b"words")[0])
+    tags = b"".join(b'[%s "%s"]\n' % (name, HOSTILE) for name in (b"Event", b"Board"))
+    hostile, _, status = told(b"page", {deal: tags + bytes_of(case, os.fsdecode(deal))}.items())
+    reader = Reader()
+    reader.feed(hostile.decode())
+    if status or reader.wrong or reader.texts.get(("li", None), "").count(SHOWN) < 1:
+        wrong.append(f"hostile tags aren't told as text: {reader.wrong}")
+    return [f"{case}: {it}" for it in wrong], 2
+
+
+def judge_example(program, name, seconds):
+    """What is wrong with the page of an example."""
+    def ask(caller, job, *words):
+        words = [caller, "--job", job, "--deal", "deal.pbn", "--layouts", "layouts.lay", *words]
+        return subprocess.run(words, cwd=os.path.join(TOP, "examples", name), capture_output=True, timeout=seconds, check=True).stdout
+    report = ask(program, "solve", "--moves", MOVES)
+    with tempfile.NamedTemporaryFile() as file:
+        file.write(report)
+        file.flush()
+        page, words = (ask(STUDY, job, "--report", file.name) for job in ("page", "words"))
+    return [f"examples/{name}: {it}" for it in faults_of(page, report, words)]
+
+
+def refusals(seconds):
+    """Reports that `check` refuses."""
+    wrong, number = [], 0
+    for case in names_of_cases():
+        if job_of(words_of(case)) == "check" and expected(case)[2] and not bytes_of(case, "fill"):
+            if run(STUDY, case, seconds, words=[b"page" if it == b"check" else it for it in words_of(case)]) != expected(case):
+                wrong.append(f"{case}: not refused as by check")
+            number += 1
+    return wrong, number
+
+
+def main():
+    given = parser_of("Shows the reports of alphamu's cases as pages.").parse_args()
+    if not is_ready(given.program, "page"):
+        return 1
+    cases = fnmatch.filter(names_of_cases(), given.only)
+    with ProcessPoolExecutor(given.jobs) as pool:
+        told = list(pool.map(judge, cases, [given.seconds] * len(cases)))
+    not_refused, refused = refusals(given.seconds)
+    shown = [judge_example(given.program, name, given.seconds) for name in EXAMPLES]
+    wrong = [line for lines in (*(lines for lines, _ in told), *shown) for line in lines] + not_refused
+    for line in wrong:
+        print(line)
+    number = sum(count for _, count in told) + len(shown)
+    print(f"page: {number} pages, {refused} reports refused, {len(wrong)} wrong")
+    return 0 if number >= LEAST and refused and not wrong else 1
+
+
+if __name__ == "__main__":
+    sys.exit(main())
