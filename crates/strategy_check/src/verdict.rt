@@ -6,7 +6,8 @@ ghost use Rattle.strategy_check.specs.Verdicts.{IsVerdict};
 
 use crate::fitting::count_fitting;
 use crate::inline_node::InlineNode;
-use crate::winning::wins;
+use crate::open_results::{DoubleDummy, PlainMinimax};
+use crate::winning::wins_by;
 use strategy_tree::Plan;
 use trick_rules::Node;
 use win_vectors::WinVector;
@@ -25,10 +26,27 @@ pub enum Verdict {
 }
 
 /// Plays a plan against every defence in every layout of a node, with `moves` moves of declarer's
-/// side, and compares what it wins with a vector.
+/// side, and compares what it wins with a vector. Where the plan stops at an open result, plain
+/// minimax decides.
 ///
 /// The vector is as wide as the node, and the plan has fewer than 2^32 nodes. It takes no memory.
 pub fn check(node: &Node, moves: u8, plan: &Plan, vector: &WinVector) -> Verdict
+    requires same_width { length vector.now ≡ length node.now.lefts }
+    requires countable { node_count (plan_of plan.now) < 2 ^ 32 }
+    ensures { IsVerdict node.now moves (plan_of plan.now) vector.now result }
+{
+    check_by(&mut PlainMinimax, node, moves, plan, vector)
+}
+
+/// The same with another solver for the open results. One that remembers should be used for all
+/// plans.
+pub fn check_by<D: DoubleDummy>(
+    solver: &mut D,
+    node: &Node,
+    moves: u8,
+    plan: &Plan,
+    vector: &WinVector,
+) -> Verdict
     requires same_width { length vector.now ≡ length node.now.lefts }
     requires countable { node_count (plan_of plan.now) < 2 ^ 32 }
     ensures { IsVerdict node.now moves (plan_of plan.now) vector.now result }
@@ -37,7 +55,7 @@ pub fn check(node: &Node, moves: u8, plan: &Plan, vector: &WinVector) -> Verdict
         return Verdict::NotAStrategy(number);
     }
     for place in 0..node.width() {
-        let bit = wins(plan, node.position(), node.left(place));
+        let bit = wins_by(solver, plan, node.position(), node.left(place));
         if bit != vector.get(place) {
             return Verdict::OtherVector(place + 1, bit);
         }

@@ -5,14 +5,14 @@ use Rattle.strategy_tree.specs.PlanMeaning.{plan_of, replies_of}
 use Rattle.strategy_check.specs.Following.{CanFollowEach, win_each}
 use Rattle.strategy_check.proofs.winning.+winning.Given as goal
 
-abbrev pub decreases-wins : goal.decreases-wins
-decreases-wins l = 2 * node_count (plan_of l.plan.now)
+abbrev pub decreases-wins_by : goal.decreases-wins_by
+decreases-wins_by g l = 2 * node_count (plan_of l.plan.now)
 
 abbrev pub decreases-win_against_each : goal.decreases-win_against_each
-decreases-win_against_each l = 2 * node_counts (replies_of l.replies.now) + 1
+decreases-win_against_each g l = 2 * node_counts (replies_of l.replies.now) + 1
 
 abbrev pub invariant-win_against_each-loop-reply : goal.invariant-win_against_each-loop-reply
-invariant-win_against_each-loop-reply l =
+invariant-win_against_each-loop-reply g l =
     let s : State = record { position = l.position; left = l.left } in
     record {
       follow : CanFollowEach (replies_of (drop l.reply-index l.replies)) s;
