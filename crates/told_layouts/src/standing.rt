@@ -6,7 +6,8 @@ ghost use Rattle.told_layouts.specs.Looking.{somewhere, somewhere_below, loses, 
 
 use card_sets::CardSet;
 use dd_solver::Solver;
-use strategy_check::wins;
+use fast_check::FastDoubleDummy;
+use strategy_check::wins_by;
 use strategy_tree::{Plan, Reply};
 use trick_rules::{Position, play};
 
@@ -135,7 +136,7 @@ fn standing_here(solver: &mut Solver, plan: &Plan, position: &Position, left: Ca
     ensures given_up { result.given_up ≡ gives_up (plan_of plan.now)
         (record { position = position.now; left = left }) }
 {
-    let lost = !wins(plan, position, left);
+    let lost = !wins_by(&mut FastDoubleDummy(solver), plan, position, left);
     let given_up = match plan {
         Plan::Stop => false,
         Plan::Play(card, _) => {
