@@ -13,21 +13,10 @@ ghost use Rattle.line_plays.specs.Defended.{beating_card as beating};
 use am_match::rest_after;
 use card_sets::{Card, CardSet};
 use dd_solver::Solver;
-use strategy_check::wins;
+use fast_check::FastDoubleDummy;
+use strategy_check::wins_by;
 use strategy_tree::Plan;
 use trick_rules::{Position, play};
-
-// Whether a plan loses. After it has stopped the solver says so, since it remembers.
-fn loses(solver: &mut Solver, plan: &Plan, position: &Position, left: CardSet) -> bool
-    requires { CanFollow (plan_of plan.now) (record { position = position.now; left = left }) }
-    ensures { result ≡ not (wins_in bridge (plan_of plan.now)
-        (record { position = position.now; left = left })) }
-{
-    match plan {
-        Plan::Stop => !solver.makes(position, left),
-        Plan::Play(_, _) | Plan::Hear(_) => !wins(plan, position, left),
-    }
-}
 
 // Whether the rest of a plan loses after a legal card of a defender.
 fn loses_after(
@@ -46,7 +35,8 @@ fn loses_after(
         (after (record { position = position.now; left = left }) card)) }
 {
     let rest = rest_after(plan, card);
-    loses(solver, rest, &play(position, card), left.without(card))
+    let mut solver = FastDoubleDummy(solver);
+    !wins_by(&mut solver, rest, &play(position, card), left.without(card))
 }
 
 /// The first legal card of a defender after which the rest of a plan loses, or if there is none the

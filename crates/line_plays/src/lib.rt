@@ -1,6 +1,6 @@
 //! A strategy played out in one layout against a defence that beats it, if there is one.
 //! It builds on `am_match` for what follows a strategy, on `strategy_check` for what a strategy
-//! wins, and on `dd_solver` for the cards after it has stopped.
+//! wins, and on `dd_solver` for open results and the cards after the strategy has stopped.
 //! Its contract promises each card, and that the contract is made exactly if the strategy wins the
 //! layout; `laws` says that any such line of play shows as much.
 #![tactic(auto)]

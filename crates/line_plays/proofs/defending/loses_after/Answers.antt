@@ -15,7 +15,7 @@ play-requires c =
     let s : State = record { position = c.args.position.now; left = c.args.left } in
     play.a_legal_card_can_be_played s c.args.card (followed_state (plan_of c.args.plan.now) s c.requires.follow) c.requires.legal
 
-pub loses-requires : goal.loses-requires
-loses-requires c =
+pub wins_by-requires : goal.wins_by-requires
+wins_by-requires c =
     let s : State = record { position = c.args.position.now; left = c.args.left } in
     rw (c.rest_after-rest.ensures, c.play.ensures.value, c.without.ensures.value) (follow_theirs (plan_of c.args.plan.now) s c.args.card c.requires.follow c.requires.theirs c.requires.legal)
