@@ -11,11 +11,14 @@ use am_answer::{Root, Status};
 use am_report::{ReadReport, read_report};
 use byte_text::Text;
 use card_sets::Seat;
-use job_check::check_report;
+use dd_solver::Solver;
+use fast_check::FastDoubleDummy;
+use job_check::check_report_by;
 use std::alloc::Global;
 use told_report::tell_strategies;
 
-/// A report at a root. It is judged first, and refused as `check` refuses it.
+/// A report at a root. It is judged first, and refused as `check` refuses it; the fast solver
+/// settles the results that plans leave open.
 #[tactic(auto, unfolding(am_answer::specs::Answers::task_at, am_answer::specs::Judging::plans_in))]
 pub fn good_report(alloc: Global, root: &Root, bytes: &Text) -> Result<ReadReport, Status>
     requires weighed { length root.now.kept.weights ≡ length root.now.kept.node.lefts }
@@ -25,7 +28,8 @@ pub fn good_report(alloc: Global, root: &Root, bytes: &Text) -> Result<ReadRepor
         plans_in root.now bytes.now ≡ Ok (length report.entries.items)) }
     ensures refused { IfErr result (IsFileRefusal (task_at root.now (jobs.Check bytes.now))) }
 {
-    check_report(alloc, root, bytes)?;
+    let mut solver = Solver::new(alloc);
+    check_report_by(alloc, root, bytes, &mut FastDoubleDummy(&mut solver))?;
     Ok(read_report(alloc, bytes.bytes())?)
 }
 
