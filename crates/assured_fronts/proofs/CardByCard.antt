@@ -1,5 +1,5 @@
 -- The assured front of a node, card by card.
-use Rattle.std.proofs.Common.{◌≡◌, ℕ, zero, suc, sum_by, ◌+◌, ◌-◌, ◌<◌, true, false, List, [], ◌∷◌, ◌++◌, replicate, length, Contains, All, refl, sym, ap, subst, ◌∙◌, arith, append-nil, append_assoc, inl, inr}
+use Rattle.std.proofs.Common.{◌≡◌, ℕ, zero, suc, sum_by, ◌+◌, ◌-◌, ◌<◌, true, false, List, [], ◌∷◌, ◌++◌, replicate, length, Contains, All, refl, sym, ap, subst, ◌∙◌, arith, append-nil, append_assoc, inl, inr, ⊎_elim, Result, IsErrAnd}
 use Rattle.std.proofs.lemmas.Bool.{cases_Bool}
 use Rattle.win_vectors.specs.Vectors.{ones_of, restrict_of}
 use Rattle.win_vectors.specs.Fronts.{Vector, Dominates, Covers, IsFrontOf, IsReduced, meets, spreads}
@@ -12,24 +12,28 @@ use Rattle.trick_rules.proofs.PlayLaws.{a_choice_leads_to_a_node}
 use Rattle.strategy_games.specs.Games.{mask}
 use Rattle.strategy_games.specs.Plans.{stops, tree_size}
 use Rattle.strategy_tree.specs.Bridge.{bridge}
-use Rattle.strategy_tree.proofs.BridgeNodes.{length-states, length-child_mask, length-child_lefts, mask-bridge, stops-bridge}
+use Rattle.strategy_tree.proofs.BridgeNodes.{length-states, length-child_mask, length-child_lefts, mask-bridge, stops-bridge, tree_size-positive}
 use Rattle.strategy_tree.proofs.CardLists.{has_card-from_Contains}
-use Rattle.strategy_games.proofs.Lists.{Contains-append_first, All-at}
+use Rattle.strategy_games.proofs.Lists.{Contains-here, Contains-single, Contains-append, Contains-append_first, Contains-append_second, All-at}
 use Rattle.strategy_games.proofs.Vectors.{Dominates-refl, Dominates-trans}
 use Rattle.strategy_games.proofs.Fronts.{front_level}
 use Rattle.alphamu_core.proofs.Judging.{ones_above}
 use Rattle.alphamu_core.proofs.OpenNodes.{size_ours, size_theirs, length-our_child}
-use Rattle.alphamu_core.proofs.Paid.{HasPaid, size_after}
+use Rattle.alphamu_core.specs.declared.answers.SearchFault.{SearchFault}
+use Rattle.alphamu_core.specs.declared.answers.SearchFault.TheVariants.{Memory}
+use Rattle.alphamu_core.specs.Costs.{Costs}
+use Rattle.alphamu_core.specs.Kept.{IsTaken}
+use Rattle.alphamu_core.proofs.Paid.{HasPaid, size_after, costs_memory}
 use Rattle.alphamu_core.proofs.Parts.{length-restrict}
 use Rattle.plain_fronts.proofs.CardByCard.{member}
-use Rattle.assured_games.specs.Assured.{Secures, IsAssuredFront}
+use Rattle.assured_games.specs.Assured.{Secures, IsAssured, IsAssuredFront}
 use Rattle.assured_games.proofs.Zips.{length_zip}
 use Rattle.assured_games.specs.Steps.{AssuredByCard, AssuredByReply}
 use Rattle.sure_nodes.specs.SureNodes.{is_sure_node}
 use Rattle.assured_fronts.specs.AssuredAt.{IsAssuredAt, AllMade, claims}
 use Rattle.assured_fronts.proofs.Leaves.{steps, same_front, goes_on}
 use Rattle.assured_fronts.proofs.MadeLayouts.{made_after}
-use Rattle.assured_fronts.proofs.OneAtATime.{one_assured, ones_restrict}
+use Rattle.assured_fronts.proofs.OneAtATime.{one_assured}
 
 -- play goes on
 pub live : (n : NodeValue) (moves : ℕ) → claims n ≡ false → 0 < moves → stops bridge n moves ≡ false
@@ -119,47 +123,66 @@ left_all {n} {m} {cards} {front} left moves sound off some less same none = reco
   width = left.width;
 }
 
--- the cards so far are enough
-module _ {n : NodeValue} {m : ℕ} {cards : List ℕ} {front : FrontValue} (left : CardsLeft n m cards front) (sound : IsNode n) (off : claims n ≡ false) (made : AllMade n) where
-  -- where declarer's side wins every layout already,
-  enough_ours : is_declarers (to_play n.position) ≡ true → Covers front.vectors (replicate (length n.lefts) true) → IsFrontOf (AssuredByCard bridge is_sure_node n m (choices n)) front.vectors
-  enough_ours o all = front_level (AssuredByCard bridge is_sure_node n m left.earlier) (AssuredByCard bridge is_sure_node n m (choices n)) front.vectors to back (left.so_far.ours o)
-    where
-      to : (v : Vector) → AssuredByCard bridge is_sure_node n m left.earlier v → (u : Vector) × AssuredByCard bridge is_sure_node n m (choices n) u × Dominates u v
-      to v a = (v, (a.0, subst (λ (xs : List ℕ). Contains xs a.0) (sym left.are) (Contains-append_first left.earlier cards a.0 a.1), a.2), Dominates-refl v)
+-- a card that changes nothing
+module _ {n : NodeValue} {m card : ℕ} {cards rest : List ℕ} {front : FrontValue} (left : CardsLeft n m cards front) (first : cards ≡ card ∷ rest) (sound : IsNode n) (off : claims n ≡ false) (made : AllMade n) where
+  abbrev with_card : List ℕ
+  with_card = left.earlier ++ card ∷ []
 
-      back : (v : Vector) → AssuredByCard bridge is_sure_node n m (choices n) v → (u : Vector) × AssuredByCard bridge is_sure_node n m left.earlier u × Dominates u v
+  are_with : choices n ≡ with_card ++ rest
+  are_with = next_is left first ∙ sym (append_assoc left.earlier (card ∷ []) rest)
+
+  among : (c : ℕ) → Contains with_card c → Contains (choices n) c
+  among c k = subst (λ (xs : List ℕ). Contains xs c) (sym are_with) (Contains-append_first with_card rest c k)
+
+  -- where declarer's side wins every layout already,
+  same_ours : is_declarers (to_play n.position) ≡ true → Covers front.vectors (replicate (length n.lefts) true) → IsFrontOf (AssuredByCard bridge is_sure_node n m with_card) front.vectors
+  same_ours o all = front_level (AssuredByCard bridge is_sure_node n m left.earlier) (AssuredByCard bridge is_sure_node n m with_card) front.vectors to back (left.so_far.ours o)
+    where
+      to : (v : Vector) → AssuredByCard bridge is_sure_node n m left.earlier v → (u : Vector) × AssuredByCard bridge is_sure_node n m with_card u × Dominates u v
+      to v a = (v, (a.0, Contains-append_first left.earlier (card ∷ []) a.0 a.1, a.2), Dominates-refl v)
+
+      back : (v : Vector) → AssuredByCard bridge is_sure_node n m with_card v → (u : Vector) × AssuredByCard bridge is_sure_node n m left.earlier u × Dominates u v
       back v a =
-          let wide : length v ≡ length n.lefts = length_zip (λ s. Secures bridge a.2.0 s) v (states (child n a.0)) a.2.2 ∙ length-states (child n a.0) ∙ length-our_child n a.0 o (has_card-from_Contains (choices n) a.0 a.1) in
+          let wide : length v ≡ length n.lefts = length_zip (λ s. Secures bridge a.2.0 s) v (states (child n a.0)) a.2.2 ∙ length-states (child n a.0) ∙ length-our_child n a.0 o (has_card-from_Contains (choices n) a.0 (among a.0 a.1)) in
           (all.0, (left.so_far.ours o).reached all.0 all.1, Dominates-trans all.0 (replicate (length n.lefts) true) v all.2 (ones_above (length n.lefts) v wide))
 
-  -- or one layout at a time against the defenders
-  enough_theirs : is_declarers (to_play n.position) ≡ false → All (λ v. ones_of v < 2) front.vectors → IsFrontOf (AssuredByReply bridge is_sure_node n m (choices n)) front.vectors
-  enough_theirs t few =
+  -- or against a defender's card one layout at a time
+  same_theirs : is_declarers (to_play n.position) ≡ false → All (λ v. ones_of (restrict_of v (child_mask n card)) < 2) front.vectors → IsFrontOf (AssuredByReply bridge is_sure_node n m with_card) front.vectors
+  same_theirs t few =
       let so = left.so_far.theirs t in
-      front_level (Contains front.vectors) (AssuredByReply bridge is_sure_node n m (choices n)) front.vectors
-      (λ v k. (v, one_each v (so.reached v k).0 (All-at (λ v. ones_of v < 2) front.vectors few v k), Dominates-refl v))
-      (λ v a. so.covered v (a.0, λ card k. a.1 card (subst (λ (xs : List ℕ). Contains xs card) (sym left.are) (Contains-append_first left.earlier cards card k))))
+      front_level (Contains front.vectors) (AssuredByReply bridge is_sure_node n m with_card) front.vectors
+      (λ v k. (v, with_reply v (so.reached v k) (All-at (λ v. ones_of (restrict_of v (child_mask n card)) < 2) front.vectors few v k), Dominates-refl v))
+      (λ v a. so.covered v (a.0, λ c k. a.1 c (Contains-append_first left.earlier (card ∷ []) c k)))
       (record { reached = λ v k. k; covered = λ v k. (v, k, Dominates-refl v); apart = so.apart; ordered = so.ordered })
     where
-      one_each : (v : Vector) → length v ≡ length (states n) → ones_of v < 2 → AssuredByReply bridge is_sure_node n m (choices n) v
-      one_each v wide one = (
-        wide,
-        λ card k.
-            let choice = has_card-from_Contains (choices n) card k in
-            let bits : mask bridge n card ≡ child_mask n card = mask-bridge n card in
-            let long : length v ≡ length (mask bridge n card) = wide ∙ length-states n ∙ sym (ap (λ (b : Vector). length b) bits ∙ length-child_mask n card) in
-            let kept : length (restrict_of v (mask bridge n card)) ≡ length (child n card).lefts = length-restrict v (mask bridge n card) long ∙ ap ones_of bits ∙ sym (length-child_lefts n card) in
-            one_assured (child n card) m (restrict_of v (mask bridge n card)) (a_choice_leads_to_a_node n card sound choice) (made_after n card sound (goes_on n off).0 t (child n card) refl made) kept
-            (let fewer = ones_restrict v (mask bridge n card) in omega (arith, one)),
+      one_each : (v : Vector) → length v ≡ length (states n) → ones_of (restrict_of v (child_mask n card)) < 2 → IsAssured bridge is_sure_node (child n card) m (restrict_of v (mask bridge n card))
+      one_each v wide one =
+          let choice = has_card-from_Contains (choices n) card (among card (Contains-append_second left.earlier (card ∷ []) card (Contains-here card []))) in
+          let bits : mask bridge n card ≡ child_mask n card = mask-bridge n card in
+          let long : length v ≡ length (mask bridge n card) = wide ∙ length-states n ∙ sym (ap (λ (b : Vector). length b) bits ∙ length-child_mask n card) in
+          let kept : length (restrict_of v (mask bridge n card)) ≡ length (child n card).lefts = length-restrict v (mask bridge n card) long ∙ ap ones_of bits ∙ sym (length-child_lefts n card) in
+          one_assured (child n card) m (restrict_of v (mask bridge n card)) (a_choice_leads_to_a_node n card sound choice) (made_after n card sound (goes_on n off).0 t (child n card) refl made) kept
+          (subst (λ (b : Vector). ones_of (restrict_of v b) < 2) (sym bits) one)
+
+      with_reply : (v : Vector) → AssuredByReply bridge is_sure_node n m left.earlier v → ones_of (restrict_of v (child_mask n card)) < 2 → AssuredByReply bridge is_sure_node n m with_card v
+      with_reply v a one = (
+        a.0,
+        λ c k. ⊎_elim
+            (λ (l : Contains left.earlier c). a.1 c l)
+            (λ (l : Contains (card ∷ []) c). subst (λ x. IsAssured bridge is_sure_node (child n x) m (restrict_of v (mask bridge n x))) (Contains-single card c l) (one_each v a.0 one))
+            (Contains-append left.earlier (card ∷ []) c k),
       )
 
-  pub left_enough : (is_declarers (to_play n.position) ≡ true → Covers front.vectors (replicate (length n.lefts) true)) → (is_declarers (to_play n.position) ≡ false → All (λ v. ones_of v < 2) front.vectors) → CardsLeft n m [] front
-  left_enough ours theirs = record {
-    earlier = choices n;
-    are = sym (append-nil (choices n));
+  pub left_same : (bits : Vector) → bits ≡ child_mask n card → (is_declarers (to_play n.position) ≡ true → Covers front.vectors (replicate (length n.lefts) true))
+      → (is_declarers (to_play n.position) ≡ false → All (λ v. ones_of (restrict_of v bits) < 2) front.vectors) → CardsLeft n m rest front
+  left_same bits are ours theirs = record {
+    earlier = with_card;
+    are = are_with;
     width = left.width;
-    so_far = record { ours = λ o. enough_ours o (ours o); theirs = λ t. enough_theirs t (theirs t) };
+    so_far = record {
+      ours = λ o. same_ours o (ours o);
+      theirs = λ t. same_theirs t (subst (λ (b : Vector). All (λ v. ones_of (restrict_of v b) < 2) front.vectors) are (theirs t));
+    };
   }
 
 -- ---- what is paid
@@ -181,3 +204,15 @@ paid_start n below cards before all = record {
   within = (let same : sum_by (size_after n below) cards ≡ sum_by (size_after n below) (choices n) = ap (sum_by (size_after n below)) all in omega arith);
   never_rises = omega arith;
 }
+
+-- a card that isn't searched
+pub paid_less : {n : NodeValue} {below card before after : ℕ} {cards rest : List ℕ} → HasPaid ⊥ n below cards before after → IsTaken cards card rest → HasPaid ⊥ n below rest before after
+paid_less {n} {below} so taken = record {
+  counts = λ each. absurd each;
+  within = omega (arith, so.within, taken.sums (size_after n below));
+  never_rises = so.never_rises;
+}
+
+-- an allocation fails once the node is paid for
+pub memory_once : {T : Type 0} (n : NodeValue) (moves before after : ℕ) (result : Result T SearchFault) → IsErrAnd result (λ e. e ≡ Memory) → after + 1 ≡ before → Costs ⊥ (tree_size bridge n moves) before after result
+memory_once n moves before after result is paid = let some = tree_size-positive n moves in costs_memory ⊥ (tree_size bridge n moves) before after result is (omega arith) (omega arith)

@@ -3,3 +3,4 @@ pub mod MadeLayouts
 pub mod OneAtATime
 pub mod CardByCard
 pub mod SameSearch
+pub mod LastMove

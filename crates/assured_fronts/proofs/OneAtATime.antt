@@ -1,6 +1,6 @@
 -- One layout that double dummy makes may be played for with any number of moves.
 use Rattle.std.proofs.Common.{◌≡◌, ◌<◌, ◌≤◌, ◌∙◌, ℕ, true, false, List, [], ◌∷◌, length, Contains, refl, sym, subst, arith}
-use Rattle.win_vectors.specs.Vectors.{ones_of, restrict_of}
+use Rattle.win_vectors.specs.Vectors.{ones_of, meet_of, restrict_of}
 use Rattle.win_vectors.specs.Fronts.{Vector}
 use Rattle.trick_rules.specs.Positions.{State}
 use Rattle.trick_rules.specs.Play.{makes}
@@ -16,13 +16,15 @@ use Rattle.sure_nodes.specs.SureNodes.{is_sure_node}
 use Rattle.sure_nodes.proofs.PlayedOut.{played_out}
 use Rattle.assured_fronts.specs.AssuredAt.{AllMade}
 
-pub ones_restrict : (v mask : Vector) → ones_of (restrict_of v mask) ≤ ones_of v
-ones_restrict [] mask = omega arith
-ones_restrict (b ∷ v) [] = omega arith
-ones_restrict (true ∷ v) (true ∷ mask) = let rest = ones_restrict v mask in omega arith
-ones_restrict (false ∷ v) (true ∷ mask) = let rest = ones_restrict v mask in omega arith
-ones_restrict (true ∷ v) (false ∷ mask) = let rest = ones_restrict v mask in omega arith
-ones_restrict (false ∷ v) (false ∷ mask) = let rest = ones_restrict v mask in omega arith
+-- at the ones of a mask no more is won than by the meet with it
+pub ones_kept : (v mask : Vector) → ones_of (restrict_of v mask) ≤ ones_of (meet_of v mask)
+ones_kept [] [] = omega arith
+ones_kept [] (m ∷ mask) = omega arith
+ones_kept (b ∷ v) [] = omega arith
+ones_kept (true ∷ v) (true ∷ mask) = let rest = ones_kept v mask in omega arith
+ones_kept (false ∷ v) (true ∷ mask) = let rest = ones_kept v mask in omega arith
+ones_kept (true ∷ v) (false ∷ mask) = let rest = ones_kept v mask in omega arith
+ones_kept (false ∷ v) (false ∷ mask) = let rest = ones_kept v mask in omega arith
 
 module _ {S : Type 0} where
   -- no layout

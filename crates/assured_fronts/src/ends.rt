@@ -12,8 +12,8 @@ use sure_nodes::is_sure;
 use trick_rules::Node;
 use win_vectors::WinVector;
 
-// Whether declarer's side claims at a node: the result is decided, or sure.
-fn claims(node: &Node) -> bool
+/// Whether declarer's side claims at a node: the result is decided, or sure.
+pub fn claims(node: &Node) -> bool
     ensures { result ≡ claims_at node.now }
 {
     either(node.stops(1), is_sure(node.position()))

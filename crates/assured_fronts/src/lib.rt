@@ -6,6 +6,7 @@
 
 mod ends;
 mod enough;
+mod last;
 mod memo;
 mod search;
 mod walk;

@@ -7,7 +7,8 @@ ghost use Rattle.assured_fronts.specs.AssuredAt.{IsAssuredAt, AllMade, claims as
 ghost use Rattle.assured_fronts.specs.AssuredSearches.{IsSameSearch, Pays, PaysBelow};
 
 use crate::ends::{is_settled, open_stop, results, settled};
-use crate::enough::are_enough;
+use crate::enough::changes_nothing;
+use crate::last::last_move;
 use crate::memo::AssuredMemo;
 use alphamu_core::{Budget, SearchFault, filled, part_of};
 use dd_solver::Solver;
@@ -67,7 +68,8 @@ impl AssuredSearch<'_> {
         Ok(filled(self.alloc, &front, made)?)
     }
 
-    // The front that is kept of a node at which each layout is made, or else the one that is found.
+    // The front of a node at which each layout is made: with the last move, or the one that is kept,
+    // or else the one that is found by the cards.
     #[cycle(assured)]
     fn recall(&mut self, node: &Node, moves: u8) -> Result<Front, SearchFault>
         requires goes_on { claims_at node.now ≡ false }
@@ -77,6 +79,9 @@ impl AssuredSearch<'_> {
         ensures costs { PaysBelow node.now moves self.old self.new result }
         ensures same { IsSameSearch self.old self.new }
     {
+        if moves == 1 && node.is_ours() {
+            return Ok(last_move(self.alloc, self.solver, node)?);
+        }
         if let Some(front) = self.memo.look(node, moves) {
             return Ok(front);
         }
@@ -101,11 +106,11 @@ impl AssuredSearch<'_> {
         let mut cards = node.choices();
         'cards: while let Some(card) = cards.pop_first() {
             let (child, mask) = node.child(self.alloc, card)?;
+            if changes_nothing(node, &front, mask) {
+                continue;
+            }
             let won = self.visit(&child, left, !node.is_ours())?;
             front = with_child(self.alloc, node, front, &won, mask)?;
-            if are_enough(node, &front) {
-                return Ok(front);
-            }
         }
         Ok(front)
     }

@@ -9,7 +9,7 @@ use Rattle.strategy_tree.proofs.BridgeNodes.{tree_size-positive}
 use Rattle.alphamu_core.proofs.Paid.{costs_memory, costs_one, costs_none, costs_by_part, costs_of_part, paid_more, paid_memory, paid_all, paid_below}
 use Rattle.alphamu_core.proofs.Taken.{taken_first}
 use Rattle.plain_fronts.proofs.CardByCard.{falls, child_fits}
-use Rattle.assured_fronts.proofs.CardByCard.{stops_off, size_below, paid_start, next_is, over_no_card, left_one_more, left_enough, left_all}
+use Rattle.assured_fronts.proofs.CardByCard.{stops_off, size_below, paid_start, next_is, over_no_card, left_one_more, left_same, left_all, paid_less, memory_once}
 use Rattle.alphamu_core.proofs.Inherited.{known_whole}
 use Rattle.assured_fronts.proofs.Leaves.{made_wide, goes_on}
 use Rattle.assured_fronts.proofs.MadeLayouts.{made_after, part_made, part_width, part_size, part_goes_on, filled_front}
@@ -56,24 +56,13 @@ by_cards-cards-preserved t c = record {
   same = same_more c.cards.invariant.same c.in_ok-won.ensures.same;
 }
 
-pub by_cards-are_enough-requires : goal.by_cards-are_enough-requires
-by_cards-are_enough-requires t c = c.in_ok-front-2.ensures.width ∙ c.cards.invariant.left.width
-
-pub by_cards-returns-then-are_enough-clause-front : goal.by_cards-returns-then-are_enough-clause-front
-by_cards-returns-then-are_enough-clause-front t c =
-    let left = left_one_more c.cards.invariant.left c.in-Some.ensures.value c.in_ok-child.child c.in_ok-child.mask c.in_ok-won.won c.in_ok-front-2.front
-    c.front_of_no_card.ensures.a_node c.in_ok-child.ensures.node c.in_ok-child.ensures.mask c.in_ok-won.ensures.front.front c.in_ok-front-2.ensures.width c.in_ok-front-2.ensures.ours c.in_ok-front-2.ensures.theirs in
-    let enough = left_enough left c.front_of_no_card.ensures.a_node c.requires.goes_on c.requires.made (c.are_enough.ensures.ours c.if-are_enough.true) (c.are_enough.ensures.theirs c.if-are_enough.true) in
-    left_all enough c.args.moves c.front_of_no_card.ensures.a_node c.requires.goes_on c.requires.some c.moves_after-left.ensures.ours c.moves_after-left.ensures.theirs refl
-
-pub by_cards-returns-then-are_enough-clause-costs : goal.by_cards-returns-then-are_enough-clause-costs
-by_cards-returns-then-are_enough-clause-costs t c =
-    let size = size_below c.args.node.now c.args.moves c.moves_after-left.result c.front_of_no_card.ensures.a_node c.requires.goes_on c.requires.some c.moves_after-left.ensures.ours c.moves_after-left.ensures.theirs in
-    let paid = paid_more ⊥ c.args.node.now c.moves_after-left.result c.cards.invariant.paid (taken_first _ _ _ c.in-Some.ensures.value) c.in_ok-child.ensures.node c.in_ok-won.won c.in_ok-won.ensures.costs in
-    paid_all ⊥ c.args.node.now c.moves_after-left.result paid c.args.moves size _ (λ each. absurd each)
-
-pub by_cards-returns-then-are_enough-clause-same : goal.by_cards-returns-then-are_enough-clause-same
-by_cards-returns-then-are_enough-clause-same t c = same_more c.cards.invariant.same c.in_ok-won.ensures.same
+pub by_cards-cards-preserved-then-changes_nothing : goal.by_cards-cards-preserved-then-changes_nothing
+by_cards-cards-preserved-then-changes_nothing t c = record {
+  left = left_same c.cards.invariant.left c.in-Some.ensures.value c.front_of_no_card.ensures.a_node c.requires.goes_on c.requires.made c.in_ok-child.mask c.in_ok-child.ensures.mask
+      (c.changes_nothing.ensures.ours c.if-changes_nothing.true) (c.changes_nothing.ensures.theirs c.if-changes_nothing.true);
+  paid = paid_less c.cards.invariant.paid (taken_first _ _ _ c.in-Some.ensures.value);
+  same = c.cards.invariant.same;
+}
 
 pub by_cards-returns-clause-front : goal.by_cards-returns-clause-front
 by_cards-returns-clause-front t c =
@@ -112,6 +101,15 @@ by_cards-returns-clause-costs t c =
     paid_all ⊥ c.args.node.now c.moves_after-left.result c.cards.invariant.paid c.args.moves size _ (λ each. absurd each)
 
 -- ---- a node
+
+pub recall-returns-in_err-last_move-clause-costs : goal.recall-returns-in_err-last_move-clause-costs
+recall-returns-in_err-last_move-clause-costs t c =
+    memory_once c.args.node.now c.args.moves (c.args.self.now.budget.now.left + 1) c.args.self.now.budget.now.left c.from_residual.result c.from_residual.ensures.1 refl
+
+pub recall-returns-then-is_ours-clause-costs : goal.recall-returns-then-is_ours-clause-costs
+recall-returns-then-is_ours-clause-costs t c =
+    costs_one ⊥ (tree_size bridge c.args.node.now c.args.moves) (c.args.self.now.budget.now.left + 1) c.args.self.now.budget.now.left c.in_ok-last_move.field-0
+    (λ each. absurd each) (tree_size-positive c.args.node.now c.args.moves) refl
 
 pub recall-returns-in-Some-clause-costs : goal.recall-returns-in-Some-clause-costs
 recall-returns-in-Some-clause-costs t c =
@@ -174,9 +172,7 @@ visit-returns-in_err-enter-clause-costs t c =
 
 pub visit-returns-in_err-settled-clause-costs : goal.visit-returns-in_err-settled-clause-costs
 visit-returns-in_err-settled-clause-costs t c =
-    let some = tree_size-positive c.args.node.now c.args.moves in
-    let paid = c.in_ok-enter.ensures.paid in
-    costs_memory ⊥ (tree_size bridge c.args.node.now c.args.moves) c.args.self.now.budget.now.left c.enter.new.self.left c.from_residual-in_err-settled.result c.from_residual-in_err-settled.ensures.1 (omega arith) (omega arith)
+    memory_once c.args.node.now c.args.moves c.args.self.now.budget.now.left c.enter.new.self.left c.from_residual-in_err-settled.result c.from_residual-in_err-settled.ensures.1 c.in_ok-enter.ensures.paid
 
 pub visit-returns-in_ok-settled-clause-costs : goal.visit-returns-in_ok-settled-clause-costs
 visit-returns-in_ok-settled-clause-costs t c =
@@ -185,9 +181,7 @@ visit-returns-in_ok-settled-clause-costs t c =
 
 pub visit-returns-in_err-open_stop-clause-costs : goal.visit-returns-in_err-open_stop-clause-costs
 visit-returns-in_err-open_stop-clause-costs t c =
-    let some = tree_size-positive c.args.node.now c.args.moves in
-    let paid = c.in_ok-enter.ensures.paid in
-    costs_memory ⊥ (tree_size bridge c.args.node.now c.args.moves) c.args.self.now.budget.now.left c.enter.new.self.left c.from_residual-in_err-open_stop.result c.from_residual-in_err-open_stop.ensures.1 (omega arith) (omega arith)
+    memory_once c.args.node.now c.args.moves c.args.self.now.budget.now.left c.enter.new.self.left c.from_residual-in_err-open_stop.result c.from_residual-in_err-open_stop.ensures.1 c.in_ok-enter.ensures.paid
 
 pub visit-returns-in_ok-open_stop-clause-costs : goal.visit-returns-in_ok-open_stop-clause-costs
 visit-returns-in_ok-open_stop-clause-costs t c =
