@@ -1,5 +1,5 @@
 -- One move left at declarer's turn: what is assured with no move, or claimed after a card.
-use Rattle.std.proofs.Common.{◌≡◌, ◌⊎◌, ◌∙◌, ◌++◌, ℕ, zero, suc, true, false, List, [], ◌∷◌, length, Contains, append-nil, append_assoc, refl, sym, ap, ap₂, subst, true≢false, inl, inr, ⊎_elim}
+use Rattle.std.proofs.Common.{◌≡◌, ◌⊎◌, ◌∙◌, ◌++◌, ℕ, true, false, List, [], ◌∷◌, length, Contains, append-nil, append_assoc, refl, sym, ap, ap₂, subst, true≢false, inl, inr, ⊎_elim}
 use Rattle.std.proofs.lemmas.Bool.{false_from_ne_true}
 use Rattle.card_sets.specs.SetWords.{has_card}
 use Rattle.card_sets.specs.declared.seat.Seat.{Seat}
@@ -18,7 +18,7 @@ use Rattle.strategy_tree.specs.Bridge.{bridge}
 use Rattle.strategy_tree.proofs.CardLists.{has_card-from_Contains}
 use Rattle.strategy_tree.proofs.Rules.{table_of, lawful}
 use Rattle.plain_fronts.proofs.CardByCard.{member}
-use Rattle.assured_games.specs.Assured.{Line, Claim, PlayFor, Move, Wait, Secures, IsLine, IsAssured, IsAssuredFront}
+use Rattle.assured_games.specs.Assured.{Line, Claim, PlayFor, Move, Wait, Secures, IsLine, IsAssured}
 use Rattle.assured_games.specs.Steps.{AssuredByCard}
 use Rattle.assured_games.proofs.Zips.{AtOnes, zip_map, zip_of_map}
 use Rattle.assured_games.proofs.Lines.{carried}

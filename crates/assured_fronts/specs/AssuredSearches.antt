@@ -1,11 +1,18 @@
 -- A search for what is assured, under way.
-use Rattle.std.specs.Prelude.{◌≡◌, ◌+◌, ℕ, Result}
+use Rattle.std.specs.Prelude.{◌≡◌, ◌+◌, ◌<◌, ℕ, false, Result}
 use Rattle.trick_rules.specs.Nodes.{NodeValue}
 use Rattle.strategy_games.specs.Plans.{tree_size}
 use Rattle.strategy_tree.specs.Bridge.{bridge}
 use Rattle.alphamu_core.specs.declared.answers.SearchFault.{SearchFault}
 use Rattle.alphamu_core.specs.Costs.{Costs}
+use Rattle.assured_fronts.specs.AssuredAt.{AllMade, claims}
 use Rattle.assured_fronts.specs.declared.search.AssuredSearch.{AssuredSearch}
+
+-- play goes on at a node with these moves, and double dummy makes each of its layouts
+pub record GoesOnMade (n : NodeValue) (moves : ℕ) : Type 0 where
+  pub goes_on : claims n ≡ false
+  pub some : 0 < moves
+  pub made : AllMade n
 
 -- it goes on with the same budget
 pub record IsSameSearch (before after : AssuredSearch) : Type 0 where

@@ -4,7 +4,7 @@ ghost use Rattle.win_vectors.specs.Vectors.{ones_of};
 ghost use Rattle.trick_rules.specs.Play.{makes};
 ghost use Rattle.trick_rules.specs.Nodes.{states};
 ghost use Rattle.assured_fronts.specs.AssuredAt.{IsAssuredAt, AllMade, claims as claims_at};
-ghost use Rattle.assured_fronts.specs.AssuredSearches.{IsSameSearch, Pays, PaysBelow};
+ghost use Rattle.assured_fronts.specs.AssuredSearches.{GoesOnMade, IsSameSearch, Pays, PaysBelow};
 
 use crate::ends::{is_settled, open_stop, results, settled};
 use crate::enough::changes_nothing;
@@ -72,9 +72,7 @@ impl AssuredSearch<'_> {
     // or else the one that is found by the cards.
     #[cycle(assured)]
     fn recall(&mut self, node: &Node, moves: u8) -> Result<Front, SearchFault>
-        requires goes_on { claims_at node.now ≡ false }
-        requires moves { 0 < moves }
-        requires made { AllMade node.now }
+        requires { GoesOnMade node.now moves }
         ensures front { IfOk result (IsAssuredAt node.now moves) }
         ensures costs { PaysBelow node.now moves self.old self.new result }
         ensures same { IsSameSearch self.old self.new }
@@ -94,9 +92,7 @@ impl AssuredSearch<'_> {
     // made is made still after a defender's card. The node itself is paid for.
     #[cycle(assured)]
     fn by_cards(&mut self, node: &Node, moves: u8) -> Result<Front, SearchFault>
-        requires goes_on { claims_at node.now ≡ false }
-        requires some { 0 < moves }
-        requires made { AllMade node.now }
+        requires { GoesOnMade node.now moves }
         ensures front { IfOk result (IsAssuredAt node.now moves) }
         ensures costs { PaysBelow node.now moves self.old self.new result }
         ensures same { IsSameSearch self.old self.new }

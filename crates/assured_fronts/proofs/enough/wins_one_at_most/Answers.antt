@@ -1,4 +1,4 @@
-use Rattle.std.proofs.Common.{◌≡◌, ◌<◌, ◌≤◌, ◌+◌, ◌++◌, ◌∷◌, ◌∙◌, ℕ, All, List, Contains, length, take, take_all, get_or, [], sym, ap, subst, ⊎_elim, rules, arith}
+use Rattle.std.proofs.Common.{◌≡◌, ◌<◌, ◌+◌, ◌++◌, ◌∷◌, ◌∙◌, All, List, Contains, length, take, take_all, [], sym, ap, subst, ⊎_elim, rules, arith}
 use Rattle.std.proofs.lemmas.List.{take_more}
 use Rattle.std.proofs.lemmas.List.Elements.{Contains-get_or}
 use Rattle.win_vectors.specs.Vectors.{ones_of, meet_of, restrict_of}

@@ -102,6 +102,9 @@ by_cards-returns-clause-costs t c =
 
 -- ---- a node
 
+pub recall-last_move-requires : goal.recall-last_move-requires
+recall-last_move-requires t c = record { goes_on = c.requires.goes_on; ours = search rules; made = c.requires.made }
+
 pub recall-returns-in_err-last_move-clause-costs : goal.recall-returns-in_err-last_move-clause-costs
 recall-returns-in_err-last_move-clause-costs t c =
     memory_once c.args.node.now c.args.moves (c.args.self.now.budget.now.left + 1) c.args.self.now.budget.now.left c.from_residual.result c.from_residual.ensures.1 refl
@@ -128,16 +131,17 @@ pub in_made-recall-requires : goal.in_made-recall-requires
 in_made-recall-requires t c =
     let same : cards_left c.in_ok-part.part.position ≡ cards_left c.args.node.now.position = ap (λ (n : NodeValue). cards_left n.position) c.in_ok-part.ensures.part in (
       omega arith,
-      (
-        part_goes_on c.args.node.now c.args.made c.in_ok-part.part c.in_ok-part.ensures.part c.requires.goes_on,
-        (c.requires.moves, part_made c.args.node.now c.args.made c.in_ok-part.part c.in_ok-part.ensures.part c.requires.results),
-      ),
+      record {
+        goes_on = part_goes_on c.args.node.now c.args.made c.in_ok-part.part c.in_ok-part.ensures.part c.requires.goes_on;
+        some = c.requires.moves;
+        made = part_made c.args.node.now c.args.made c.in_ok-part.part c.in_ok-part.ensures.part c.requires.results;
+      },
     )
 
 pub visit-recall-requires : goal.visit-recall-requires
 visit-recall-requires t c =
     let all : ones_of c.results-made.result ≡ length c.args.node.now.lefts = search rules in
-    (omega arith, (search rules, (search rules, known_whole c.args.node.now c.results-made.result c.results-made.ensures all)))
+    (omega arith, record { goes_on = search rules; some = search rules; made = known_whole c.args.node.now c.results-made.result c.results-made.ensures all })
 
 pub in_made-returns-in_err-front-clause-costs : goal.in_made-returns-in_err-front-clause-costs
 in_made-returns-in_err-front-clause-costs t c =
