@@ -51,8 +51,8 @@ impl AssuredSearch<'_> {
         }
     }
 
-    // The front by the layouts that double dummy makes: no other is assured. The node itself is paid
-    // for.
+    // The front by the layouts that double dummy makes: no other is assured. The node itself is
+    // paid for.
     #[cycle(assured)]
     fn in_made(&mut self, node: &Node, moves: u8, made: WinVector) -> Result<Front, SearchFault>
         requires goes_on { claims_at node.now ≡ false }
@@ -68,8 +68,8 @@ impl AssuredSearch<'_> {
         Ok(filled(self.alloc, &front, made)?)
     }
 
-    // The front of a node at which each layout is made: with the last move, or the one that is kept,
-    // or else the one that is found by the cards.
+    // The front of a node at which each layout is made: with the last move, or the one that is
+    // kept, or else the one that is found by the cards.
     #[cycle(assured)]
     fn recall(&mut self, node: &Node, moves: u8) -> Result<Front, SearchFault>
         requires { GoesOnMade node.now moves }
