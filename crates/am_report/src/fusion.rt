@@ -28,22 +28,6 @@ fn push_judged_line(
     push_vector_line(text, alloc, weights, entry.vector)
 }
 
-// Appends a line for each card.
-fn push_judged(
-    text: &mut Text,
-    alloc: Global,
-    weights: &Weights,
-    table: &[CardVector],
-) -> Result<(), AllocError>
-    requires { All (λ entry. length weights.now ≡ length entry.vector) table.now }
-    ensures { OnOk result (text.new ≡ text.old ++ flat_map (judged_line weights.now) table.now) }
-{
-    for entry in table {
-        push_judged_line(text, alloc, weights, entry)?;
-    }
-    Ok(())
-}
-
 // The greatest weight of a card's vector.
 fn greatest_of(weights: &Weights, table: &[CardVector]) -> u32
     requires { All (λ entry. length weights.now ≡ length entry.vector) table.now }
@@ -93,7 +77,9 @@ pub fn fusion_text(
 {
     let mut text = Text::new(alloc);
     push_line(&mut text, b"alphamu fusion ", Version::of(weights).number())?;
-    push_judged(&mut text, alloc, weights, table)?;
+    for entry in table {
+        push_judged_line(&mut text, alloc, weights, entry)?;
+    }
     push_named_line(&mut text, first_best(weights, table))?;
     Ok(text)
 }

@@ -6,7 +6,7 @@ ghost use Rattle.am_report.specs.Lines.{spaced};
 ghost use Rattle.am_report.specs.Head.{trump_text, hand_line, cards_text, trick_line};
 ghost use Rattle.am_report.specs.Head.{cause_text, dropped_line, kept_line, position_text};
 ghost use Rattle.am_report.specs.Head.{head_text};
-ghost use Rattle.am_report.specs.Versions.{weights_line};
+ghost use Rattle.am_report.specs.Versions.{version_of, weights_line};
 
 use crate::lines::{push_line, push_number_line, push_space};
 use crate::version::Version;
@@ -126,16 +126,12 @@ fn push_each_weight(text: &mut Text, alloc: Global, weights: &Weights) -> Result
     Ok(())
 }
 
-// Appends the line of the weights, if this version has one.
-fn push_weights_line(
-    text: &mut Text,
-    alloc: Global,
-    version: Version,
-    weights: &Weights,
-) -> Result<(), AllocError>
-    ensures { OnOk result (text.new ≡ text.old ++ weights_line version weights.now) }
+// Appends the line of the weights, if the version of a text about them has one.
+fn push_weights_line(text: &mut Text, alloc: Global, weights: &Weights) -> Result<(), AllocError>
+    ensures { OnOk result
+        (text.new ≡ text.old ++ weights_line (version_of weights.now) weights.now) }
 {
-    match version {
+    match Version::of(weights) {
         Version::Counts => Ok(()),
         Version::Weights => {
             text.push(b"weights ")?;
@@ -183,12 +179,15 @@ pub fn head_text(alloc: Global, board: &Board, kept: &Kept, moves: u8) -> Result
     ensures { IfOk result (λ text. text ≡ head_text board.now kept.now moves) }
 {
     let mut text = Text::new(alloc);
-    let version = Version::of(&kept.weights);
-    push_line(&mut text, b"alphamu report ", version.number())?;
+    push_line(
+        &mut text,
+        b"alphamu report ",
+        Version::of(&kept.weights).number(),
+    )?;
     push_position(&mut text, alloc, board, kept.node.position())?;
     push_number_line(&mut text, alloc, b"moves ", u64::from(moves))?;
     push_kept_line(&mut text, alloc, &kept.numbers)?;
-    push_weights_line(&mut text, alloc, version, &kept.weights)?;
+    push_weights_line(&mut text, alloc, &kept.weights)?;
     push_dropped(&mut text, alloc, &kept.dropped)?;
     Ok(text)
 }
