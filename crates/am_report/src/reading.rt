@@ -1,5 +1,6 @@
 //! A report read from its text.
-ghost use Rattle.std.specs.Prelude.{◌≡◌, ◌==◌, ◌≤◌, ◌<◌, ◌+◌, ◌-◌, ◌^◌, [], ◌++◌, length, find, IfOk, IfErr, IfSome, MatchOption, option_to_list};
+ghost use Rattle.std.specs.Prelude.{◌≡◌, ◌==◌, ◌≤◌, ◌<◌, ◌+◌, ◌-◌, ◌^◌, [], ◌++◌, length, find};
+ghost use Rattle.std.specs.Prelude.{IfOk, IfErr, IfSome, MatchOption, option_to_list};
 ghost use Rattle.std.specs.List.{range_with_len};
 ghost use Rattle.strategy_tree.specs.PlanMeaning.{plan_of};
 ghost use Rattle.byte_text.specs.Lines.{said_at, line_number};

@@ -5,7 +5,7 @@ ghost use Rattle.bit_answers.specs.Faults.{fault_of, number_of};
 use alphamu_core::RootFault;
 use bit_questions::QuestionFault;
 use card_sets::Card;
-use std::alloc::{AllocError, AllocFailed};
+use std::alloc::AllocError;
 
 /// Why a question in numbers has no answer.
 #[derive(Clone, Copy, Debug, PartialEq, Eq)]
@@ -58,16 +58,6 @@ impl From<AllocError> for BitFault {
     ghost from_gives = { λ _ found. found ≡ out_of_memory };
 
     fn from(_: AllocError) -> Self {
-        BitFault::Question(QuestionFault::Memory)
-    }
-}
-
-impl<T: Drop> From<AllocFailed<T>> for BitFault {
-    ghost use Rattle.bit_answers.specs.Faults.{out_of_memory};
-
-    ghost from_gives = { λ _ found. found ≡ out_of_memory };
-
-    fn from(_: AllocFailed<T>) -> Self {
         BitFault::Question(QuestionFault::Memory)
     }
 }

@@ -11,7 +11,7 @@ use crate::searches::{front_over, new_table, only_worker};
 use alphamu_core::RootFault;
 use bit_questions::{Asked, Question, read};
 use flat_plans::{PlanNode, plan_nodes};
-use plan_finder::plan_for;
+use plan_finder::{Wanted, plan_for};
 use shared_table::SharedStore;
 use std::alloc::Global;
 use strategy_tree::Plan;
@@ -32,17 +32,15 @@ fn plan_at(alloc: Global, asked: &Asked, place: usize) -> Result<Option<Plan>, R
     let Some(vector) = front.as_slice().get(place) else {
         return Ok(None);
     };
+    let wanted = Wanted {
+        node: &asked.node,
+        target: vector,
+        moves: asked.moves,
+        nodes: asked.nodes,
+        cuts: true,
+    };
     let mut store = SharedStore::new(&table, &mut pass);
-    let found = plan_for(
-        alloc,
-        &mut store,
-        &mut worker.solver,
-        &asked.node,
-        asked.moves,
-        vector,
-        asked.nodes,
-        true,
-    )?;
+    let found = plan_for(alloc, &mut store, &mut worker.solver, &wanted)?;
     Ok(Some(found.plan))
 }
 

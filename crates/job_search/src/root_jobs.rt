@@ -102,13 +102,7 @@ fn first_entry(
     ensures spent { NamesSpent question.now result }
 {
     prove!(question.node.width() > 0);
-    let vectors = reported(
-        question.alloc,
-        question.node,
-        question.moves,
-        question.weights,
-        front,
-    )?;
+    let vectors = reported(question, front)?;
     let vector = vectors[0];
     Ok(Entry {
         vector,

@@ -38,8 +38,8 @@ pub struct AboveSearch<'a, S> {
     pub rules: PlanRules,
 }
 
-/// The vectors of the front of a node with `moves` moves that dominate a target. The budget pays for
-/// each node that is entered.
+/// The vectors of the front of a node with `moves` moves that dominate a target. The budget pays
+/// for each node that is entered.
 pub fn vectors_above<S: FrontStore>(
     store: &mut S,
     solver: &mut Solver,

@@ -15,8 +15,8 @@ use front_table::FrontStore;
 use trick_rules::Node;
 use win_vectors::WinVector;
 
-/// A card of declarer's side, the node after it, the vector that the plan goes on with there, and the
-/// most nodes that a search for it entered.
+/// A card of declarer's side, the node after it, the vector that the plan goes on with there, and
+/// the most nodes that a search for it entered.
 #[derive(Drop)]
 pub struct Choice {
     pub card: Card,

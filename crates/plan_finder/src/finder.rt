@@ -8,14 +8,13 @@ ghost use Rattle.alphamu_core.specs.Costs.{IsWithin};
 ghost use Rattle.plan_finder.specs.Targets.{IsOfFront};
 ghost use Rattle.plan_finder.specs.SpentPlans.{IsPlanSpentAt};
 
+use crate::wanted::Wanted;
 use crate::writer::PlanWriter;
 use alphamu_core::{Entered, RootFault};
 use dd_solver::Solver;
 use front_table::FrontStore;
 use std::alloc::Global;
 use strategy_tree::{Plan, read_plan};
-use trick_rules::Node;
-use win_vectors::WinVector;
 
 /// A plan, and the most nodes that a search for it entered, if there was a search.
 #[derive(Drop)]
@@ -24,13 +23,12 @@ pub struct FoundPlan {
     pub most: Option<Entered>,
 }
 
-/// The plan that is printed for a target: a vector of the front of a node at which declarer's side
-/// is to play, with 1 to 26 moves.
+/// The plan that is printed for a vector of a front, the target.
 ///
 /// At declarer's side it takes the first card after which some vector of the front dominates the
 /// target. At a defender it goes on, after each card, with the first vector of the front there that
 /// dominates the target's part. Each child that it has to judge is searched with a budget of its
-/// own, of `nodes` nodes, and with all cuts or none.
+/// own.
 ///
 /// `Spent` names a card of the node after which the tree is larger than the budget. It doesn't come
 /// after the plan's first card.
@@ -38,26 +36,23 @@ pub fn plan_for<S: FrontStore>(
     alloc: Global,
     store: &mut S,
     solver: &mut Solver,
-    node: &Node,
-    moves: u8,
-    target: &WinVector,
-    nodes: u64,
-    cuts: bool,
+    wanted: &Wanted<'_>,
 ) -> Result<FoundPlan, RootFault>
-    requires ours { bridge.is_ours node.now ≡ true }
-    requires a_move { 1 ≤ moves }
-    requires few_moves { moves ≤ most_moves }
-    requires target { IsOfFront node.now moves target.now }
-    ensures plan { IfOk result
-        (λ found. IsChosenPlan bridge (plan_of found.plan) node.now moves target.now) }
-    ensures within { IfOk result (λ found. IfSome found.most (IsWithin nodes)) }
+    requires ours { bridge.is_ours wanted.now.node.now ≡ true }
+    requires a_move { 1 ≤ wanted.now.moves }
+    requires few_moves { wanted.now.moves ≤ most_moves }
+    requires target { IsOfFront wanted.now.node.now wanted.now.moves wanted.now.target.now }
+    ensures plan { IfOk result (λ found. IsChosenPlan bridge (plan_of found.plan)
+        wanted.now.node.now wanted.now.moves wanted.now.target.now) }
+    ensures within { IfOk result (λ found. IfSome found.most (IsWithin wanted.now.nodes)) }
     ensures spent { (card : ℕ) → IsErrOf result (RootFault.Spent card)
-        → IsPlanSpentAt node.now moves target.now nodes card }
+        → IsPlanSpentAt wanted.now.node.now wanted.now.moves wanted.now.target.now
+        wanted.now.nodes card }
     ensures grown { S.grown store.old store.new }
 {
-    let _position = node.position();
+    let _position = wanted.node.position();
     let mut out = PlanWriter::new(alloc);
-    let most = match out.push_plan(store, solver, node, moves, target, nodes, cuts) {
+    let most = match out.push_plan(store, solver, wanted) {
         Ok(most) => most,
         Err(fault) => return Err(fault),
     };

@@ -35,8 +35,8 @@ const MOST_NARROW: usize = 200;
 /// How many bytes a short text has at most.
 const SHORT: usize = 65_536;
 
-/// The places between which the lines of the plan that is chosen for a vector stand, kept under that
-/// vector.
+/// The places between which the lines of the plan that is chosen for a vector stand, kept under
+/// that vector.
 #[derive(Drop)]
 struct WrittenPlan {
     key: VectorAt,

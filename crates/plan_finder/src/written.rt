@@ -13,6 +13,7 @@ use crate::choice::{at_card, without_card};
 use crate::plan_lines::{push_hear, push_on, push_play, push_stop};
 use crate::rules::PlanRules;
 use crate::searches::PlanSearch;
+use crate::wanted::Wanted;
 use crate::writer::PlanWriter;
 use alphamu_core::{Entered, RootFault, SearchFault};
 use dd_solver::Solver;
@@ -30,21 +31,18 @@ impl PlanWriter {
         &mut self,
         store: &mut S,
         solver: &mut Solver,
-        node: &Node,
-        moves: u8,
-        target: &WinVector,
-        nodes: u64,
-        cuts: bool,
+        wanted: &Wanted<'_>,
     ) -> Result<Option<Entered>, RootFault>
-        requires ours { bridge.is_ours node.now ≡ true }
-        requires a_move { 1 ≤ moves }
-        requires few_moves { moves ≤ most_moves }
-        requires target { IsOfFront node.now moves target.now }
-        ensures plan { OnOk result
-            (IsPlanWritten node.now moves target.now self.old self.new) }
-        ensures within { IfOk result (λ most. IfSome most (IsWithin nodes)) }
+        requires ours { bridge.is_ours wanted.now.node.now ≡ true }
+        requires a_move { 1 ≤ wanted.now.moves }
+        requires few_moves { wanted.now.moves ≤ most_moves }
+        requires target { IsOfFront wanted.now.node.now wanted.now.moves wanted.now.target.now }
+        ensures plan { OnOk result (IsPlanWritten wanted.now.node.now wanted.now.moves
+            wanted.now.target.now self.old self.new) }
+        ensures within { IfOk result (λ most. IfSome most (IsWithin wanted.now.nodes)) }
         ensures spent { (card : ℕ) → IsErrOf result (RootFault.Spent card)
-            → IsPlanSpentAt node.now moves target.now nodes card }
+            → IsPlanSpentAt wanted.now.node.now wanted.now.moves wanted.now.target.now
+            wanted.now.nodes card }
         ensures grown { S.grown store.old store.new }
     {
         let mut memo = self.take_memo();
@@ -53,18 +51,18 @@ impl PlanWriter {
             store,
             solver,
             memo: &mut memo,
-            nodes,
-            rules: PlanRules::new(cuts, self.whole_fronts()),
+            nodes: wanted.nodes,
+            rules: PlanRules::new(wanted.cuts, self.whole_fronts()),
         };
-        let most = search.write_root(self, node, moves, target);
+        let most = search.write_root(self, wanted.node, wanted.moves, wanted.target);
         self.put_memo(memo);
         most
     }
 }
 
 impl<S: FrontStore> PlanSearch<'_, S> {
-    // The plan for a vector of the root's front. If a search is spent, the fault names the root card
-    // that it came after.
+    // The plan for a vector of the root's front. If a search is spent, the fault names the root
+    // card that it came after.
     fn write_root(
         &mut self,
         out: &mut PlanWriter,

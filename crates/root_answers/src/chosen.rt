@@ -7,40 +7,15 @@ ghost use Rattle.plan_finder.specs.Targets.{IsOfFront};
 ghost use Rattle.root_workers.specs.Questions.{IsQuestion, NamesSpent};
 ghost use Rattle.shared_table.specs.Passes.{IsPassOf};
 
+use crate::wanted::plan_wanted;
 use alphamu_core::RootFault;
 use dd_solver::Solver;
-use front_table::{FrontStore, NoStore};
+use front_table::NoStore;
 use plan_finder::plan_for;
 use root_workers::Question;
 use shared_table::{Pass, SharedStore};
 use strategy_tree::Plan;
 use win_vectors::WinVector;
-
-// The plan for a vector, over a store.
-fn chosen<S: FrontStore>(
-    store: &mut S,
-    solver: &mut Solver,
-    question: &Question,
-    vector: &WinVector,
-) -> Result<Plan, RootFault>
-    requires question { IsQuestion question.now }
-    requires target { IsOfFront question.now.node.now question.now.moves vector.now }
-    ensures plan { IfOk result (λ plan. IsChosenPlan bridge (plan_of plan)
-        question.now.node.now question.now.moves vector.now) }
-    ensures spent { NamesSpent question.now result }
-{
-    let found = plan_for(
-        question.alloc,
-        store,
-        solver,
-        question.node,
-        question.moves,
-        vector,
-        question.options.nodes,
-        question.options.cuts,
-    )?;
-    Ok(found.plan)
-}
 
 /// The plan that is chosen for a vector of the node's front. It is found over the table, if the
 /// options say so, by the last pass of a search. What the solver has solved changes nothing.
@@ -59,10 +34,13 @@ pub fn chosen_plan(
         question.now.node.now question.now.moves vector.now) }
     ensures spent { NamesSpent question.now result }
 {
+    let wanted = plan_wanted(question, vector);
     if question.options.table {
         let mut store = SharedStore::new(question.table, &mut pass);
-        chosen(&mut store, solver, question, vector)
+        let found = plan_for(question.alloc, &mut store, solver, &wanted)?;
+        Ok(found.plan)
     } else {
-        chosen(&mut NoStore, solver, question, vector)
+        let found = plan_for(question.alloc, &mut NoStore, solver, &wanted)?;
+        Ok(found.plan)
     }
 }

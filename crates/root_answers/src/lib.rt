@@ -8,6 +8,7 @@ mod chosen;
 mod order;
 mod report;
 mod table;
+mod wanted;
 mod written;
 
 pub use chosen::chosen_plan;

@@ -4,29 +4,24 @@ ghost use Rattle.std.specs.Prelude.{if◌then◌else◌};
 ghost use Rattle.win_vectors.specs.Fronts.{Precedes};
 ghost use Rattle.win_vectors.specs.Weights.{weight_of, IsReportedBefore};
 ghost use Rattle.front_table.specs.Proven.{IsFrontAt};
+ghost use Rattle.root_workers.specs.Questions.{IsQuestion};
 ghost use Rattle.am_answer.specs.ReportOrder.{IsReportedFront};
 
 use pareto_fronts::Front;
+use root_workers::Question;
 use std::alloc::{AllocError, Global};
 use std::cmp::Reverse;
-use trick_rules::Node;
 use win_vectors::{Weights, WinVector};
 
-/// The vectors of a node's front in report order: the heavier first, and equally heavy ones in the
+/// The vectors of a root's front in report order: the heavier first, and equally heavy ones in the
 /// front's order.
-pub fn reported(
-    alloc: Global,
-    node: &Node,
-    moves: u8,
-    weights: &Weights,
-    front: &Front,
-) -> Result<Vec<WinVector>, AllocError>
-    requires weighed { length weights.now ≡ length node.now.lefts }
-    requires front { IsFrontAt node.now moves front.now }
-    ensures { IfOk result (λ vectors.
-        IsReportedFront node.now weights.now moves vectors.items) }
+pub fn reported(question: &Question, front: &Front) -> Result<Vec<WinVector>, AllocError>
+    requires question { IsQuestion question.now }
+    requires front { IsFrontAt question.now.node.now question.now.moves front.now }
+    ensures { IfOk result (λ vectors. IsReportedFront question.now.node.now
+        question.now.weights.now question.now.moves vectors.items) }
 {
-    by_weight(alloc, weights, front.as_slice())
+    by_weight(question.alloc, question.weights, front.as_slice())
 }
 
 // Vectors that are in order, put in report order.

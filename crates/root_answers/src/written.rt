@@ -1,17 +1,16 @@
 //! The answer at a root, with its vectors and their plans as lines of a report.
 ghost use Rattle.std.specs.Prelude.{[], All, IfOk};
-ghost use Rattle.strategy_games.specs.Choosing.{IsBestWeight, IsNamedByWeight};
-ghost use Rattle.strategy_tree.specs.Bridge.{bridge};
-ghost use Rattle.front_table.specs.Proven.{IsFrontAt};
 ghost use Rattle.plan_finder.specs.Targets.{IsOfFront};
 ghost use Rattle.root_workers.specs.Plain.{HasWorkers};
-ghost use Rattle.root_workers.specs.Questions.{IsQuestion, NamesSpent, NamesFirstSpent, FitsIfPlain};
+ghost use Rattle.root_workers.specs.Questions.{IsQuestion, NamesSpent, NamesFirstSpent};
+ghost use Rattle.root_workers.specs.Questions.{FitsIfPlain};
 ghost use Rattle.root_workers.specs.Rounds.{HasSeenMore};
 ghost use Rattle.shared_table.specs.Passes.{IsPassOf};
 ghost use Rattle.root_answers.specs.EntryTexts.{AreEntriesWritten};
 ghost use Rattle.root_answers.specs.Written.{IsWrittenAnswer};
 
 use crate::order::reported;
+use crate::wanted::plan_wanted;
 use alphamu_core::RootFault;
 use am_report::vector_text;
 use byte_text::Text;
@@ -19,7 +18,7 @@ use card_sets::Card;
 use dd_solver::Solver;
 use front_table::{FrontStore, NoStore};
 use plan_finder::PlanWriter;
-use root_workers::{Question, RootCrew, RootFront};
+use root_workers::{Question, RootCrew};
 use shared_table::{Pass, SharedStore};
 use win_vectors::WinVector;
 
@@ -35,11 +34,11 @@ pub struct WrittenAnswer {
 
 // The lines of these vectors, each with the plan for it. What the plans have in common is found
 // once, and its lines copied.
-fn written<S: FrontStore>(
+fn written<'a, S: FrontStore>(
     store: &mut S,
     solver: &mut Solver,
-    question: &Question,
-    vectors: &[WinVector],
+    question: &'a Question<'a>,
+    vectors: &'a [WinVector],
 ) -> Result<Text, RootFault>
     requires question { IsQuestion question.now }
     requires targets { All (λ v. IsOfFront question.now.node.now question.now.moves v)
@@ -52,15 +51,7 @@ fn written<S: FrontStore>(
     for vector in vectors {
         let line = vector_text(question.alloc, question.weights, *vector)?;
         out.push(line.bytes())?;
-        out.push_plan(
-            store,
-            solver,
-            question.node,
-            question.moves,
-            vector,
-            question.options.nodes,
-            question.options.cuts,
-        )?;
+        out.push_plan(store, solver, &plan_wanted(question, vector))?;
     }
     let lines = Text::from_bytes(question.alloc, out.bytes())?;
     Ok(lines)
@@ -93,42 +84,6 @@ fn written_over(
     }
 }
 
-// The answer of a root, by what was found at it. Only a plan may be spent.
-fn written_by(
-    question: &Question,
-    solver: &mut Solver,
-    pass: &mut Pass,
-    found: &RootFront,
-) -> Result<WrittenAnswer, RootFault>
-    requires question { IsQuestion question.now }
-    requires pass { IsPassOf question.now.table.now pass.old }
-    requires front { IsFrontAt question.now.node.now question.now.moves found.now.front }
-    requires card { IsNamedByWeight bridge question.now.weights.now question.now.node.now
-        question.now.moves found.now.card }
-    requires weight { IsBestWeight bridge question.now.weights.now question.now.node.now
-        question.now.moves found.now.weight }
-    ensures written { IfOk result (IsWrittenAnswer question.now.node.now
-        question.now.weights.now question.now.moves) }
-    ensures spent { NamesSpent question.now result }
-    ensures pass { IsPassOf question.now.table.now pass.new }
-    ensures grown { HasSeenMore pass.old pass.new }
-{
-    let vectors = reported(
-        question.alloc,
-        question.node,
-        question.moves,
-        question.weights,
-        &found.front,
-    )?;
-    let lines = written_over(question, solver, pass, &vectors)?;
-    Ok(WrittenAnswer {
-        lines,
-        vectors: vectors.len(),
-        card: found.card,
-        weight: found.weight,
-    })
-}
-
 /// The answer of a node at which declarer's side is to play, with 1 to 26 moves: the lines of the
 /// vectors of its front and of the plan for each, in report order; the first card after which the
 /// best weight is kept; and that weight, by a weight for each of the node's layouts. The crew, the
@@ -159,5 +114,12 @@ pub fn written_root<C: RootCrew>(
 {
     let mut workers = question.workers()?;
     let found = question.front_by(crew, pass, &mut workers)?;
-    written_by(question, &mut workers[0].solver, pass, &found)
+    let vectors = reported(question, &found.front)?;
+    let lines = written_over(question, &mut workers[0].solver, pass, &vectors)?;
+    Ok(WrittenAnswer {
+        lines,
+        vectors: vectors.len(),
+        card: found.card,
+        weight: found.weight,
+    })
 }

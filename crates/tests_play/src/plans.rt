@@ -4,7 +4,7 @@ use alphamu_core::{RootFault, exact_front};
 use byte_text::Text;
 use dd_solver::Solver;
 use front_table::NoStore;
-use plan_finder::{FoundPlan, plan_for};
+use plan_finder::{FoundPlan, Wanted, plan_for};
 use std::alloc::Global;
 use std::process::Abort;
 use std::test::Fail;
@@ -25,16 +25,14 @@ fn second_plan(
     assert!(rt; second.width() == front.width());
     let target = front.pick(&second).expect(rt, "a vector of the front");
     assert!(rt; target == second);
-    Ok(plan_for(
-        alloc,
-        &mut NoStore,
-        &mut solver,
-        &root,
-        2,
-        &target,
+    let wanted = Wanted {
+        node: &root,
+        target: &target,
+        moves: 2,
         nodes,
         cuts,
-    ))
+    };
+    Ok(plan_for(alloc, &mut NoStore, &mut solver, &wanted))
 }
 
 #[test]

@@ -10,5 +10,5 @@ returns-in-Err-clause-spent g c = λ card e.
 
 pub returns-in-Ok-read_plan-clause-plan : goal.returns-in-Ok-read_plan-clause-plan
 returns-in-Ok-read_plan-clause-plan g c =
-    read_chosen c.args.node.now c.args.moves c.args.target.now c.new-out.result c.push_plan.new.self c.bytes.result.now _ c.in-Ok-read_plan.field-0-1 c.position-position.ensures.a_node c.requires.target c.new-out.ensures c.in-Ok.ensures.plan
+    read_chosen c.args.wanted.now.node.now c.args.wanted.now.moves c.args.wanted.now.target.now c.new-out.result c.push_plan.new.self c.bytes.result.now _ c.in-Ok-read_plan.field-0-1 c.position-position.ensures.a_node c.requires.target c.new-out.ensures c.in-Ok.ensures.plan
     c.bytes.ensures c.in-Ok-read_plan.ensures.read

@@ -2,6 +2,10 @@ use Rattle.std.proofs.Common.{◌≡◌, ◌∙◌, ◌++◌, ℕ, List, [], Err
 use Rattle.std.proofs.lemmas.List.{take_all}
 use Rattle.win_vectors.specs.Fronts.{Vector}
 use Rattle.alphamu_core.specs.declared.answers.RootFault.TheVariants.{Spent}
+use Rattle.plan_finder.specs.declared.wanted.Wanted.{Wanted}
+use Rattle.plan_finder.specs.SpentPlans.{IsPlanSpentAt}
+use Rattle.plan_finder.specs.Targets.{IsOfFront}
+use Rattle.plan_finder.specs.Written.{IsPlanWritten}
 use Rattle.plan_finder.proofs.Picks.{length-of_front}
 use Rattle.root_workers.proofs.Stops.{passed_on}
 use Rattle.root_answers.specs.EntryTexts.{AreEntriesWritten}
@@ -21,17 +25,19 @@ vector_text-requires g c =
 
 pub push_plan-requires-clause-target : goal.push_plan-requires-clause-target
 push_plan-requires-clause-target g c =
-    target_here c.args.question.now.node.now c.args.question.now.moves c.args.vectors.now c.loop-vector.vector-index c.vector-item.result c.requires.targets c.loop-vector-test.true c.vector-item.is
+    subst (λ (w : Wanted). IsOfFront w.node.now w.moves w.target.now) (sym c.plan_wanted.ensures)
+    (target_here c.args.question.now.node.now c.args.question.now.moves c.args.vectors.now c.loop-vector.vector-index c.vector-item.result c.requires.targets c.loop-vector-test.true c.vector-item.is)
 
 pub returns-in_err-push_plan-clause-spent : goal.returns-in_err-push_plan-clause-spent
 returns-in_err-push_plan-clause-spent g c = λ card e.
-    let spent = c.in_err-push_plan.ensures.spent card (ap Err (passed_on c.from_residual-in_err-push_plan.result c.in_err-push_plan.field-0.0 (Spent card) c.from_residual-in_err-push_plan.ensures.1 e)) in
+    let spent = subst (λ (w : Wanted). IsPlanSpentAt w.node.now w.moves w.target.now w.nodes card) c.plan_wanted.ensures (c.in_err-push_plan.ensures.spent card (ap Err (passed_on c.from_residual-in_err-push_plan.result c.in_err-push_plan.field-0.0 (Spent card) c.from_residual-in_err-push_plan.ensures.1 e))) in
     (spent.choice, spent.larger)
 
 pub loop-vector-preserved : goal.loop-vector-preserved
 loop-vector-preserved g c =
     one_more_written c.args.question.now.node.now c.args.question.now.weights.now c.args.question.now.moves c.args.vectors.now c.loop-vector.vector-index c.vector-item.result [] c.loop-vector.out c.push.new.self c.push_plan.new.self
-    c.loop-vector.invariant c.loop-vector-test.true c.vector-item.is (c.in_ok-push.ensures ∙ ap (λ (text : List ℕ). c.loop-vector.out ++ text) (c.bytes.ensures ∙ c.in_ok-line.ensures)) c.in_ok-push_plan.ensures.plan
+    c.loop-vector.invariant c.loop-vector-test.true c.vector-item.is (c.in_ok-push.ensures ∙ ap (λ (text : List ℕ). c.loop-vector.out ++ text) (c.bytes.ensures ∙ c.in_ok-line.ensures))
+    (subst (λ (w : Wanted). IsPlanWritten w.node.now w.moves w.target.now c.push.new.self c.push_plan.new.self) c.plan_wanted.ensures c.in_ok-push_plan.ensures.plan)
 
 pub returns-clause-lines : goal.returns-clause-lines
 returns-clause-lines g c =
