@@ -1,6 +1,7 @@
 -- The assured front of a node, card by card.
-use Rattle.std.proofs.Common.{◌≡◌, ℕ, zero, suc, sum_by, ◌+◌, ◌-◌, ◌<◌, true, false, List, [], ◌∷◌, ◌++◌, replicate, length, Contains, All, refl, sym, ap, subst, ◌∙◌, arith, append-nil, append_assoc, inl, inr, ⊎_elim, Result, IsErrAnd}
+use Rattle.std.proofs.Common.{◌≡◌, ℕ, zero, suc, sum_by, ◌+◌, ◌-◌, ◌<◌, ◌↔◌, true, false, List, [], ◌∷◌, ◌++◌, replicate, length, Contains, All, refl, sym, ap, subst, ◌∙◌, arith, append-nil, append_assoc, inl, inr, ⊎_elim, Result, IsErrAnd}
 use Rattle.std.proofs.lemmas.Bool.{cases_Bool}
+use Rattle.card_sets.specs.SetWords.{has_card}
 use Rattle.win_vectors.specs.Vectors.{ones_of, restrict_of}
 use Rattle.win_vectors.specs.Fronts.{Vector, Dominates, Covers, IsFrontOf, IsReduced, meets, spreads}
 use Rattle.pareto_fronts.specs.FrontValue.{FrontValue}
@@ -13,16 +14,17 @@ use Rattle.strategy_games.specs.Games.{mask}
 use Rattle.strategy_games.specs.Plans.{stops, tree_size}
 use Rattle.strategy_tree.specs.Bridge.{bridge}
 use Rattle.strategy_tree.proofs.BridgeNodes.{length-states, length-child_mask, length-child_lefts, mask-bridge, stops-bridge, tree_size-positive}
-use Rattle.strategy_tree.proofs.CardLists.{has_card-from_Contains}
-use Rattle.strategy_games.proofs.Lists.{Contains-here, Contains-single, Contains-append, Contains-append_first, Contains-append_second, All-at}
+use Rattle.strategy_tree.proofs.CardLists.{has_card-from_Contains, Contains-from_has_card}
+use Rattle.strategy_games.proofs.Lists.{Contains-here, Contains-nil, Contains-cons, Contains-single, Contains-append, Contains-append_first, Contains-append_second, All-at}
 use Rattle.strategy_games.proofs.Vectors.{Dominates-refl, Dominates-trans}
-use Rattle.strategy_games.proofs.Fronts.{front_level}
+use Rattle.strategy_games.proofs.Fronts.{front_level, cases_Covers}
 use Rattle.alphamu_core.proofs.Judging.{ones_above}
 use Rattle.alphamu_core.proofs.OpenNodes.{size_ours, size_theirs, length-our_child}
 use Rattle.alphamu_core.specs.declared.answers.SearchFault.{SearchFault}
 use Rattle.alphamu_core.specs.declared.answers.SearchFault.TheVariants.{Memory}
 use Rattle.alphamu_core.specs.Costs.{Costs}
-use Rattle.alphamu_core.specs.Kept.{IsTaken}
+use Rattle.equal_cards.specs.Equals.{IsLowest}
+use Rattle.alphamu_core.specs.Kept.{AreEnough, IsTaken}
 use Rattle.alphamu_core.proofs.Paid.{HasPaid, size_after, costs_memory}
 use Rattle.alphamu_core.proofs.Parts.{length-restrict}
 use Rattle.plain_fronts.proofs.CardByCard.{member}
@@ -31,6 +33,7 @@ use Rattle.assured_games.proofs.Zips.{length_zip}
 use Rattle.assured_games.specs.Steps.{AssuredByCard, AssuredByReply}
 use Rattle.sure_nodes.specs.SureNodes.{is_sure_node}
 use Rattle.assured_fronts.specs.AssuredAt.{IsAssuredAt, AllMade, claims}
+use Rattle.assured_fronts.proofs.EqualFronts.{equal_fronts}
 use Rattle.assured_fronts.proofs.Leaves.{steps, same_front, goes_on}
 use Rattle.assured_fronts.proofs.MadeLayouts.{made_after}
 use Rattle.assured_fronts.proofs.OneAtATime.{one_assured}
@@ -53,15 +56,34 @@ pub record IsFrontOver (n : NodeValue) (m : ℕ) (cards : List ℕ) (front : Lis
   pub ours : is_declarers (to_play n.position) ≡ true → IsFrontOf (AssuredByCard bridge is_sure_node n m cards) front
   pub theirs : is_declarers (to_play n.position) ≡ false → IsFrontOf (AssuredByReply bridge is_sure_node n m cards) front
 
--- these cards are left, and the front is over the others
+-- the choices that are tried: of equal cards of declarer's side the lowest
+pub record AreTried (n : NodeValue) (tried : List ℕ) : Type 0 where
+  pub enough : AreEnough n tried
+  pub ours : is_declarers (to_play n.position) ≡ true → (card : ℕ) → (has_card tried card ≡ true) ↔ IsLowest n card
+  pub theirs : is_declarers (to_play n.position) ≡ false → tried ≡ choices n
+
+-- of the cards that are tried these are left, and the front is over the others
 pub record CardsLeft (n : NodeValue) (m : ℕ) (cards : List ℕ) (front : FrontValue) : Type 0 where
+  pub tried : List ℕ
+  pub are_tried : AreTried n tried
   pub earlier : List ℕ
-  pub are : choices n ≡ earlier ++ cards
+  pub are : tried ≡ earlier ++ cards
   pub width : front.width ≡ length n.lefts
   pub so_far : IsFrontOver n m earlier front.vectors
 
-pub next_is : {n : NodeValue} {m card : ℕ} {cards rest : List ℕ} {front : FrontValue} (left : CardsLeft n m cards front) → cards ≡ card ∷ rest → choices n ≡ left.earlier ++ card ∷ rest
+next_is : {n : NodeValue} {m card : ℕ} {cards rest : List ℕ} {front : FrontValue} (left : CardsLeft n m cards front) → cards ≡ card ∷ rest → left.tried ≡ left.earlier ++ card ∷ rest
 next_is left next = left.are ∙ ap (λ cards. left.earlier ++ cards) next
+
+pub next_choice : {n : NodeValue} {m card : ℕ} {cards rest : List ℕ} {front : FrontValue} (left : CardsLeft n m cards front) → cards ≡ card ∷ rest → Contains (choices n) card
+next_choice {n} {m} {card} {cards} {rest} left next = left.are_tried.enough.within card (member left.tried left.earlier rest card (next_is left next))
+
+-- the cards before a member of a list, and those after it
+pub parted : (xs : List ℕ) (x : ℕ) → Contains xs x → (ys : List ℕ) × (zs : List ℕ) × (xs ≡ ys ++ x ∷ zs)
+parted [] x k = absurd (Contains-nil x k)
+parted (y ∷ xs) x k = ⊎_elim
+    (λ (same : y ≡ x). ([], xs, ap (λ (z : ℕ). z ∷ xs) same))
+    (λ (later : Contains xs x). let r = parted xs x later in (y ∷ r.0, r.1, ap (λ (l : List ℕ). y ∷ l) r.2))
+    (Contains-cons y xs x k)
 
 pub over_no_card : (n : NodeValue) (m : ℕ) (front : List Vector) → (is_declarers (to_play n.position) ≡ true → front ≡ [])
     → (is_declarers (to_play n.position) ≡ false → IsReduced (replicate (length n.lefts) true ∷ []) front) → IsFrontOver n m [] front
@@ -71,34 +93,59 @@ over_no_card n m front none all = record {
       (subst (λ w. IsFrontOf (AssuredByReply bridge is_sure_node n m []) (replicate w true ∷ [])) (length-states n) (steps.no_reply n m)) (all t);
 }
 
-pub over_one_more : (n kept : NodeValue) (m : ℕ) (earlier rest : List ℕ) (card : ℕ) (mask : Vector) (front won next : List Vector) → IsNode n → choices n ≡ earlier ++ card ∷ rest
+pub over_one_more : (n kept : NodeValue) (m : ℕ) (earlier : List ℕ) (card : ℕ) (mask : Vector) (front won next : List Vector) → IsNode n → Contains (choices n) card
     → IsFrontOver n m earlier front → kept ≡ child n card → mask ≡ child_mask n card → IsAssuredFront bridge is_sure_node kept m won
     → (is_declarers (to_play n.position) ≡ true → IsReduced (front ++ won) next) → (is_declarers (to_play n.position) ≡ false → IsReduced (meets front (spreads mask won)) next)
     → IsFrontOver n m (earlier ++ card ∷ []) next
-over_one_more n kept m earlier rest card mask front won next sound are so_far is mask_is kept_front union join =
+over_one_more n kept m earlier card mask front won next sound choice so_far is mask_is kept_front union join =
     let child_front = subst (λ k. IsAssuredFront bridge is_sure_node k m won) is kept_front in
     record {
       ours = λ o. steps.more_cards n m earlier card front won next (so_far.ours o) child_front (union o);
-      theirs = λ t. steps.more_replies n m earlier card front won next sound (member (choices n) earlier rest card are) (so_far.theirs t) child_front
+      theirs = λ t. steps.more_replies n m earlier card front won next sound choice (so_far.theirs t) child_front
           (subst (λ bits. IsReduced (meets front (spreads bits won)) next) (mask_is ∙ sym (mask-bridge n card)) (join t));
     }
 
-pub over_all : (n : NodeValue) (moves m : ℕ) (earlier rest : List ℕ) (front : List Vector) → IsNode n → claims n ≡ false → 0 < moves
+-- of equal cards of declarer's side the lowest are enough
+module _ (n : NodeValue) (m : ℕ) (tried : List ℕ) (front : List Vector) (sound : IsNode n) (is : AreTried n tried) (o : is_declarers (to_play n.position) ≡ true)
+    (so : IsFrontOf (AssuredByCard bridge is_sure_node n m tried) front) where
+  -- no vector by a card is left uncovered
+  uncovered : (k card : ℕ) → card < k → Contains (choices n) card → (v : Vector) → IsAssured bridge is_sure_node (child n card) m v → (Covers front v → ⊥) → ⊥
+  uncovered zero card few choice v a off = absurd (omega arith)
+  uncovered (suc k) card few choice v a off =
+      let lowest : IsLowest n card = record {
+        choice = has_card-from_Contains (choices n) card choice;
+        no_lower = λ low eq.
+            let same = equal_fronts n low card sound o eq m in
+            let u = same.2.covered v a in
+            uncovered k low (omega (arith, eq.order)) (Contains-from_has_card (choices n) low eq.low_choice) u.0 (same.1.reached u.0 u.1)
+            (λ above. off (above.0, above.1, Dominates-trans above.0 u.0 v above.2 u.2));
+      } in
+      off (so.covered v (card, Contains-from_has_card tried card ((is.ours o card).1 lowest), a))
+
+  over_lowest : IsFrontOf (AssuredByCard bridge is_sure_node n m (choices n)) front
+  over_lowest = record {
+    reached = λ v k. let a = so.reached v k in (a.0, is.enough.within a.0 a.1, a.2);
+    covered = λ v a. ⊎_elim (λ (above : Covers front v). above) (λ (off : Covers front v → ⊥). absurd (uncovered (suc a.0) a.0 (omega arith) a.1 v a.2 off)) (cases_Covers front v);
+    apart = so.apart;
+    ordered = so.ordered;
+  }
+
+pub over_all : (n : NodeValue) (moves m : ℕ) (tried earlier rest : List ℕ) (front : List Vector) → AreTried n tried → IsNode n → claims n ≡ false → 0 < moves
     → (is_declarers (to_play n.position) ≡ true → m ≡ moves - 1) → (is_declarers (to_play n.position) ≡ false → m ≡ moves)
-    → choices n ≡ earlier ++ rest → rest ≡ [] → IsFrontOver n m earlier front → IsAssuredFront bridge is_sure_node n moves front
-over_all n moves m earlier rest front sound off some less same are none so_far =
+    → tried ≡ earlier ++ rest → rest ≡ [] → IsFrontOver n m earlier front → IsAssuredFront bridge is_sure_node n moves front
+over_all n moves m tried earlier rest front is sound off some less same are none so_far =
     let going = goes_on n off in
     let more = more_moves moves some in
-    let all : earlier ≡ choices n = sym (are ∙ ap (λ cards. earlier ++ cards) none ∙ append-nil earlier) in
+    let all : earlier ≡ tried = sym (are ∙ ap (λ cards. earlier ++ cards) none ∙ append-nil earlier) in
     elim (cases_Bool (is_declarers (to_play n.position))) as (λ _. IsAssuredFront bridge is_sure_node n moves front) [
       | inl o ↦ subst (λ k. IsAssuredFront bridge is_sure_node n k front) more
           (steps.all_cards n (moves - 1) front sound going.0 going.1 o
           (subst (λ k. IsFrontOf (AssuredByCard bridge is_sure_node n k (choices n)) front) (less o)
-          (subst (λ cards. IsFrontOf (AssuredByCard bridge is_sure_node n m cards) front) all (so_far.ours o))))
+          (over_lowest n m tried front sound is o (subst (λ cards. IsFrontOf (AssuredByCard bridge is_sure_node n m cards) front) all (so_far.ours o)))))
       | inr t ↦ subst (λ k. IsAssuredFront bridge is_sure_node n k front) more
           (steps.all_replies n (moves - 1) front sound going.0 going.1 t
           (subst (λ k. IsFrontOf (AssuredByReply bridge is_sure_node n k (choices n)) front) (same t ∙ sym more)
-          (subst (λ cards. IsFrontOf (AssuredByReply bridge is_sure_node n m cards) front) all (so_far.theirs t))))
+          (subst (λ cards. IsFrontOf (AssuredByReply bridge is_sure_node n m cards) front) (all ∙ is.theirs t) (so_far.theirs t))))
     ]
 
 -- a card more, with the front after it
@@ -109,17 +156,19 @@ pub left_one_more : {n : NodeValue} {m card : ℕ} {cards rest : List ℕ} {fron
 left_one_more {n} {m} {card} {cards} {rest} {front} left first kept mask won next sound is mask_is kept_front width union join =
     let are = next_is left first in
     record {
+      tried = left.tried;
+      are_tried = left.are_tried;
       earlier = left.earlier ++ card ∷ [];
       are = are ∙ sym (append_assoc left.earlier (card ∷ []) rest);
       width = width ∙ left.width;
-      so_far = over_one_more n kept m left.earlier rest card mask front.vectors won.vectors next.vectors sound are left.so_far is mask_is kept_front union join;
+      so_far = over_one_more n kept m left.earlier card mask front.vectors won.vectors next.vectors sound (next_choice left first) left.so_far is mask_is kept_front union join;
     }
 
 -- the front after all cards
 pub left_all : {n : NodeValue} {m : ℕ} {cards : List ℕ} {front : FrontValue} (left : CardsLeft n m cards front) → (moves : ℕ) → IsNode n → claims n ≡ false → 0 < moves
     → (is_declarers (to_play n.position) ≡ true → m ≡ moves - 1) → (is_declarers (to_play n.position) ≡ false → m ≡ moves) → cards ≡ [] → IsAssuredAt n moves front
 left_all {n} {m} {cards} {front} left moves sound off some less same none = record {
-  front = over_all n moves m left.earlier cards front.vectors sound off some less same left.are none left.so_far;
+  front = over_all n moves m left.tried left.earlier cards front.vectors left.are_tried sound off some less same left.are none left.so_far;
   width = left.width;
 }
 
@@ -128,11 +177,11 @@ module _ {n : NodeValue} {m card : ℕ} {cards rest : List ℕ} {front : FrontVa
   abbrev with_card : List ℕ
   with_card = left.earlier ++ card ∷ []
 
-  are_with : choices n ≡ with_card ++ rest
+  are_with : left.tried ≡ with_card ++ rest
   are_with = next_is left first ∙ sym (append_assoc left.earlier (card ∷ []) rest)
 
   among : (c : ℕ) → Contains with_card c → Contains (choices n) c
-  among c k = subst (λ (xs : List ℕ). Contains xs c) (sym are_with) (Contains-append_first with_card rest c k)
+  among c k = left.are_tried.enough.within c (subst (λ (xs : List ℕ). Contains xs c) (sym are_with) (Contains-append_first with_card rest c k))
 
   -- where declarer's side wins every layout already,
   same_ours : is_declarers (to_play n.position) ≡ true → Covers front.vectors (replicate (length n.lefts) true) → IsFrontOf (AssuredByCard bridge is_sure_node n m with_card) front.vectors
@@ -176,6 +225,8 @@ module _ {n : NodeValue} {m card : ℕ} {cards rest : List ℕ} {front : FrontVa
   pub left_same : (bits : Vector) → bits ≡ child_mask n card → (is_declarers (to_play n.position) ≡ true → Covers front.vectors (replicate (length n.lefts) true))
       → (is_declarers (to_play n.position) ≡ false → All (λ v. ones_of (restrict_of v bits) < 2) front.vectors) → CardsLeft n m rest front
   left_same bits are ours theirs = record {
+    tried = left.tried;
+    are_tried = left.are_tried;
     earlier = with_card;
     are = are_with;
     width = left.width;
@@ -196,14 +247,6 @@ size_below n moves m sound off some less same =
       | inl o ↦ subst (λ k. tree_size bridge n moves ≡ 1 + sum_by (size_after n k) (choices n)) (sym (less o)) (size_ours n moves sound (live n moves off some) o)
       | inr t ↦ subst (λ k. tree_size bridge n moves ≡ 1 + sum_by (size_after n k) (choices n)) (sym (same t)) (size_theirs n moves sound (live n moves off some) t)
     ]
-
--- nothing yet below the node
-pub paid_start : (n : NodeValue) (below : ℕ) (cards : List ℕ) (before : ℕ) → cards ≡ choices n → HasPaid ⊥ n below cards before before
-paid_start n below cards before all = record {
-  counts = λ each. absurd each;
-  within = (let same : sum_by (size_after n below) cards ≡ sum_by (size_after n below) (choices n) = ap (sum_by (size_after n below)) all in omega arith);
-  never_rises = omega arith;
-}
 
 -- a card that isn't searched
 pub paid_less : {n : NodeValue} {below card before after : ℕ} {cards rest : List ℕ} → HasPaid ⊥ n below cards before after → IsTaken cards card rest → HasPaid ⊥ n below rest before after

@@ -4,3 +4,5 @@ pub mod OneAtATime
 pub mod CardByCard
 pub mod SameSearch
 pub mod LastMove
+pub mod EqualSure
+pub mod EqualFronts

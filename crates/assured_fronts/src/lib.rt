@@ -9,6 +9,7 @@ mod enough;
 mod last;
 mod memo;
 mod search;
+mod tried;
 mod walk;
 
 pub use walk::assured_front;

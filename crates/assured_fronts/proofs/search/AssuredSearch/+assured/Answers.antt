@@ -2,14 +2,15 @@ use Rattle.std.proofs.Common.{◌≡◌, ◌+◌, [], length, refl, sym, ap, ◌
 use Rattle.std.proofs.lemmas.Bool.{not-true}
 use Rattle.win_vectors.specs.Vectors.{ones_of}
 use Rattle.trick_rules.specs.Play.{cards_left}
-use Rattle.trick_rules.specs.Nodes.{NodeValue}
+use Rattle.trick_rules.specs.Nodes.{NodeValue, choices}
 use Rattle.strategy_games.specs.Plans.{tree_size}
 use Rattle.strategy_tree.specs.Bridge.{bridge}
 use Rattle.strategy_tree.proofs.BridgeNodes.{tree_size-positive}
-use Rattle.alphamu_core.proofs.Paid.{costs_memory, costs_one, costs_none, costs_by_part, costs_of_part, paid_more, paid_memory, paid_all, paid_below}
+use Rattle.strategy_tree.proofs.CardLists.{has_card-from_Contains}
+use Rattle.alphamu_core.proofs.Paid.{costs_memory, paid_none, costs_one, costs_none, costs_by_part, costs_of_part, paid_more, paid_memory, paid_all, paid_below}
 use Rattle.alphamu_core.proofs.Taken.{taken_first}
 use Rattle.plain_fronts.proofs.CardByCard.{falls, child_fits}
-use Rattle.assured_fronts.proofs.CardByCard.{stops_off, size_below, paid_start, next_is, over_no_card, left_one_more, left_same, left_all, paid_less, memory_once}
+use Rattle.assured_fronts.proofs.CardByCard.{stops_off, size_below, next_choice, parted, over_no_card, left_one_more, left_same, left_all, paid_less, memory_once}
 use Rattle.alphamu_core.proofs.Inherited.{known_whole}
 use Rattle.assured_fronts.proofs.Leaves.{made_wide, goes_on}
 use Rattle.assured_fronts.proofs.MadeLayouts.{made_after, part_made, part_width, part_size, part_goes_on, filled_front}
@@ -24,19 +25,25 @@ by_cards-moves_after-left-requires t c = stops_off c.args.node.now c.args.moves 
 pub by_cards-cards-init : goal.by_cards-cards-init
 by_cards-cards-init t c = record {
   left = record {
+    tried = c.cards_of-cards.result;
+    are_tried = record { enough = c.cards_of-cards.ensures.enough; ours = c.cards_of-cards.ensures.ours; theirs = c.cards_of-cards.ensures.theirs };
     earlier = [];
-    are = sym c.choices-cards.ensures;
+    are = refl;
     width = c.in_ok-front.ensures.width;
     so_far = over_no_card c.args.node.now c.moves_after-left.result c.in_ok-front.front.vectors c.in_ok-front.ensures.ours c.in_ok-front.ensures.theirs;
   };
-  paid = paid_start c.args.node.now c.moves_after-left.result c.choices-cards.result c.args.self.now.budget.now.left c.choices-cards.ensures;
+  paid = paid_none ⊥ c.args.node.now c.moves_after-left.result c.cards_of-cards.result c.args.self.now.budget.now.left c.cards_of-cards.ensures.enough (λ each. absurd each);
   same = same_none c.args.self.now;
 }
+
+pub by_cards-child-requires : goal.by_cards-child-requires
+by_cards-child-requires t c = has_card-from_Contains (choices c.args.node.now) c.in-Some.card (next_choice c.cards.invariant.left c.in-Some.ensures.value)
 
 pub by_cards-visit-requires : goal.by_cards-visit-requires
 by_cards-visit-requires t c =
     let left = c.cards.invariant.left in
-    let fewer = falls c.args.node.now c.in_ok-child.child left.earlier c.pop_first.new.self c.in-Some.card c.front_of_no_card.ensures.a_node (next_is left c.in-Some.ensures.value) c.in_ok-child.ensures.node in (
+    let at = parted (choices c.args.node.now) c.in-Some.card (next_choice left c.in-Some.ensures.value) in
+    let fewer = falls c.args.node.now c.in_ok-child.child at.0 at.1 c.in-Some.card c.front_of_no_card.ensures.a_node at.2 c.in_ok-child.ensures.node in (
       omega (arith, fewer),
       λ known. made_after c.args.node.now c.in-Some.card c.front_of_no_card.ensures.a_node (goes_on c.args.node.now c.requires.goes_on).0 (sym c.is_ours.ensures ∙ not-true c.is_ours.result known) c.in_ok-child.child c.in_ok-child.ensures.node c.requires.made,
     )
@@ -44,8 +51,9 @@ by_cards-visit-requires t c =
 pub by_cards-with_child-requires : goal.by_cards-with_child-requires
 by_cards-with_child-requires t c =
     let left = c.cards.invariant.left in
-    let fits = child_fits c.args.node.now c.in_ok-child.child left.earlier c.pop_first.new.self c.in-Some.card c.in_ok-child.mask c.cards.front.width c.in_ok-won.won.width
-    (next_is left c.in-Some.ensures.value) c.in_ok-child.ensures.node c.in_ok-child.ensures.mask left.width c.in_ok-won.ensures.front.width in
+    let at = parted (choices c.args.node.now) c.in-Some.card (next_choice left c.in-Some.ensures.value) in
+    let fits = child_fits c.args.node.now c.in_ok-child.child at.0 at.1 c.in-Some.card c.in_ok-child.mask c.cards.front.width c.in_ok-won.won.width
+    at.2 c.in_ok-child.ensures.node c.in_ok-child.ensures.mask left.width c.in_ok-won.ensures.front.width in
     record { mask_width = fits.mask_width; child_width = fits.child_width; ours = fits.ours }
 
 pub by_cards-cards-preserved : goal.by_cards-cards-preserved
