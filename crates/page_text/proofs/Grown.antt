@@ -1,5 +1,5 @@
 -- Pieces and numbers that have grown by one more.
-use Rattle.std.proofs.Common.{◌≡◌, ℕ, zero, suc, ◌+◌, ◌-◌, ◌<◌, Bool, Some, List, [], ◌∷◌, ◌++◌, length, take, map, flat_map, slice_get, get_or, max, arith, refl, sym, ap, ◌∙◌, append_assoc}
+use Rattle.std.proofs.Common.{◌≡◌, ℕ, zero, suc, ◌+◌, ◌-◌, ◌<◌, Bool, Some, List, [], ◌∷◌, ◌++◌, length, take, map, flat_map, slice_get, get_or, max, arith, sym, ap, ◌∙◌, append_assoc}
 use Rattle.std.specs.List.{range_with_len}
 use Rattle.std.proofs.lemmas.List.{append-nil, take_more, map-append}
 use Rattle.std.proofs.lemmas.Grind.{take_at_read, flat_map-append}
@@ -40,16 +40,22 @@ column_more start now next k so_far grew =
     piece_more column start now next (range_with_len 1 k) (range_with_len 1 (k + 1)) (k + 1)
     (ap (range_with_len 1) one ∙ range_more 1 k ∙ ap (λ (x : ℕ). range_with_len 1 k ++ x ∷ []) at) so_far grew
 
+-- the pieces of one place more, counted from 0
+pub place_more : (f : ℕ → List Piece) (start now next : List Piece) (k : ℕ) → now ≡ start ++ flat_map f (range_with_len 0 k) → next ≡ now ++ f k
+    → next ≡ start ++ flat_map f (range_with_len 0 (k + 1))
+place_more f start now next k so_far grew =
+    let one : k + 1 ≡ suc k = omega arith in
+    let at : 0 + k ≡ k = omega arith in
+    piece_more f start now next (range_with_len 0 k) (range_with_len 0 (k + 1)) k
+    (ap (range_with_len 0) one ∙ range_more 0 k ∙ ap (λ (x : ℕ). range_with_len 0 k ++ x ∷ []) at) so_far grew
+
 -- the mark of one rank more
 pub rank_more : (may sure : List ℕ) (suit : Suit) (start now next : List Piece) (k rank card : ℕ) → rank ≡ 14 - k → card ≡ card_of suit rank
     → now ≡ start ++ flat_map (λ place. rank_mark may sure (card_of suit (14 - place))) (range_with_len 0 k) → next ≡ now ++ rank_mark may sure card
     → next ≡ start ++ flat_map (λ place. rank_mark may sure (card_of suit (14 - place))) (range_with_len 0 (k + 1))
 rank_more may sure suit start now next k rank card rank-is card-is so_far grew =
-    let one : k + 1 ≡ suc k = omega arith in
-    let at : 0 + k ≡ k = omega arith in
     let here : card ≡ card_of suit (14 - k) = card-is ∙ ap (card_of suit) rank-is in
-    piece_more (λ place. rank_mark may sure (card_of suit (14 - place))) start now next (range_with_len 0 k) (range_with_len 0 (k + 1)) k
-    (ap (range_with_len 0) one ∙ range_more 0 k ∙ ap (λ (x : ℕ). range_with_len 0 k ++ x ∷ []) at) so_far (grew ∙ ap (λ c. now ++ rank_mark may sure c) here)
+    place_more (λ place. rank_mark may sure (card_of suit (14 - place))) start now next k so_far (grew ∙ ap (λ c. now ++ rank_mark may sure c) here)
 
 greatest-push : (numbers : List ℕ) (n : ℕ) → greatest (numbers ++ n ∷ []) ≡ max (greatest numbers) n
 greatest-push [] n = omega arith

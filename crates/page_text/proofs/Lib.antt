@@ -1,2 +1,4 @@
 pub mod Grown
 pub mod Held
+pub mod Nested
+pub mod OneLayout

@@ -1,5 +1,6 @@
--- The layouts of a node, with the defenders' hands.
-use Rattle.std.specs.Prelude.{ℕ, List, [], ◌++◌, flat_map, codes}
+-- The layouts of a node, with the defenders' hands, and the lines that make each.
+use Rattle.std.specs.Prelude.{ℕ, Bool, false, List, [], ◌++◌, length, get_or, flat_map, codes, if◌then◌else◌}
+use Rattle.std.specs.List.{list_any, range_with_len}
 use Rattle.std.specs.Fmt.{decimal}
 use Rattle.card_sets.specs.declared.seat.Compass.{Compass}
 use Rattle.card_sets.specs.declared.seat.Seat.TheVariants.{Right}
@@ -9,24 +10,58 @@ use Rattle.trick_rules.specs.Play.{hand_of}
 use Rattle.trick_rules.specs.Nodes.{NodeValue}
 use Rattle.html_text.specs.declared.page.Piece.{Piece}
 use Rattle.html_text.specs.Pages.{own, told}
-use Rattle.page_text.specs.declared.markup.TheConstants.{HAND_END, LAYOUTS, SIDE, SIDE_HAND, NUMBERS, NUMBERS_END}
+use Rattle.page_text.specs.declared.markup.TheConstants.{HAND_END, LAYOUTS, SIDE, SIDE_HAND, WEIGHS, NUMBERS, NUMBERS_END}
+use Rattle.page_text.specs.declared.lines.Line.{Line}
 use Rattle.page_text.specs.Signs.{hand_pieces, compass_word}
+use Rattle.page_text.specs.Lines.{link}
 
 -- a defender with this hand
 unfoldable pub side : Compass → List ℕ → List Piece
 side place hand = own SIDE.now ++ own (compass_word place) ++ own SIDE_HAND.now ++ hand_pieces hand [] ++ own HAND_END.now
 
 -- the hands of the defenders, if Left has this one
-unfoldable pub layout_item : Compass → PositionValue → List ℕ → List Piece
-layout_item declarer position left =
+unfoldable pub hands : Compass → PositionValue → List ℕ → List Piece
+hands declarer position left =
     own (codes "<li>") ++ side (next_compass declarer) left
-    ++ side (next_compass (next_compass (next_compass declarer))) (hand_of (record { position = position; left = left }) Right) ++ own (codes "</li>\n")
+    ++ side (next_compass (next_compass (next_compass declarer))) (hand_of (record { position = position; left = left }) Right)
+
+unfoldable pub weight_note : ℕ → List Piece
+weight_note weight = own WEIGHS.now ++ told (decimal weight) ++ own (codes ". ")
+
+-- what a layout weighs, if layouts are weighed
+abbrev pub worth : Bool → ℕ → List Piece
+worth by_weight weight = if by_weight then weight_note weight else own (codes "<p>")
+
+-- whether a line makes the layout at a place, which is counted from 0
+abbrev pub makes_at : ℕ → Line → Bool
+makes_at place line = get_or line.vector place false
+
+-- a line as a link to its words, if it makes the layout
+abbrev pub maker : ℕ → Line → List Piece
+maker place line = if makes_at place line then own (codes " ") ++ link line.number else []
+
+-- how the lines that make a layout are told, if there is one
+abbrev pub made_by : Bool → List ℕ
+made_by is_made = if is_made then codes "Made by line" else codes "No line makes it"
+
+-- the lines that make the layout
+unfoldable pub makers : ℕ → List Line → List Piece
+makers place lines = own (made_by (list_any (makes_at place) lines)) ++ flat_map (maker place) lines ++ own (codes ".</p></li>\n")
+
+-- the layout at a place: the hands, what it weighs, and the lines that make it
+abbrev pub layout_at : Compass → NodeValue → Bool → List ℕ → List Line → ℕ → List Piece
+layout_at declarer n by_weight weights lines place =
+    hands declarer n.position (get_or n.lefts place []) ++ worth by_weight (get_or weights place 0) ++ makers place lines
+
+-- the layouts in order
+unfoldable pub layouts : Compass → NodeValue → Bool → List ℕ → List Line → List Piece
+layouts declarer n by_weight weights lines =
+    own LAYOUTS.now ++ flat_map (layout_at declarer n by_weight weights lines) (range_with_len 0 (length n.lefts))
 
 -- a number after a blank
 abbrev pub number_item : ℕ → List Piece
 number_item number = own (codes " ") ++ told (decimal number)
 
--- the layouts in order, and their numbers in the layout file
-unfoldable pub layouts : Compass → NodeValue → List ℕ → List Piece
-layouts declarer n numbers =
-    own LAYOUTS.now ++ flat_map (layout_item declarer n.position) n.lefts ++ own NUMBERS.now ++ flat_map number_item numbers ++ own NUMBERS_END.now
+-- the numbers of the layouts in the layout file
+unfoldable pub file_numbers : List ℕ → List Piece
+file_numbers numbers = own NUMBERS.now ++ flat_map number_item numbers ++ own NUMBERS_END.now

@@ -9,6 +9,7 @@ use Rattle.page_text.specs.declared.lines.Line.{Line}
 use Rattle.page_text.specs.declared.verdict.Scale.{Scale}
 use Rattle.page_text.specs.Signs.{card_pieces}
 use Rattle.page_text.specs.Verdicts.{share}
+use Rattle.page_text.specs.Steps.{steps}
 
 -- ---- side by side
 
@@ -51,11 +52,10 @@ opening number = if number == 1 then codes "' open='open'>" else codes "'>"
 unfoldable pub line_start : ℕ → List Piece
 line_start number = own LINE.now ++ told (decimal number) ++ own (opening number) ++ own SUMMARY.now ++ told (decimal number)
 
--- a line with what it makes, and its words as they are
+-- a line with what it makes, and its words as nested lists
 unfoldable pub line_pieces : Scale → Line → List Piece
 line_pieces scale line =
-    line_start line.number ++ own (codes " makes ") ++ share scale line.weight ++ own WORDS.now
-    ++ (told line.words ++ own WORDS_END.now)
+    line_start line.number ++ own (codes " makes ") ++ share scale line.weight ++ own WORDS.now ++ steps line.words ++ own WORDS_END.now
 
 -- the lines, one after another
 unfoldable pub lines_pieces : Scale → List Line → List Piece

@@ -2,7 +2,6 @@
 use Rattle.std.specs.Prelude.{ℕ, Bool, List, ◌++◌, flat_map, codes}
 use Rattle.std.specs.List.{list_any, list_all}
 use Rattle.std.specs.Fmt.{decimal}
-use Rattle.card_sets.specs.declared.card.Suit.{Suit}
 use Rattle.card_sets.specs.declared.seat.Compass.{Compass}
 use Rattle.card_sets.specs.declared.seat.Compass.TheVariants.{N, E, S, W}
 use Rattle.card_sets.specs.declared.seat.Seat.{Seat}

@@ -1,13 +1,19 @@
 //! The layouts of a node.
-ghost use Rattle.std.specs.Prelude.{◌≡◌, ◌++◌, flat_map, OnOk};
-ghost use Rattle.page_text.specs.Layouts.{side, layout_item, number_item, layouts};
+ghost use Rattle.std.specs.Prelude.{◌≡◌, ◌++◌, [], length, flat_map, OnOk};
+ghost use Rattle.std.specs.List.{list_any, range_with_len};
+ghost use Rattle.page_text.specs.Layouts.{side, hands, weight_note, worth, makes_at, maker};
+ghost use Rattle.page_text.specs.Layouts.{made_by, makers};
+ghost use Rattle.page_text.specs.Layouts.{layout_at, layouts, number_item};
+ghost use Rattle.page_text.specs.Layouts.{file_numbers};
 
-use crate::markup::{HAND_END, LAYOUTS, NUMBERS, NUMBERS_END, SIDE, SIDE_HAND};
+use crate::lines::{Line, push_link};
+use crate::markup::{HAND_END, LAYOUTS, NUMBERS, NUMBERS_END, SIDE, SIDE_HAND, WEIGHS};
 use crate::signs::{compass_word, push_hand};
 use card_sets::{CardSet, Compass, Seat};
 use html_text::Page;
 use std::alloc::AllocError;
 use trick_rules::{Node, Position};
+use win_vectors::Weights;
 
 // Adds a defender with a hand.
 #[tactic(auto, unfolding(crate::specs::Layouts::side))]
@@ -22,41 +28,140 @@ fn push_side(page: &mut Page, place: Compass, hand: CardSet) -> Result<(), Alloc
 }
 
 // Adds the hands of the defenders, if Left has this one.
-#[tactic(auto, unfolding(crate::specs::Layouts::layout_item))]
-fn push_layout(
+#[tactic(auto, unfolding(crate::specs::Layouts::hands))]
+fn push_hands(
     page: &mut Page,
     declarer: Compass,
     position: &Position,
     left: CardSet,
 ) -> Result<(), AllocError>
-    ensures { OnOk result (page.new ≡ page.old ++ layout_item declarer position.now left) }
+    ensures { OnOk result (page.new ≡ page.old ++ hands declarer position.now left) }
 {
+    let right = position.hand(Seat::Right, left);
     page.own(b"<li>")?;
     push_side(page, declarer.next(), left)?;
-    push_side(
-        page,
-        declarer.next().next().next(),
-        position.hand(Seat::Right, left),
-    )?;
-    page.own(b"</li>\n")
+    push_side(page, declarer.next().next().next(), right)
+}
+
+#[tactic(auto, unfolding(crate::specs::Layouts::weight_note))]
+fn push_weight(page: &mut Page, weight: u32) -> Result<(), AllocError>
+    ensures { OnOk result (page.new ≡ page.old ++ weight_note weight) }
+{
+    page.own(WEIGHS)?;
+    page.number(u64::from(weight))?;
+    page.own(b". ")
+}
+
+// Adds what a layout weighs, if layouts are weighed.
+fn push_worth(page: &mut Page, by_weight: bool, weight: u32) -> Result<(), AllocError>
+    ensures { OnOk result (page.new ≡ page.old ++ worth by_weight weight) }
+{
+    if by_weight {
+        push_weight(page, weight)
+    } else {
+        page.own(b"<p>")
+    }
+}
+
+// Whether a line makes the layout at a place.
+fn makes_at(place: u16, line: &Line) -> bool
+    ensures { result ≡ makes_at place line.now }
+{
+    if place < line.vector.width() {
+        line.vector.get(place)
+    } else {
+        false
+    }
+}
+
+fn push_maker(page: &mut Page, place: u16, line: &Line) -> Result<(), AllocError>
+    ensures { OnOk result (page.new ≡ page.old ++ maker place line.now) }
+{
+    if !makes_at(place, line) {
+        return Ok(());
+    }
+    page.own(b" ")?;
+    push_link(page, line.number)
+}
+
+fn push_each_maker(page: &mut Page, place: u16, lines: &[Line]) -> Result<(), AllocError>
+    ensures { OnOk result (page.new ≡ page.old ++ flat_map (maker place) lines.now) }
+{
+    for line in lines {
+        push_maker(page, place, line)?;
+    }
+    Ok(())
+}
+
+// Whether a line makes it.
+fn is_made(place: u16, lines: &[Line]) -> bool
+    ensures { result ≡ list_any (makes_at place) lines.now }
+{
+    lines.iter().any(|line| makes_at(place, line))
+}
+
+fn made_by(is_made: bool) -> &'static [u8]
+    ensures { result.now ≡ made_by is_made }
+{
+    if is_made {
+        b"Made by line"
+    } else {
+        b"No line makes it"
+    }
+}
+
+// Adds the lines that make the layout at a place.
+#[tactic(auto, unfolding(crate::specs::Layouts::makers))]
+fn push_makers(page: &mut Page, place: u16, lines: &[Line]) -> Result<(), AllocError>
+    ensures { OnOk result (page.new ≡ page.old ++ makers place lines.now) }
+{
+    page.own(made_by(is_made(place, lines)))?;
+    push_each_maker(page, place, lines)?;
+    page.own(b".</p></li>\n")
 }
 
 fn push_each_layout(
     page: &mut Page,
     declarer: Compass,
-    position: &Position,
-    lefts: &[CardSet],
+    node: &Node,
+    by_weight: bool,
+    weights: &Weights,
+    lines: &[Line],
 ) -> Result<(), AllocError>
-    ensures { OnOk result
-        (page.new ≡ page.old ++ flat_map (layout_item declarer position.now) lefts.now) }
+    requires { length weights.now ≡ length node.now.lefts }
+    ensures { OnOk result (page.new ≡ page.old
+        ++ flat_map (layout_at declarer node.now by_weight weights.now lines.now)
+        (range_with_len 0 (length node.now.lefts))) }
 {
-    for left in lefts {
-        push_layout(page, declarer, position, *left)?;
+    let lefts = node.lefts();
+    for place in 0..node.width() {
+        push_hands(page, declarer, node.position(), lefts[usize::from(place)])?;
+        push_worth(page, by_weight, weights.get(place))?;
+        push_makers(page, place, lines)?;
     }
     Ok(())
 }
 
-fn push_numbers(page: &mut Page, numbers: &[u16]) -> Result<(), AllocError>
+/// Adds the layouts of a node in order: the defenders' hands, the weight of each if layouts are
+/// weighed, and the lines that make it.
+#[tactic(auto, unfolding(crate::specs::Layouts::layouts))]
+pub fn push_layouts(
+    page: &mut Page,
+    declarer: Compass,
+    node: &Node,
+    by_weight: bool,
+    weights: &Weights,
+    lines: &[Line],
+) -> Result<(), AllocError>
+    requires { length weights.now ≡ length node.now.lefts }
+    ensures { OnOk result (page.new ≡ page.old
+        ++ layouts declarer node.now by_weight weights.now lines.now) }
+{
+    page.own(LAYOUTS)?;
+    push_each_layout(page, declarer, node, by_weight, weights, lines)
+}
+
+fn push_each_number(page: &mut Page, numbers: &[u16]) -> Result<(), AllocError>
     ensures { OnOk result (page.new ≡ page.old ++ flat_map number_item numbers.now) }
 {
     for number in numbers {
@@ -66,19 +171,12 @@ fn push_numbers(page: &mut Page, numbers: &[u16]) -> Result<(), AllocError>
     Ok(())
 }
 
-/// Adds the layouts of a node in order, and their numbers in the layout file.
-#[tactic(auto, unfolding(crate::specs::Layouts::layouts))]
-pub fn push_layouts(
-    page: &mut Page,
-    declarer: Compass,
-    node: &Node,
-    numbers: &[u16],
-) -> Result<(), AllocError>
-    ensures { OnOk result (page.new ≡ page.old ++ layouts declarer node.now numbers.now) }
+/// Adds the numbers of the layouts in the layout file.
+#[tactic(auto, unfolding(crate::specs::Layouts::file_numbers))]
+pub fn push_numbers(page: &mut Page, numbers: &[u16]) -> Result<(), AllocError>
+    ensures { OnOk result (page.new ≡ page.old ++ file_numbers numbers.now) }
 {
-    page.own(LAYOUTS)?;
-    push_each_layout(page, declarer, node.position(), node.lefts())?;
     page.own(NUMBERS)?;
-    push_numbers(page, numbers)?;
+    push_each_number(page, numbers)?;
     page.own(NUMBERS_END)
 }

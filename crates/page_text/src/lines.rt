@@ -1,15 +1,16 @@
 //! The lines of a report side by side, and in words.
 ghost use Rattle.std.specs.Prelude.{◌≡◌, ◌++◌, flat_map, OnOk};
 ghost use Rattle.std.specs.List.{range_with_len};
-ghost use Rattle.html_text.specs.Pages.{own, told};
-ghost use Rattle.page_text.specs.declared.markup.TheConstants.{WORDS_END};
-ghost use Rattle.page_text.specs.Lines.{cell, column, link, first_card, row_start, row, trade_offs, opening, line_start, line_pieces, lines_pieces};
+ghost use Rattle.html_text.specs.Pages.{own};
+ghost use Rattle.page_text.specs.Lines.{cell, column, link, first_card, row_start, row, trade_offs};
+ghost use Rattle.page_text.specs.Lines.{opening, line_start, line_pieces, lines_pieces};
 
 use crate::markup::{
     COLUMN, FIRST_CARD, LINE, LINES, LINK, ROW, ROWS, ROWS_END, SECTION_END, SUMMARY, TRADE_OFFS,
     WEIGHT, WORDS, WORDS_END,
 };
 use crate::signs::push_card;
+use crate::steps::push_steps;
 use crate::verdict::{Scale, push_share};
 use byte_text::Text;
 use card_sets::Card;
@@ -42,8 +43,8 @@ fn sign(made: bool) -> &'static [u8]
     }
 }
 
-// Adds a cell for each layout.
-fn push_cells(page: &mut Page, vector: WinVector) -> Result<(), AllocError>
+/// Adds a cell for each layout.
+pub fn push_cells(page: &mut Page, vector: WinVector) -> Result<(), AllocError>
     ensures { OnOk result (page.new ≡ page.old ++ flat_map cell vector) }
 {
     for place in 0..vector.width() {
@@ -61,7 +62,8 @@ fn push_column(page: &mut Page, number: u16) -> Result<(), AllocError>
     page.own(b"</th>")
 }
 
-fn push_columns(page: &mut Page, width: u16) -> Result<(), AllocError>
+/// Adds the numbers of this many layouts, each above its column.
+pub fn push_columns(page: &mut Page, width: u16) -> Result<(), AllocError>
     ensures { OnOk result (page.new ≡ page.old ++ flat_map column (range_with_len 1 width)) }
 {
     for place in 0..width {
@@ -70,9 +72,9 @@ fn push_columns(page: &mut Page, width: u16) -> Result<(), AllocError>
     Ok(())
 }
 
-// Adds a line by its number, as a link to its words.
+/// Adds a line by its number, as a link to its words.
 #[tactic(auto, unfolding(crate::specs::Lines::link))]
-fn push_link(page: &mut Page, number: u64) -> Result<(), AllocError>
+pub fn push_link(page: &mut Page, number: u64) -> Result<(), AllocError>
     ensures { OnOk result (page.new ≡ page.old ++ link number) }
 {
     page.own(LINK)?;
@@ -157,7 +159,7 @@ fn push_line_start(page: &mut Page, number: u64) -> Result<(), AllocError>
     page.number(number)
 }
 
-// Adds a line with what it makes, and its words as they are.
+// Adds a line with what it makes, and its words as nested lists.
 #[tactic(auto, unfolding(crate::specs::Lines::line_pieces))]
 fn push_line(page: &mut Page, scale: Scale, line: &Line) -> Result<(), AllocError>
     ensures { OnOk result (page.new ≡ page.old ++ line_pieces scale line.now) }
@@ -166,14 +168,7 @@ fn push_line(page: &mut Page, scale: Scale, line: &Line) -> Result<(), AllocErro
     page.own(b" makes ")?;
     push_share(page, scale, line.weight)?;
     page.own(WORDS)?;
-    push_words(page, line.words.bytes())
-}
-
-fn push_words(page: &mut Page, words: &[u8]) -> Result<(), AllocError>
-    ensures { OnOk result
-        (page.new ≡ page.old ++ (told words.now ++ own WORDS_END.now)) }
-{
-    page.told(words)?;
+    push_steps(page, line.words.bytes())?;
     page.own(WORDS_END)
 }
 

@@ -7,12 +7,17 @@ pub const HEAD: &[u8] = b"<!DOCTYPE html>
 <head>
 <meta charset='utf-8'/>
 <meta name='viewport' content='width=device-width, initial-scale=1'/>
-<meta http-equiv='Content-Security-Policy' content='default-src &#39;none&#39;; style-src &#39;unsafe-inline&#39;'/>
+<meta http-equiv='Content-Security-Policy'
+ content='default-src &#39;none&#39;; style-src &#39;unsafe-inline&#39;'/>
 <title>Play ";
 
 pub const STYLE: &[u8] = b"
-:root{color-scheme:light dark;--ink:#1c1c1a;--soft:#5b5b55;--paper:#fcfbf8;--card:#fff;--edge:#d6d4cb;--head:#e6f0e9;--felt:#14533a;--red:#b3261e;--orange:#a84300;--green:#14633f;--yes:#e0f1e5;--no:#fbe3e0}
-@media (prefers-color-scheme:dark){:root{--ink:#ecebe6;--soft:#b3b1a8;--paper:#171815;--card:#1f211d;--edge:#44463f;--head:#1d2b23;--felt:#1b5e42;--red:#ff8a80;--orange:#ffb26b;--green:#7fd6a4;--yes:#1d3a2a;--no:#4a211f}}
+:root{color-scheme:light dark;--ink:#1c1c1a;--soft:#5b5b55;--paper:#fcfbf8;--card:#fff;
+--edge:#d6d4cb;--head:#e6f0e9;--felt:#14533a;--red:#b3261e;--orange:#a84300;--green:#14633f;
+--yes:#e0f1e5;--no:#fbe3e0}
+@media (prefers-color-scheme:dark){:root{--ink:#ecebe6;--soft:#b3b1a8;--paper:#171815;
+--card:#1f211d;--edge:#44463f;--head:#1d2b23;--felt:#1b5e42;--red:#ff8a80;--orange:#ffb26b;
+--green:#7fd6a4;--yes:#1d3a2a;--no:#4a211f}}
 *{box-sizing:border-box}
 body{margin:0;font:1rem/1.55 system-ui,sans-serif;color:var(--ink);background:var(--paper)}
 header,main,footer{padding:1rem max(1rem,calc(50vw - 36rem))}
@@ -23,35 +28,53 @@ h3{font-size:.85rem;margin:0}
 p{margin:.4rem 0;max-width:46rem}
 .promise{font-size:1.15rem}
 .note,footer{color:var(--soft);font-size:.9rem}
-.facts{list-style:none;display:flex;flex-wrap:wrap;gap:.2rem 1.2rem;margin:0;padding:0;color:var(--soft)}
+.facts{list-style:none;display:flex;flex-wrap:wrap;gap:.2rem 1.2rem;margin:0;padding:0;
+color:var(--soft);overflow-wrap:anywhere}
 a{color:var(--green)}
 nav a{display:inline-block;margin-right:1rem}
-a:focus-visible,summary:focus-visible,[tabindex]:focus-visible{outline:3px solid var(--orange);outline-offset:2px}
+a:focus-visible,summary:focus-visible,[tabindex]:focus-visible{outline:3px solid var(--orange);
+outline-offset:2px}
 .h{color:var(--red)}.d{color:var(--orange)}.c{color:var(--green)}
-.table{display:grid;grid-template-areas:'. n .' 'w m e' '. f .';grid-template-columns:1fr auto 1fr;gap:.6rem;width:max-content;max-width:100%;background:var(--card);border:1px solid var(--edge);border-radius:.6rem;padding:1rem}
+.table{display:grid;grid-template-areas:'. n .' 'w m e' '. f .';grid-template-columns:1fr auto 1fr;
+gap:.6rem;width:max-content;max-width:100%;background:var(--card);border:1px solid var(--edge);
+border-radius:.6rem;padding:1rem}
 .n{grid-area:n}.e{grid-area:e}.f{grid-area:f}.w{grid-area:w}
-.m{grid-area:m;background:var(--felt);color:#fff;border-radius:.4rem;padding:.5rem .8rem;text-align:center;font-size:.9rem}
+.m{grid-area:m;background:var(--felt);color:#fff;border-radius:.4rem;padding:.5rem .8rem;
+text-align:center;font-size:.9rem}
 .m span{background:#fff;color:#1c1c1a;border-radius:.2rem;padding:0 .2rem}
 .m .h{color:#b3261e}.m .d{color:#a84300}.m .c{color:#14633f}
 .table ul,.side ul{list-style:none;margin:0;padding:0}
 .side{display:inline-block;min-width:16rem;margin-right:1rem}
 .side ul{display:inline}
 .side li{display:inline-block;margin-left:.6rem;white-space:nowrap}
+.layouts>li{margin-bottom:.6rem}
 .wide{overflow-x:auto;position:relative}
 table{border-collapse:collapse;font-variant-numeric:tabular-nums}
 th,td{border-bottom:1px solid var(--edge);padding:.25rem .55rem;text-align:center}
 .y{background:var(--yes);color:var(--green)}.x{background:var(--no);color:var(--red)}
 td i{position:absolute;width:1px;height:1px;overflow:hidden;clip-path:inset(50%)}
-details{border:1px solid var(--edge);border-radius:.5rem;background:var(--card);margin:.6rem 0;padding:.5rem .8rem}
+details{border:1px solid var(--edge);border-radius:.5rem;background:var(--card);margin:.6rem 0;
+padding:.5rem .8rem}
 summary{cursor:pointer;font-weight:600}
-pre{white-space:pre-wrap;overflow-wrap:anywhere;margin:.5rem 0 0;font:.85rem/1.5 ui-monospace,monospace}
-.words{font:1rem/1.6 system-ui,sans-serif;tab-size:2}
-@media (max-width:34rem){.table{gap:.3rem;padding:.5rem;font-size:.9rem}h1{font-size:1.6rem}}
-@media print{body{background:#fff}header{background:none}nav,footer{display:none}.wide{overflow:visible}details{break-inside:avoid-page}}
+pre{white-space:pre-wrap;overflow-wrap:anywhere;margin:.5rem 0 0;
+font:.85rem/1.5 ui-monospace,monospace}
+.words ul{list-style:none;margin:.2rem 0;padding:0 0 0 .8rem;border-left:2px solid var(--edge)}
+.words>ul{padding:0;border:0}
+.words li{margin:.35rem 0}
+@media (max-width:34rem){.table{gap:.3rem;padding:.5rem;font-size:.9rem}h1{font-size:1.6rem}
+.side{min-width:0;display:block}.words ul{padding-left:.5rem}.words>ul{padding:0}}
+@media print{body{background:#fff}header{background:none}nav,footer{display:none}
+.m{background:none;color:#000;border:1px solid}.wide{overflow:visible}
+.wide table,.wide thead,.wide tbody{display:block}.wide tr{display:flex;flex-wrap:wrap}
+.wide th,.wide td{width:1.6rem;padding:.1rem 0}
+.wide th:nth-child(-n+3),.wide td:nth-child(-n+3){width:5rem}
+h2,.note{break-after:avoid}tr,.side{break-inside:avoid}}
 ";
 
 pub const NAVIGATION: &[u8] =
-    b"<nav><a href='#table'>The table</a> <a href='#trade-offs'>Side by side</a> <a href='#lines'>In words</a> <a href='#layouts'>The layouts</a> <a href='#report'>The report</a></nav>
+    b"<nav><a href='#table'>The table</a> <a href='#trade-offs'>Side by side</a>
+<a href='#sampling'>Sampling</a> <a href='#lines'>In words</a>
+<a href='#layouts'>The layouts</a> <a href='#report'>The report</a></nav>
 </header>
 <main>
 ";
@@ -95,7 +118,8 @@ pub const ALL_PLANNED: &[u8] =
 pub const PLANNED: &[u8] = b"<p>Cards of declarer&#8217;s side that are planned: ";
 
 pub const PLANNED_END: &[u8] =
-    b". If the result is open after them, it is judged as if all hands were seen: with more cards planned the figure can be lower, never higher.</p>\n";
+    b". If the result is open after them, it is judged as if all hands were seen: with more cards
+planned the figure can be lower, never higher.</p>\n";
 
 // ---- the table
 
@@ -105,7 +129,8 @@ pub const TABLE_START: &[u8] = b"<section id='table'>
 ";
 
 pub const TABLE_END: &[u8] = b"</div>
-<p class='note'>A defender&#8217;s hand has every card that may be in it. Bold: held in every layout.</p>
+<p class='note'>A defender&#8217;s hand has every card that may be in it. Bold: held in every
+layout.</p>
 </section>
 ";
 
@@ -123,13 +148,37 @@ pub const CENTRE_END: &[u8] = b"</p></div>\n";
 
 pub const TRADE_OFFS: &[u8] = b"<section id='trade-offs'>
 <h2>The lines side by side</h2>
-<p class='note'>A line is a way to play that needs no sight of the defenders&#8217; cards. A column is one of the <a href='#layouts'>layouts</a>: &#10003; the line makes it against any defence, &#10007; some defence beats the line.</p>
+<p class='note'>A line is a way to play that needs no sight of the defenders&#8217; cards. A column
+is one of the <a href='#layouts'>layouts</a>: &#10003; the line makes it against any defence,
+&#10007; some defence beats the line.</p>
 <div class='wide' tabindex='0'><table>
 <thead><tr><th scope='col'>Line</th><th scope='col'>begins</th><th scope='col'>makes</th>";
 
+// ---- what sampling believes
+
+pub const SAMPLING: &[u8] = b"<section id='sampling'>
+<h2>What sampling believes</h2>
+<p class='note'>A simulation looks at each <a href='#layouts'>layout</a> with all hands seen. So it
+can believe in more than a line makes, which needs no sight of the defenders&#8217; cards. &#10003;
+with all hands seen the contract can be made after the card, &#10007; it can&#8217;t. &#9660; the
+best line that begins with the card makes less than is believed; a dash: no line of this report
+begins with it.</p>
+<p>It believes most in ";
+
+pub const BELIEVED: &[u8] = b"with <strong>";
+
+pub const NO_LINE_MAKES: &[u8] = b"</strong>. No line of this report makes more than <strong>";
+
+pub const BELIEFS: &[u8] = b"</strong>.</p>
+<div class='wide' tabindex='0'><table>
+<thead><tr><th scope='col'>Card</th><th scope='col'>believed</th><th scope='col'>best line</th>";
+
 pub const LINES: &[u8] = b"<section id='lines'>
 <h2>The lines in words</h2>
-<p class='note'>Replies after which a line goes on alike are told together. In brackets stand the <a href='#layouts'>layouts</a> that are made from there, and those that fail. A card gives up a layout if the contract could be made there before it, with all hands seen, and no longer after it.</p>
+<p class='note'>Replies after which a line goes on alike are told together. In brackets stand the
+<a href='#layouts'>layouts</a> that are made from there, and those that fail. A card gives up a
+layout if the contract could be made there before it, with all hands seen, and no longer after
+it.</p>
 ";
 
 pub const COLUMN: &[u8] = b"<th scope='col'>";
@@ -150,9 +199,17 @@ pub const LINE: &[u8] = b"<details id='line-";
 
 pub const SUMMARY: &[u8] = b"<summary>Line ";
 
-pub const WORDS: &[u8] = b"</summary>\n<pre class='words'>";
+pub const WORDS: &[u8] = b"</summary>\n<div class='words'>";
 
-pub const WORDS_END: &[u8] = b"</pre></details>\n";
+pub const WORDS_END: &[u8] = b"</div></details>\n";
+
+// From one step to the next: a list within it, the end of such a list, and the next in the same.
+
+pub const LIST: &[u8] = b"\n<ul>\n<li>";
+
+pub const LIST_END: &[u8] = b"</li>\n</ul>\n";
+
+pub const NEXT_STEP: &[u8] = b"</li>\n<li>";
 
 pub const SECTION_END: &[u8] = b"</section>\n";
 
@@ -161,12 +218,14 @@ pub const SECTION_END: &[u8] = b"</section>\n";
 pub const LAYOUTS: &[u8] = b"<section id='layouts'>
 <h2>The layouts</h2>
 <p class='note'>The defenders&#8217; hands now, numbered as the columns and the words are.</p>
-<ol>
+<ol class='layouts'>
 ";
 
 pub const SIDE: &[u8] = b"<div class='side'><b>";
 
 pub const SIDE_HAND: &[u8] = b"</b>\n<ul>\n";
+
+pub const WEIGHS: &[u8] = b"<p>Weight ";
 
 pub const NUMBERS: &[u8] = b"</ol>
 <p class='note'>Their numbers in the layout file:";

@@ -2,7 +2,8 @@
 ghost use Rattle.std.specs.Prelude.{◌≡◌, ◌++◌, ◌-◌, flat_map, OnOk};
 ghost use Rattle.std.specs.List.{range_with_len};
 ghost use Rattle.card_sets.specs.Cards.{card_of};
-ghost use Rattle.page_text.specs.Signs.{suit_sign, card_pieces, rank_mark, ranks, suit_pieces, hand_pieces, compass_word};
+ghost use Rattle.page_text.specs.Signs.{suit_sign, card_pieces, rank_mark, ranks, suit_pieces};
+ghost use Rattle.page_text.specs.Signs.{hand_pieces, compass_word};
 
 use card_letters::rank_letter;
 use card_sets::{Card, CardSet, Compass, Rank, Suit};

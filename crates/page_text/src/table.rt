@@ -1,6 +1,7 @@
 //! The four hands round the table.
 ghost use Rattle.std.specs.Prelude.{◌≡◌, ◌++◌, flat_map, OnOk};
-ghost use Rattle.page_text.specs.Tables.{may_hold, must_hold, box_start, role, seat_pieces, seats, trump_word, contract, trick_card, centre, table};
+ghost use Rattle.page_text.specs.Tables.{may_hold, must_hold, box_start, role, seat_pieces, seats};
+ghost use Rattle.page_text.specs.Tables.{trump_word, contract, trick_card, centre, table};
 
 use crate::markup::{CENTRE, CENTRE_END, HAND_END, NEEDED, TABLE_END, TABLE_START, TRUMPS};
 use crate::signs::{compass_word, push_card, push_hand, suit_sign};

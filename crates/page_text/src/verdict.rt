@@ -1,6 +1,8 @@
 //! What a report comes to.
 ghost use Rattle.std.specs.Prelude.{◌≡◌, ◌++◌, OnOk};
-ghost use Rattle.page_text.specs.Verdicts.{from_hand, headline, unit, share, begins_with, weight_from, best_from, best_of, others, promise, horizon};
+ghost use Rattle.page_text.specs.Verdicts.{from_hand, headline, unit, share, begins_with};
+ghost use Rattle.page_text.specs.Verdicts.{weight_from, best_from, best_of, others, promise};
+ghost use Rattle.page_text.specs.Verdicts.{horizon};
 
 use crate::lines::Line;
 use crate::markup::{ALL_PLANNED, HEADLINE, PLANNED, PLANNED_END, PROMISE, WHATEVER};
@@ -62,19 +64,29 @@ pub fn push_share(page: &mut Page, scale: Scale, weight: u32) -> Result<(), Allo
     page.own(unit(scale))
 }
 
-// The weight of a line, if it begins with the card; a line that stops at once begins with any.
-fn weight_from(card: Card, line: &Line) -> u32
-    ensures { result ≡ weight_from card line.now }
+/// Whether a line begins with the card or has stopped before it, by the line's first card.
+pub fn begins_with(card: Card, first: Option<Card>) -> bool
+    ensures { result ≡ begins_with card first }
 {
-    match line.begins {
-        None => line.weight,
-        Some(first) if first == card => line.weight,
-        Some(_) => 0,
+    match first {
+        None => true,
+        Some(first) => first == card,
     }
 }
 
-// The greatest weight of the lines that begin with the card.
-fn best_from(card: Card, lines: &[Line]) -> u32
+// The weight of a line, if it begins with the card.
+fn weight_from(card: Card, line: &Line) -> u32
+    ensures { result ≡ weight_from card line.now }
+{
+    if begins_with(card, line.begins) {
+        line.weight
+    } else {
+        0
+    }
+}
+
+/// The greatest weight of the lines that begin with the card.
+pub fn best_from(card: Card, lines: &[Line]) -> u32
     ensures { result ≡ best_from card lines.now }
 {
     let mut best = 0;
@@ -84,8 +96,8 @@ fn best_from(card: Card, lines: &[Line]) -> u32
     best
 }
 
-// The greatest weight of all lines.
-fn best_of(lines: &[Line]) -> u32
+/// The greatest weight of all lines.
+pub fn best_of(lines: &[Line]) -> u32
     ensures { result ≡ best_of lines.now }
 {
     let mut best = 0;

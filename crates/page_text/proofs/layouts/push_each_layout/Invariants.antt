@@ -1,6 +1,7 @@
-use Rattle.std.proofs.Common.{◌≡◌, ◌++◌, flat_map, take}
-use Rattle.page_text.specs.Layouts.{layout_item}
+use Rattle.std.proofs.Common.{◌≡◌, ◌++◌, flat_map}
+use Rattle.std.specs.List.{range_with_len}
+use Rattle.page_text.specs.Layouts.{layout_at}
 use Rattle.page_text.proofs.layouts.push_each_layout.Given as goal
 
-abbrev pub invariant-loop-left : goal.invariant-loop-left
-invariant-loop-left l = l.page ≡ l.initial.page ++ flat_map (layout_item l.declarer l.position) (take l.left-index l.lefts)
+abbrev pub invariant-loop-place : goal.invariant-loop-place
+invariant-loop-place l = l.page ≡ l.initial.page ++ flat_map (layout_at l.declarer l.node l.by_weight l.weights l.lines) (range_with_len 0 l.place)
