@@ -1,7 +1,7 @@
 //! A report that is judged, and then shown.
-ghost use Rattle.std.specs.Prelude.{◌≡◌, ◌<◌, ◌-◌, ◌^◌, Ok, length, IfOk, IfErr};
+ghost use Rattle.std.specs.Prelude.{◌≡◌, ◌<◌, ◌-◌, ◌^◌, true, Ok, length, IfOk, IfErr};
 ghost use Rattle.job_words.specs.declared.asks.LayoutsJob.TheVariants as jobs;
-ghost use Rattle.am_answer.specs.Answers.{board_in, task_at};
+ghost use Rattle.am_answer.specs.Answers.{board_in, has_choice, task_at};
 ghost use Rattle.am_answer.specs.Stages.{IsFileRefusal};
 ghost use Rattle.job_page.specs.PageJob.{IsPage};
 
@@ -17,6 +17,7 @@ use std::alloc::Global;
 #[tactic(auto, using(job_lines::proofs::GoodLines::refused_on, crate::proofs::GoodPage::good_page))]
 pub fn tell_page(alloc: Global, deal: &Text, root: &Root, bytes: &Text) -> Result<Text, Status>
     requires board { board_in deal.now ≡ Ok root.now.board }
+    requires turn { has_choice root.now.kept.node ≡ true }
     requires weighed { length root.now.kept.weights ≡ length root.now.kept.node.lefts }
     requires deal_short { length deal.now < 2 ^ 32 - 1 }
     requires report_short { length bytes.now < 2 ^ 32 - 1 }

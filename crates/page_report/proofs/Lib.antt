@@ -1,2 +1,3 @@
 pub mod MoreLines
 pub mod Held
+pub mod Believed

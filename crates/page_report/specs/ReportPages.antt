@@ -1,10 +1,13 @@
 -- The page of a report at a root.
-use Rattle.std.specs.Prelude.{◌≡◌, ℕ, ◌+◌, Bool, true, false, Option, None, Some, List, [], ◌∷◌, ◌++◌, length, sum, flat_map, codes}
+use Rattle.std.specs.Prelude.{◌≡◌, ℕ, ◌+◌, Bool, true, false, Option, None, Some, List, [], ◌∷◌, ◌++◌, length, sum, map, flat_map, codes}
 use Rattle.std.specs.Fmt.{decimal}
 use Rattle.std.specs.Option.{option_map}
 use Rattle.card_sets.specs.declared.seat.Compass.{Compass}
 use Rattle.trick_rules.specs.Positions.{to_play}
 use Rattle.trick_rules.specs.Nodes.{NodeValue}
+use Rattle.win_vectors.specs.Weights.{weight_of}
+use Rattle.fusion_base.specs.declared.table.CardVector.{CardVector}
+use Rattle.fusion_base.specs.Sampling.{card_vectors}
 use Rattle.strategy_games.specs.Plans.{Plan, Stop, Play, Hear}
 use Rattle.pbn_text.specs.Games.{GameValue}
 use Rattle.pbn_deal.specs.Boards.{BoardValue, compass_of}
@@ -24,6 +27,7 @@ use Rattle.told_report.specs.ToldReport.{AreToldOf}
 use Rattle.html_text.specs.declared.page.Piece.{Piece}
 use Rattle.html_text.specs.Pages.{own, told, written}
 use Rattle.html_text.specs.Escapes.{escape}
+use Rattle.page_text.specs.declared.beliefs.Belief.{Belief}
 use Rattle.page_text.specs.declared.lines.Line.{Line}
 use Rattle.page_text.specs.declared.markup.TheConstants.{NAVIGATION, END, REPORT, REPORT_END}
 use Rattle.page_text.specs.declared.verdict.Scale.{Scale}
@@ -31,7 +35,8 @@ use Rattle.page_text.specs.Frames.{TagValues, start, facts, report}
 use Rattle.page_text.specs.Verdicts.{headline, promise, horizon}
 use Rattle.page_text.specs.Tables.{table}
 use Rattle.page_text.specs.Lines.{trade_offs, lines_pieces}
-use Rattle.page_text.specs.Layouts.{layouts}
+use Rattle.page_text.specs.Beliefs.{sampling}
+use Rattle.page_text.specs.Layouts.{layouts, file_numbers}
 use Rattle.page_report.specs.declared.markup.TheConstants.{DROPPED, AT_CARD, DROPPED_END}
 
 -- ---- what a page shows
@@ -63,6 +68,14 @@ pub record AreLines (declarer : Compass) (node : NodeValue) (entries : List Read
   pub tolds : List Told
   pub are_told : AreToldOf node entries tolds
   pub are_lines : lines ≡ lines_from declarer node 1 entries tolds
+
+-- what plain sampling believes of a card
+abbrev pub belief_of : List ℕ → CardVector → Belief
+belief_of weights judged = record { card = judged.card; vector = judged.vector; weight = weight_of weights judged.vector }
+
+-- what it believes of each card that can be played
+abbrev pub beliefs_of : KeptValue → List Belief
+beliefs_of kept = map (belief_of kept.weights) (card_vectors kept.node)
 
 -- whether a report weighs its layouts
 abbrev pub is_weighed : Version → Bool
@@ -106,11 +119,20 @@ unfoldable pub top : GameValue → BoardValue → KeptValue → ReadReportValue 
 top game board kept read lines =
     start read.card ++ facts (tags_of game) (compass_of board.declarer (to_play kept.node.position)) ++ verdict kept read lines ++ own NAVIGATION.now
 
--- what the lines are about, side by side and in words
+-- the lines side by side, with what plain sampling believes, and in words
+unfoldable pub play : KeptValue → ReadReportValue → List Line → List Piece
+play kept read lines =
+    trade_offs (length kept.node.lefts) lines ++ sampling (scale_of kept read.version) (length kept.node.lefts) (beliefs_of kept) lines
+    ++ lines_pieces (scale_of kept read.version) lines
+
+-- the layouts that are kept, and those that are left out
+unfoldable pub all_layouts : BoardValue → KeptValue → ReadReportValue → List Line → List Piece
+all_layouts board kept read lines =
+    layouts board.declarer kept.node (is_weighed read.version) kept.weights lines ++ file_numbers kept.numbers ++ left_out kept.dropped
+
+-- the table, the lines and the layouts
 unfoldable pub middle : BoardValue → KeptValue → ReadReportValue → List Line → List Piece
-middle board kept read lines =
-    table board.declarer kept.node ++ trade_offs (length kept.node.lefts) lines ++ lines_pieces (scale_of kept read.version) lines
-    ++ layouts board.declarer kept.node kept.numbers ++ left_out kept.dropped
+middle board kept read lines = table board.declarer kept.node ++ play kept read lines ++ all_layouts board kept read lines
 
 -- the page, which ends with the report
 unfoldable pub page : GameValue → BoardValue → KeptValue → ReadReportValue → List ℕ → List Line → List Piece

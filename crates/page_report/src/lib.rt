@@ -3,6 +3,7 @@
 //! report.
 #![tactic(auto)]
 
+mod beliefs;
 mod dropped;
 pub mod laws;
 mod lines;

@@ -1,13 +1,19 @@
 //! The page, part by part.
-ghost use Rattle.std.specs.Prelude.{◌≡◌, ◌++◌, ℕ, sum, All, IfOk, OnOk, length, option_copied};
+ghost use Rattle.std.specs.Prelude.{◌≡◌, ◌++◌, ℕ, false, true, sum, All, IfOk, OnOk, length};
+ghost use Rattle.std.specs.Prelude.{option_copied};
+ghost use Rattle.trick_rules.specs.Positions.{to_play};
+ghost use Rattle.trick_rules.specs.Play.{is_declarers, is_over};
 ghost use Rattle.strategy_games.specs.Plans.{Fits};
 ghost use Rattle.strategy_tree.specs.Bridge.{bridge};
 ghost use Rattle.pbn_deal.specs.Tags.{tag_named};
 ghost use Rattle.am_report.specs.Reading.{report_of};
 ghost use Rattle.page_text.specs.Frames.{told_by};
-ghost use Rattle.page_report.specs.ReportPages.{scale_of, is_weighed, value_of as value_in, tags_of};
-ghost use Rattle.page_report.specs.ReportPages.{verdict, top, middle, page as page_of, IsReportPage};
+ghost use Rattle.page_report.specs.ReportPages.{scale_of, is_weighed, value_of as value_in};
+ghost use Rattle.page_report.specs.ReportPages.{tags_of};
+ghost use Rattle.page_report.specs.ReportPages.{beliefs_of as beliefs_at, verdict, top, play};
+ghost use Rattle.page_report.specs.ReportPages.{all_layouts, middle, page as page_of, IsReportPage};
 
+use crate::beliefs::beliefs_of;
 use crate::dropped::push_left_out;
 use crate::lines::lines_of;
 use am_report::{ReadReport, Version};
@@ -15,8 +21,9 @@ use byte_text::Text;
 use html_text::Page;
 use layout_list::Kept;
 use page_text::{
-    Line, Scale, Tags, push_end, push_facts, push_headline, push_horizon, push_layouts, push_lines,
-    push_navigation, push_promise, push_report, push_start, push_table, push_trade_offs,
+    Belief, Line, Scale, Tags, push_end, push_facts, push_headline, push_horizon, push_layouts,
+    push_lines, push_navigation, push_numbers, push_promise, push_report, push_sampling,
+    push_start, push_table, push_trade_offs,
 };
 use pbn_deal::Board;
 use pbn_text::{Game, Tag};
@@ -121,40 +128,83 @@ fn push_top(page: &mut Page, alloc: Global, shown: &Shown, lines: &[Line]) -> Re
     push_navigation(page)
 }
 
-#[tactic(auto, unfolding(crate::specs::ReportPages::middle))]
-fn push_middle(page: &mut Page, shown: &Shown, lines: &[Line]) -> Result<(), AllocError>
-    ensures { OnOk result (page.new ≡ page.old ++ middle shown.now.board.now
+// The lines of a report, and what plain sampling believes.
+#[derive(Drop)]
+struct Found {
+    lines: Vec<Line>,
+    beliefs: Vec<Belief>,
+}
+
+#[tactic(auto, unfolding(crate::specs::ReportPages::play))]
+fn push_play(
+    page: &mut Page,
+    kept: &Kept,
+    report: &ReadReport,
+    found: &Found,
+) -> Result<(), AllocError>
+    requires { found.now.beliefs.items ≡ beliefs_at kept.now }
+    ensures { OnOk result (page.new
+        ≡ page.old ++ play kept.now (report_of report.now) found.now.lines.items) }
+{
+    let scale = scale_of(kept, report.version);
+    let width = kept.node.width();
+    push_trade_offs(page, width, &found.lines)?;
+    push_sampling(page, scale, width, &found.beliefs, &found.lines)?;
+    push_lines(page, scale, &found.lines)
+}
+
+#[tactic(auto, unfolding(crate::specs::ReportPages::all_layouts))]
+fn push_all_layouts(page: &mut Page, shown: &Shown, lines: &[Line]) -> Result<(), AllocError>
+    requires { length shown.now.kept.now.weights ≡ length shown.now.kept.now.node.lefts }
+    ensures { OnOk result (page.new ≡ page.old ++ all_layouts shown.now.board.now
         shown.now.kept.now (report_of shown.now.report.now) lines.now) }
 {
-    let board = shown.board;
+    let declarer = shown.board.declarer();
     let kept = shown.kept;
-    let report = shown.report;
-    push_table(page, board.declarer(), &kept.node)?;
-    push_trade_offs(page, kept.node.width(), lines)?;
-    push_lines(page, scale_of(kept, report.version), lines)?;
-    push_layouts(page, board.declarer(), &kept.node, &kept.numbers)?;
+    let by_weight = is_weighed(shown.report.version);
+    push_layouts(page, declarer, &kept.node, by_weight, &kept.weights, lines)?;
+    push_numbers(page, &kept.numbers)?;
     push_left_out(page, &kept.dropped)
 }
 
+#[tactic(auto, unfolding(crate::specs::ReportPages::middle))]
+fn push_middle(page: &mut Page, shown: &Shown, found: &Found) -> Result<(), AllocError>
+    requires weighed { length shown.now.kept.now.weights ≡ length shown.now.kept.now.node.lefts }
+    requires beliefs { found.now.beliefs.items ≡ beliefs_at shown.now.kept.now }
+    ensures { OnOk result (page.new ≡ page.old ++ middle shown.now.board.now
+        shown.now.kept.now (report_of shown.now.report.now) found.now.lines.items) }
+{
+    let kept = shown.kept;
+    push_table(page, shown.board.declarer(), &kept.node)?;
+    push_play(page, kept, shown.report, found)?;
+    push_all_layouts(page, shown, &found.lines)
+}
+
 #[tactic(auto, unfolding(crate::specs::ReportPages::page))]
-fn page_of(alloc: Global, shown: &Shown, lines: &[Line]) -> Result<Page, AllocError>
+fn page_of(alloc: Global, shown: &Shown, found: &Found) -> Result<Page, AllocError>
+    requires weighed { length shown.now.kept.now.weights ≡ length shown.now.kept.now.node.lefts }
+    requires beliefs { found.now.beliefs.items ≡ beliefs_at shown.now.kept.now }
     ensures { IfOk result (λ page. page ≡ page_of shown.now.game.now shown.now.board.now
-        shown.now.kept.now (report_of shown.now.report.now) shown.now.bytes.now lines.now) }
+        shown.now.kept.now (report_of shown.now.report.now) shown.now.bytes.now
+        found.now.lines.items) }
 {
     let bytes = shown.bytes;
     let mut page = Page::new(alloc);
-    push_top(&mut page, alloc, shown, lines)?;
-    push_middle(&mut page, shown, lines)?;
+    push_top(&mut page, alloc, shown, &found.lines)?;
+    push_middle(&mut page, shown, found)?;
     push_report(&mut page, bytes.bytes())?;
     push_end(&mut page)?;
     Ok(page)
 }
 
-/// The page of a report at a root.
+/// The page of a report at a root, where declarer's side is to play.
 ///
 /// Each strategy is told in words, and each told plan, cut down at the node, is the report's plan.
 /// The report itself stands at the end of the page, byte for byte.
 pub fn report_page(alloc: Global, shown: &Shown) -> Result<Text, AllocError>
+    requires ours { is_declarers (to_play shown.now.kept.now.node.position) ≡ true }
+    requires goes_on { is_over shown.now.kept.now.node.position ≡ false }
+    requires weighed { length shown.now.kept.now.weights ≡ length shown.now.kept.now.node.lefts }
     requires fit { All (λ read. (moves : ℕ)
         × Fits bridge read.entry.plan shown.now.kept.now.node moves)
         shown.now.report.now.entries.items }
@@ -164,7 +214,10 @@ pub fn report_page(alloc: Global, shown: &Shown) -> Result<Text, AllocError>
     let board = shown.board;
     let kept = shown.kept;
     let report = shown.report;
-    let lines = lines_of(alloc, board.declarer(), &kept.node, &report.entries)?;
-    let page = page_of(alloc, shown, &lines)?;
+    let found = Found {
+        lines: lines_of(alloc, board.declarer(), &kept.node, &report.entries)?,
+        beliefs: beliefs_of(alloc, kept)?,
+    };
+    let page = page_of(alloc, shown, &found)?;
     page.written()
 }
