@@ -2,10 +2,12 @@
 """page.py [--jobs N] [--seconds N] [--only PATTERN] [PROGRAM]
 
 Asks ./study for the page (`page`) of each case in cases/ that expects a report, of the same with hostile tags in its deal file, and
-of a report of MOVES moves for the board of each folder in EXAMPLES. A page must be well formed (each tag closed in order, and XML after its document type), its links must lead to parts of
-it, nothing on it may be loaded, its element `text` must hold the report byte for byte, and its signs and words must say what
-the report's vectors say. A report that `check` refuses must be refused with the same line and status. The exit status is 0
-only if nothing is wrong, and if at least LEAST pages were made.
+of a report of MOVES moves for the board of each folder in EXAMPLES. A page must be well formed (each tag closed in order, and XML
+after its document type), its links must lead to parts of it, nothing on it may be loaded, its element `text` must hold the report
+byte for byte, and its signs must say what the report's vectors say. Its steps must be those of the job `words`, and what sampling
+believes must be what the job `fusion` says; the weights of the layouts, and the lines that make each, must agree with the report.
+A report that `check` refuses must be refused with the same line and status. The exit status is 0 only if nothing is wrong, and if
+at least LEAST pages were made.
 
 Both programs must be there and current: ./build makes them."""
 import fnmatch
@@ -22,12 +24,15 @@ sys.dont_write_bytecode = True
 import reading
 from cases import TOP, bytes_of, expected, is_ready, names_of_cases, parser_of, run, words_of
 from options import job_of
+from playing import card_named
 
 STUDY = os.path.join(TOP, "study")
 REPORT, LINES = b"report.of.the.case", b"words.of.the.case"
 # Reports with more lines are left out: telling them takes long.
 MOST_LINES, LEAST = 20000, 100
 EXAMPLES, MOVES = ("restricted-choice", "slam", "squeeze-or-finesse", "two-way-finesse"), "4"
+SIGNS = {"1": "\u2713", "0": "\u2717"}
+LETTERS = {"\u2660": "S", "\u2665": "H", "\u2666": "D", "\u2663": "C"}
 HOSTILE = b'</li><script>alert(1)</script>&amp;<b class=\'x\'>\xe9'
 SHOWN = "</li><script>alert(1)</script>&amp;<b class='x'>\ufffd"
 
@@ -68,28 +73,79 @@ class Reader(HTMLParser):
             self.links.append(names["href"])
 
 
-def faults_of(page, report, words):
-    """What is wrong with a page of this report, whose strategies in words are these."""
+def text_of(element):
+    """What an element shows, with suits as letters and without the words for those who hear the page."""
+    shown = "".join(text_of(it) for it in element) if element.tag != "i" else ""
+    return LETTERS.get(element.text, element.text or "") + shown + (element.tail or "") if element.tag != "i" else element.tail or ""
+
+
+def rows_of(page, name):
+    """The rows of the table in a part of the page, below its head."""
+    part = next(it for it in page.iter("section") if it.get("id") == name)
+    return [[text_of(cell).strip() for cell in row] for row in part.find(".//tbody")]
+
+
+def steps_of(lists, depth=0):
+    """The steps of nested lists as lines, indented, with suits as letters."""
+    for step in lists.iterfind("ul/li"):
+        shown = (step.text or "") + "".join(text_of(it) for it in step if it.tag != "ul")
+        yield "  " * depth + " ".join(shown.split())
+        yield from steps_of(step, depth + 1)
+
+
+def faults_of_beliefs(page, entries, fusion):
+    """What is wrong with what sampling is said to believe, by the text of the job fusion."""
+    judged = re.findall(r"^card (..) vector ([01]+) (?:count|weight) (\d+)$", fusion.decode(), re.M)
+    wanted = []
+    for card, bits, weight in judged:
+        kept = [it for _, it, plan in entries if plan is None or plan[0] == card_named(card.encode())]
+        best = "\u2013" if not kept else f"{max(kept)} \u25bc" if max(kept) < int(weight) else str(max(kept))
+        wanted.append([card, weight, best, *(SIGNS[bit] for bit in bits)])
+    wrong = [] if rows_of(page, "sampling") == wanted else ["what sampling believes differs from the job fusion"]
+    most = max(int(weight) for _, _, weight in judged)
+    named = " ".join(card for card, _, weight in judged if int(weight) == most)
+    part = next(it for it in page.iter("section") if it.get("id") == "sampling")
+    if f"It believes most in {named} with {most} of " not in text_of(part):
+        wrong.append("the cards of which sampling believes most differ from the job fusion")
+    return wrong
+
+
+def faults_of_layouts(page, entries):
+    """What is wrong with the list of layouts: which lines make each, and what they weigh together."""
+    wrong, weights = [], []
+    items = next(it for it in page.iter("ol") if it.get("class") == "layouts")
+    for place, item in enumerate(items):
+        weight, makers = re.fullmatch(r"(?:Weight (\d+)\. )?(?:Made by line((?: \d+)+)|No line makes it)\.", text_of(item.find("p")).strip()).groups()
+        weights.append(int(weight or 1))
+        if list(map(int, (makers or "").split())) != [number for number, it in enumerate(entries, 1) if it[0][place:place + 1] == b"1"]:
+            wrong.append(f"layout {place + 1} is said to be made by lines{makers}")
+    if any(sum(it for it, bit in zip(weights, bits.decode()) if bit == "1") != weight for bits, weight, _ in entries):
+        wrong.append("the weights of the layouts differ from those of the lines")
+    return wrong
+
+
+def faults_of(text, report, words, fusion):
+    """What is wrong with a page of this report, whose strategies in words are these, and its cards by the job fusion."""
     reader = Reader()
-    text = page.decode()
+    text = text.decode()
     reader.feed(text)
     reader.close()
     wrong = reader.wrong + [f"<{tag}> isn't closed" for tag, _ in reader.open]
     wrong += [f"{link} leads nowhere" for link in reader.links if not link.startswith("#") or link[1:] not in reader.ids]
     try:
-        xml.etree.ElementTree.fromstring(text.split("\n", 1)[1])
+        page = xml.etree.ElementTree.fromstring(text.split("\n", 1)[1])
     except xml.etree.ElementTree.ParseError as error:
-        wrong.append(f"no XML: {error}")
+        return [*wrong, f"no XML: {error}"]
     if reader.texts.get(("pre", "text"), "").encode() != report:
         wrong.append("the report on the page differs")
     entries = reading.report_of(report)[2]
-    cells = "".join("1" if made else "0" for made in re.findall(r"<td class='(?:(y)|x)'>", text))
-    if cells.encode() != b"".join(bits for bits, _, _ in entries):
+    if [row[3:] for row in rows_of(page, "trade-offs")] != [[SIGNS[bit] for bit in bits.decode()] for bits, _, _ in entries]:
         wrong.append("the signs differ from the vectors")
-    told = re.split(r"^vector .*\n", words.decode(), flags=re.M)[1:]
-    shown = re.findall(r"<pre class='words'>(.*?)</pre>", text, re.S)
-    if shown != [it.replace("&", "&amp;").replace("<", "&lt;").replace(">", "&gt;").replace('"', "&quot;") for it in told]:
-        wrong.append("the words of the lines differ from those of the job words")
+    told = [[line for line in it.split("\n") if line] for it in re.split(r"^vector .*\n", words.decode(), flags=re.M)[1:]]
+    shown = [list(steps_of(it)) for it in page.iter("div") if it.get("class") == "words"]
+    if shown != told:
+        wrong.append("the steps of the lines differ from those of the job words")
+    wrong += faults_of_beliefs(page, entries, fusion) + faults_of_layouts(page, entries)
     best = max(weight for _, weight, _ in entries)
     promised = re.search(r"<strong>(\d+) of", text)
     if int(promised[1]) == best and "No line of this report makes more." not in text:
@@ -97,7 +153,7 @@ def faults_of(page, report, words):
     return wrong
 
 
-def judge(case, seconds):
+def judge(case, program, seconds):
     """What is wrong with the pages of a case, and how many there are."""
     report, _, status = expected(case)
     if status or job_of(words_of(case)) != "solve" or report.count(b"\n") > MOST_LINES:
@@ -112,7 +168,8 @@ def judge(case, seconds):
     page, said, status = told(b"page")
     if status:
         return [f"{case}: no page: {said!r}"], 0
-    wrong = faults_of(page, report, told(b"words")[0])
+    fusion = run(program, case, seconds, words=[b"--job", b"fusion", b"--deal", deal, b"--layouts", layouts])[0]
+    wrong = faults_of(page, report, told(b"words")[0], fusion)
     tags = b"".join(b'[%s "%s"]\n' % (name, HOSTILE) for name in (b"Event", b"Board"))
     hostile, _, status = told(b"page", {deal: tags + bytes_of(case, os.fsdecode(deal))}.items())
     reader = Reader()
@@ -127,12 +184,12 @@ def judge_example(program, name, seconds):
     def ask(caller, job, *words):
         words = [caller, "--job", job, "--deal", "deal.pbn", "--layouts", "layouts.lay", *words]
         return subprocess.run(words, cwd=os.path.join(TOP, "examples", name), capture_output=True, timeout=seconds, check=True).stdout
-    report = ask(program, "solve", "--moves", MOVES)
+    report, fusion = ask(program, "solve", "--moves", MOVES), ask(program, "fusion")
     with tempfile.NamedTemporaryFile() as file:
         file.write(report)
         file.flush()
         page, words = (ask(STUDY, job, "--report", file.name) for job in ("page", "words"))
-    return [f"examples/{name}: {it}" for it in faults_of(page, report, words)]
+    return [f"examples/{name}: {it}" for it in faults_of(page, report, words, fusion)]
 
 
 def refusals(seconds):
@@ -152,7 +209,7 @@ def main():
         return 1
     cases = fnmatch.filter(names_of_cases(), given.only)
     with ProcessPoolExecutor(given.jobs) as pool:
-        told = list(pool.map(judge, cases, [given.seconds] * len(cases)))
+        told = list(pool.map(judge, cases, [given.program] * len(cases), [given.seconds] * len(cases)))
     not_refused, refused = refusals(given.seconds)
     shown = [judge_example(given.program, name, given.seconds) for name in EXAMPLES]
     wrong = [line for lines in (*(lines for lines, _ in told), *shown) for line in lines] + not_refused

@@ -1,0 +1,183 @@
+#!/usr/bin/env python3
+"""look.py [--pictures FOLDER] [PAGE ..]
+
+Opens pages in a headless Chromium, and says what is wrong with how they look. Without a PAGE it asks ./alphamu and ./study for
+one of each folder in EXAMPLES. A page must load nothing, run nothing and say nothing in the browser's log. At each of WIDTHS it may
+not be wider than the window, except for what scrolls by itself. The contrast of each text with what is behind it must be at least
+LEAST_CONTRAST, light and dark. On paper nothing may be cut off. With --pictures it leaves pictures of each page in a folder.
+
+If there is no Chromium (Debian: `apt-get install chromium`), it says so, and the status is 0."""
+import argparse
+import base64
+import json
+import os
+import shutil
+import subprocess
+import sys
+import tempfile
+
+sys.dont_write_bytecode = True
+from cases import LAUNCHER, STUDY, TOP, is_ready
+
+EXAMPLES, MOVES = ("restricted-choice", "squeeze-or-finesse", "two-way-finesse"), "4"
+# In pixels: a small phone, and a screen; and what A4 leaves between its margins.
+WIDTHS, PAPER = (360, 1280), 718
+LEAST_CONTRAST = 4.5
+# What is wrong with the page as it stands: texts of too little contrast, and what is wider than the window or cut off.
+LOOK = """(() => {
+  const parts = it => (it.match(/[\\d.]+/g) || []).map(Number), wrong = [];
+  const light = it => [0.2126, 0.7152, 0.0722].reduce((sum, part, at) => {
+    const x = it[at] / 255;
+    return sum + part * (x <= 0.03928 ? x / 12.92 : ((x + 0.055) / 1.055) ** 2.4);
+  }, 0);
+  const behind = it => {
+    const color = parts(getComputedStyle(it).backgroundColor);
+    return color.length === 3 || color[3] === 1 ? color : it.parentElement ? behind(it.parentElement) : null;
+  };
+  const walker = document.createTreeWalker(document.body, NodeFilter.SHOW_TEXT);
+  for (let text; (text = walker.nextNode());) {
+    const it = text.parentElement, shown = text.data.trim();
+    if (!shown || it.tagName === 'I' || !it.getClientRects().length) continue;
+    const two = [light(parts(getComputedStyle(it).color)), light(behind(it) || [255, 255, 255])].sort((a, b) => b - a);
+    const contrast = (two[0] + 0.05) / (two[1] + 0.05);
+    if (contrast < LEAST) wrong.push('contrast ' + contrast.toFixed(1) + ' of ' + shown.slice(0, 30));
+  }
+  const width = document.documentElement.clientWidth;
+  if (document.documentElement.scrollWidth > width) wrong.push('wider than the window');
+  for (const it of document.body.querySelectorAll('*')) {
+    const style = getComputedStyle(it), scrolls = it.closest('.wide') && !PRINTED;
+    if (it.tagName === 'I' || scrolls) continue;
+    if (it.getBoundingClientRect().right > width + 1) wrong.push('past the edge: ' + it.textContent.slice(0, 30));
+    if (style.overflowX !== 'visible' && it.scrollWidth > it.clientWidth + 1) wrong.push('cut off: ' + it.textContent.slice(0, 30));
+  }
+  return [...new Set(wrong)].slice(0, 5);
+})()"""
+
+
+class Browser:
+    """A headless Chromium, spoken to through a pipe: messages of JSON, each with a zero byte behind it."""
+
+    def __init__(self, program, room):
+        ours, theirs = os.pipe(), os.pipe()
+        words = [program, "--headless=new", "--disable-gpu", "--hide-scrollbars", "--no-first-run", "--remote-debugging-pipe", f"--user-data-dir={room}"]
+        words += ["--no-sandbox"] * (os.geteuid() == 0)
+        # It reads from 3 and writes to 4.
+        given = f'exec 3<&{ours[0]} 4>&{theirs[1]}; exec "$@"'
+        self.run = subprocess.Popen(["bash", "-c", given, "-", *words], pass_fds=(ours[0], theirs[1]), stdout=subprocess.DEVNULL, stderr=subprocess.DEVNULL)
+        os.close(ours[0])
+        os.close(theirs[1])
+        self.to, self.come, self.number, self.events = os.fdopen(ours[1], "wb", 0), os.fdopen(theirs[0], "rb"), 0, []
+        self.session = None
+        target = self.ask("Target.createTarget", url="about:blank")["targetId"]
+        self.session = self.ask("Target.attachToTarget", targetId=target, flatten=True)["sessionId"]
+        for name in ("Page", "Runtime", "Log", "Network"):
+            self.ask(f"{name}.enable")
+
+    def next(self):
+        message = bytearray()
+        while (byte := self.come.read(1)) != b"\0":
+            if not byte:
+                raise EOFError("the browser ended")
+            message += byte
+        return json.loads(message)
+
+    def ask(self, method, **params):
+        self.number += 1
+        message = {"id": self.number, "method": method, "params": params, **({"sessionId": self.session} if self.session else {})}
+        self.to.write(json.dumps(message).encode() + b"\0")
+        while (found := self.next()).get("id") != self.number:
+            self.events.append(found)
+        if "error" in found:
+            raise RuntimeError(f"{method}: {found['error']}")
+        return found["result"]
+
+    def open(self, address):
+        self.events = []
+        self.ask("Page.navigate", url=address)
+        while not any(it.get("method") == "Page.loadEventFired" for it in self.events):
+            self.events.append(self.next())
+
+    def show(self, width, dark=False, media=""):
+        self.ask("Emulation.setDeviceMetricsOverride", width=width, height=844, deviceScaleFactor=1, mobile=width < 500)
+        self.ask("Emulation.setEmulatedMedia", media=media, features=[{"name": "prefers-color-scheme", "value": "dark" if dark else "light"}])
+
+    def look(self, media=""):
+        asked = LOOK.replace("LEAST", str(LEAST_CONTRAST)).replace("PRINTED", "true" if media else "false")
+        return self.ask("Runtime.evaluate", expression=asked, returnByValue=True)["result"]["value"]
+
+    def picture(self, path):
+        with open(path, "wb") as file:
+            file.write(base64.b64decode(self.ask("Page.captureScreenshot", captureBeyondViewport=True)["data"]))
+
+    def end(self):
+        try:
+            self.ask("Browser.close")
+        except EOFError:
+            pass
+        self.run.wait(20)
+
+
+def events_at_fault(browser, address):
+    """What the page loaded, ran into or was told off for."""
+    for event in browser.events:
+        name, told = event.get("method"), event.get("params", {})
+        if name == "Network.requestWillBeSent" and told["request"]["url"] != address:
+            yield f"loads {told['request']['url']}"
+        elif name in ("Runtime.exceptionThrown", "Runtime.consoleAPICalled"):
+            yield "a script runs"
+        elif name == "Log.entryAdded":
+            yield f"the browser says: {told['entry']['text']}"
+
+
+def faults_of(browser, page, pictures):
+    """What is wrong with a page."""
+    address, name = "file://" + os.path.abspath(page), os.path.splitext(os.path.basename(page))[0]
+    wrong = []
+    for tag, width, dark, media in (*((str(it), it, dark, "") for it in WIDTHS for dark in (False, True)), ("paper", PAPER, False, "print")):
+        browser.show(width, dark, media)
+        browser.open(address)
+        wrong += events_at_fault(browser, address)
+        wrong += [f"{tag}{' dark' * dark}: {it}" for it in browser.look(media)]
+        if pictures:
+            browser.picture(os.path.join(pictures, f"{name}-{tag}{'-dark' * dark}.png"))
+    return [f"{name}: {it}" for it in dict.fromkeys(wrong)]
+
+
+def make_pages(room):
+    """A page of each example, by its file."""
+    for name in EXAMPLES:
+        def ask(caller, *words):
+            words = [caller, *words, "--deal", "deal.pbn", "--layouts", "layouts.lay"]
+            return subprocess.run(words, cwd=os.path.join(TOP, "examples", name), capture_output=True, check=True).stdout
+        report, page = os.path.join(room, "report"), os.path.join(room, f"{name}.html")
+        with open(report, "wb") as file:
+            file.write(ask(LAUNCHER, "--job", "solve", "--moves", MOVES))
+        with open(page, "wb") as file:
+            file.write(ask(STUDY, "--job", "page", "--report", report))
+        yield page
+
+
+def main():
+    parser = argparse.ArgumentParser(description="Looks at pages in a headless Chromium.")
+    parser.add_argument("--pictures", metavar="FOLDER")
+    parser.add_argument("pages", nargs="*", metavar="PAGE")
+    given = parser.parse_args()
+    program = shutil.which("chromium") or shutil.which("chromium-browser")
+    if not program:
+        print("look: there is no chromium here, so no page was looked at")
+        return 0
+    if not given.pages and not is_ready(LAUNCHER, "look"):
+        return 1
+    with tempfile.TemporaryDirectory() as room, tempfile.TemporaryDirectory() as profile:
+        pages = given.pages or list(make_pages(room))
+        browser = Browser(program, profile)
+        wrong = [line for page in pages for line in faults_of(browser, page, given.pictures)]
+        browser.end()
+    for line in wrong:
+        print(line)
+    print(f"look: {len(pages)} pages, {len(wrong)} wrong")
+    return 0 if not wrong else 1
+
+
+if __name__ == "__main__":
+    sys.exit(main())
