@@ -6,12 +6,14 @@ one of each folder in EXAMPLES. A page must load nothing, run nothing and say no
 not be wider than the window, except for what scrolls by itself. The contrast of each text with what is behind it must be at least
 LEAST_CONTRAST, light and dark. On paper nothing may be cut off. With --pictures it leaves pictures of each page in a folder.
 
-If there is no Chromium (Debian: `apt-get install chromium`), it says so, and the status is 0."""
+If there is no Chromium (Debian: `apt-get install chromium`), or it can't be driven here, it says so, and the status is 0."""
 import argparse
 import base64
+import contextlib
 import json
 import os
 import shutil
+import signal
 import subprocess
 import sys
 import tempfile
@@ -23,6 +25,8 @@ EXAMPLES, MOVES = ("restricted-choice", "squeeze-or-finesse", "two-way-finesse")
 # In pixels: a small phone, and a screen; and what A4 leaves between its margins.
 WIDTHS, PAPER = (360, 1280), 718
 LEAST_CONTRAST = 4.5
+# A browser that answers nothing for this many seconds can't be driven.
+PATIENCE = 120
 # What is wrong with the page as it stands: texts of too little contrast, and what is wider than the window or cut off.
 LOOK = """(() => {
   const parts = it => (it.match(/[\\d.]+/g) || []).map(Number), wrong = [];
@@ -68,17 +72,21 @@ class Browser:
         os.close(theirs[1])
         self.to, self.come, self.number, self.events = os.fdopen(ours[1], "wb", 0), os.fdopen(theirs[0], "rb"), 0, []
         self.session = None
+
+    def begin(self):
         target = self.ask("Target.createTarget", url="about:blank")["targetId"]
         self.session = self.ask("Target.attachToTarget", targetId=target, flatten=True)["sessionId"]
         for name in ("Page", "Runtime", "Log", "Network"):
             self.ask(f"{name}.enable")
 
     def next(self):
+        signal.alarm(PATIENCE)
         message = bytearray()
         while (byte := self.come.read(1)) != b"\0":
             if not byte:
                 raise EOFError("the browser ended")
             message += byte
+        signal.alarm(0)
         return json.loads(message)
 
     def ask(self, method, **params):
@@ -110,11 +118,10 @@ class Browser:
             file.write(base64.b64decode(self.ask("Page.captureScreenshot", captureBeyondViewport=True)["data"]))
 
     def end(self):
-        try:
+        with contextlib.suppress(OSError, EOFError):
             self.ask("Browser.close")
-        except EOFError:
-            pass
-        self.run.wait(20)
+        self.run.kill()
+        self.run.wait()
 
 
 def events_at_fault(browser, address):
@@ -143,6 +150,23 @@ def faults_of(browser, page, pictures):
     return [f"{name}: {it}" for it in dict.fromkeys(wrong)]
 
 
+def looked_at(program, pages, pictures):
+    """What is wrong with the pages; or None if the browser can't be driven."""
+    with tempfile.TemporaryDirectory() as profile:
+        browser = Browser(program, profile)
+        try:
+            browser.begin()
+            return [line for page in pages for line in faults_of(browser, page, pictures)]
+        except (OSError, EOFError):
+            return None
+        finally:
+            browser.end()
+
+
+def is_silent(number, frame):
+    raise EOFError("the browser is silent")
+
+
 def make_pages(room):
     """A page of each example, by its file."""
     for name in EXAMPLES:
@@ -168,11 +192,15 @@ def main():
         return 0
     if not given.pages and not is_ready(LAUNCHER, "look"):
         return 1
-    with tempfile.TemporaryDirectory() as room, tempfile.TemporaryDirectory() as profile:
+    if given.pictures:
+        os.makedirs(given.pictures, exist_ok=True)
+    signal.signal(signal.SIGALRM, is_silent)
+    with tempfile.TemporaryDirectory() as room:
         pages = given.pages or list(make_pages(room))
-        browser = Browser(program, profile)
-        wrong = [line for page in pages for line in faults_of(browser, page, given.pictures)]
-        browser.end()
+        wrong = looked_at(program, pages, given.pictures)
+    if wrong is None:
+        print("look: the Chromium here can't be driven, so no page was looked at")
+        return 0
     for line in wrong:
         print(line)
     print(f"look: {len(pages)} pages, {len(wrong)} wrong")
