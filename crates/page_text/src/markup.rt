@@ -175,7 +175,7 @@ pub const BELIEFS: &[u8] = b"</strong>.</p>
 
 pub const LINES: &[u8] = b"<section id='lines'>
 <h2>The lines in words</h2>
-<p class='note'>Replies after which a line goes on alike are told together. In brackets stand the
+<p class='note'>Replies after which a line goes on alike are told together. In brackets are the
 <a href='#layouts'>layouts</a> that are made from there, and those that fail. A card gives up a
 layout if the contract could be made there before it, with all hands seen, and no longer after
 it.</p>
