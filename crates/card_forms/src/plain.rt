@@ -1,7 +1,8 @@
 //! The cards of a root as plain text.
 ghost use Rattle.std.specs.Prelude.{◌≡◌, ◌++◌, IfOk, OnOk, flat_map};
 ghost use Rattle.byte_text.specs.Lines.{line_of};
-ghost use Rattle.card_forms.specs.Plain.{final_text, bounds_text, outcome_text, row_line, cards_head, cards_text};
+ghost use Rattle.card_forms.specs.Plain.{final_text, bounds_text, outcome_text, row_line};
+ghost use Rattle.card_forms.specs.Plain.{cards_head, cards_text};
 
 use crate::weight::weight_of_all;
 use bit_letters::push_bits;

@@ -25,12 +25,12 @@ fn push_known(fields: &mut Record, alloc: Global, row: &CardRow) -> Result<(), A
 {
     let mut vector = Text::new(alloc);
     push_bits(&mut vector, row.vector)?;
-    fields.push(alloc, &letters_of(row.card))?;
-    fields.push_number(alloc, u64::from(row.most))?;
-    fields.push_number(alloc, u64::from(row.least))?;
-    fields.push_number(alloc, u64::from(row.sampled))?;
-    fields.push(alloc, yes_no(row.is_final()))?;
-    fields.push(alloc, vector.bytes())
+    fields.push(&letters_of(row.card))?;
+    fields.push_number(u64::from(row.most))?;
+    fields.push_number(u64::from(row.least))?;
+    fields.push_number(u64::from(row.sampled))?;
+    fields.push(yes_no(row.is_final()))?;
+    fields.push(vector.bytes())
 }
 
 // Appends the record of a row.
@@ -47,11 +47,11 @@ fn push_row(
 {
     let mut fields = Record::new(alloc);
     push_known(&mut fields, alloc, row)?;
-    fields.push(alloc, yes_no(row.card == table.named))?;
-    fields.push_number(alloc, u64::from(table.moves))?;
-    fields.push_number(alloc, u64::from(weights.width()))?;
-    fields.push_number(alloc, u64::from(weight_of_all(weights)))?;
-    fields.write_to(text, alloc)
+    fields.push(yes_no(row.card == table.named))?;
+    fields.push_number(u64::from(table.moves))?;
+    fields.push_number(u64::from(weights.width()))?;
+    fields.push_number(u64::from(weight_of_all(weights)))?;
+    fields.write_to(text)
 }
 
 /// A record with the names of the fields, and then one for each row: the card, its bounds, what

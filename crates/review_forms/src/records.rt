@@ -1,5 +1,6 @@
 //! Decisions as records of CSV.
-ghost use Rattle.std.specs.Prelude.{◌≡◌, ◌++◌, ◌∷◌, [], IfOk, OnOk, flat_map, length, map, replicate};
+ghost use Rattle.std.specs.Prelude.{◌≡◌, ◌++◌, ◌∷◌, [], IfOk, OnOk, flat_map, length, map};
+ghost use Rattle.std.specs.Prelude.{replicate};
 ghost use Rattle.std.specs.List.{enumerate_from};
 ghost use Rattle.text_forms.specs.Records.{record_text};
 ghost use Rattle.review_forms.specs.Records.{decision_names, card_fields, cost_fields};
@@ -34,42 +35,37 @@ fn decision_names() -> [&'static [u8]; 12]
 
 // Adds which card of the play it was, who played it, and its bounds.
 #[tactic(auto, unfolding(crate::specs::Records::card_fields))]
-fn push_card(fields: &mut Record, alloc: Global, told: &Reviewed) -> Result<(), AllocError>
+fn push_card(fields: &mut Record, told: &Reviewed) -> Result<(), AllocError>
     ensures { OnOk result (fields.new ≡ fields.old ++ card_fields told.now) }
 {
-    fields.push_number(alloc, u64::from(told.number))?;
-    fields.push_number(alloc, u64::from(told.trick))?;
-    fields.push(alloc, &[compass_letter(told.seat)])?;
-    fields.push(alloc, &letters_of(told.played))?;
-    fields.push_number(alloc, u64::from(told.most))?;
-    fields.push_number(alloc, u64::from(told.least))
+    fields.push_number(u64::from(told.number))?;
+    fields.push_number(u64::from(told.trick))?;
+    fields.push(&[compass_letter(told.seat)])?;
+    fields.push(&letters_of(told.played))?;
+    fields.push_number(u64::from(told.most))?;
+    fields.push_number(u64::from(told.least))
 }
 
 // Adds the card named, the layouts, and what the card cost.
 #[tactic(auto, unfolding(crate::specs::Records::cost_fields))]
-fn push_cost(fields: &mut Record, alloc: Global, told: &Reviewed) -> Result<(), AllocError>
+fn push_cost(fields: &mut Record, told: &Reviewed) -> Result<(), AllocError>
     ensures { OnOk result (fields.new ≡ fields.old ++ cost_fields told.now) }
 {
-    fields.push(alloc, &letters_of(told.named))?;
-    fields.push_number(alloc, u64::from(told.named_most))?;
-    fields.push_number(alloc, u64::from(told.layouts))?;
-    fields.push_number(alloc, u64::from(told.weight))?;
-    fields.push_number(alloc, u64::from(told.cost()))
+    fields.push(&letters_of(told.named))?;
+    fields.push_number(u64::from(told.named_most))?;
+    fields.push_number(u64::from(told.layouts))?;
+    fields.push_number(u64::from(told.weight))?;
+    fields.push_number(u64::from(told.cost()))
 }
 
 // Adds the fields of a decision.
 #[tactic(auto, unfolding(crate::specs::Records::decision_fields))]
-fn push_decision(
-    fields: &mut Record,
-    alloc: Global,
-    moves: u8,
-    told: &Reviewed,
-) -> Result<(), AllocError>
+fn push_decision(fields: &mut Record, moves: u8, told: &Reviewed) -> Result<(), AllocError>
     ensures { OnOk result (fields.new ≡ fields.old ++ decision_fields moves told.now) }
 {
-    push_card(fields, alloc, told)?;
-    push_cost(fields, alloc, told)?;
-    fields.push_number(alloc, u64::from(moves))
+    push_card(fields, told)?;
+    push_cost(fields, told)?;
+    fields.push_number(u64::from(moves))
 }
 
 /// A record with the names of the fields, and then one for each decision: which card of the play it
@@ -85,28 +81,28 @@ pub fn review_csv(alloc: Global, moves: u8, told: &[Reviewed]) -> Result<Text, A
     push_fields(&mut text, alloc, &decision_names())?;
     for decision in told {
         let mut fields = Record::new(alloc);
-        push_decision(&mut fields, alloc, moves, decision)?;
-        fields.write_to(&mut text, alloc)?;
+        push_decision(&mut fields, moves, decision)?;
+        fields.write_to(&mut text)?;
     }
     Ok(text)
 }
 
 // Adds a field for each name.
-fn push_names(fields: &mut Record, alloc: Global, names: &[&[u8]]) -> Result<(), AllocError>
+fn push_names(fields: &mut Record, names: &[&[u8]]) -> Result<(), AllocError>
     ensures { OnOk result (fields.new ≡ fields.old ++ map (λ name. name.now) names.now) }
 {
     for name in names {
-        fields.push(alloc, name)?;
+        fields.push(name)?;
     }
     Ok(())
 }
 
 // Adds empty fields.
-fn push_empty(fields: &mut Record, alloc: Global, count: usize) -> Result<(), AllocError>
+fn push_empty(fields: &mut Record, count: usize) -> Result<(), AllocError>
     ensures { OnOk result (fields.new ≡ fields.old ++ replicate count []) }
 {
     for _ in 0..count {
-        fields.push(alloc, b"")?;
+        fields.push(b"")?;
     }
     Ok(())
 }
@@ -117,10 +113,10 @@ fn push_game_names(text: &mut Text, alloc: Global) -> Result<(), AllocError>
     ensures { OnOk result (text.new ≡ text.old ++ record_text game_names) }
 {
     let mut fields = Record::new(alloc);
-    fields.push(alloc, b"game")?;
-    push_names(&mut fields, alloc, &decision_names())?;
-    fields.push(alloc, b"refused")?;
-    fields.write_to(text, alloc)
+    fields.push(b"game")?;
+    push_names(&mut fields, &decision_names())?;
+    fields.push(b"refused")?;
+    fields.write_to(text)
 }
 
 // Appends a record of a decision of a game.
@@ -136,10 +132,10 @@ fn push_game_decision(
         (text.new ≡ text.old ++ game_record number (decision_fields moves told.now) []) }
 {
     let mut fields = Record::new(alloc);
-    fields.push_number(alloc, number)?;
-    push_decision(&mut fields, alloc, moves, told)?;
-    fields.push(alloc, b"")?;
-    fields.write_to(text, alloc)
+    fields.push_number(number)?;
+    push_decision(&mut fields, moves, told)?;
+    fields.push(b"")?;
+    fields.write_to(text)
 }
 
 // Appends a record for each decision of a game.
@@ -166,10 +162,10 @@ fn push_refused(text: &mut Text, alloc: Global, number: u64, said: &Text) -> Res
         ++ game_record number (replicate (length decision_names) []) said.now) }
 {
     let mut fields = Record::new(alloc);
-    fields.push_number(alloc, number)?;
-    push_empty(&mut fields, alloc, decision_names().len())?;
-    fields.push(alloc, said.bytes())?;
-    fields.write_to(text, alloc)
+    fields.push_number(number)?;
+    push_empty(&mut fields, decision_names().len())?;
+    fields.push(said.bytes())?;
+    fields.write_to(text)
 }
 
 // Appends the records of a game.

@@ -41,6 +41,7 @@ fn parts_of<'a>(alloc: Global, fields: &'a Vec<Text>) -> Result<Vec<&'a [u8]>, A
 /// A record that is put together field by field.
 #[derive(Debug, Drop)]
 pub struct Record {
+    alloc: Global,
     fields: Vec<Text>,
 }
 
@@ -53,38 +54,39 @@ impl Model for Record {
 }
 
 impl Record {
-    /// A record with no fields. It takes no memory.
+    /// A record with no fields, which takes memory from this allocator. It takes none yet.
     pub fn new(alloc: Global) -> Self
         ensures { result ≡ [] }
     {
         Record {
+            alloc,
             fields: Vec::new(alloc),
         }
     }
 
     /// Adds a field of these bytes.
-    pub fn push(&mut self, alloc: Global, field: &[u8]) -> Result<(), AllocError>
+    pub fn push(&mut self, field: &[u8]) -> Result<(), AllocError>
         ensures { OnOk result (self.new ≡ self.old ++ field.now ∷ []) }
     {
-        self.fields.push(Text::from_bytes(alloc, field)?)?;
+        self.fields.push(Text::from_bytes(self.alloc, field)?)?;
         Ok(())
     }
 
     /// Adds a number in decimal digits.
-    pub fn push_number(&mut self, alloc: Global, number: u64) -> Result<(), AllocError>
+    pub fn push_number(&mut self, number: u64) -> Result<(), AllocError>
         ensures { OnOk result (self.new ≡ self.old ++ decimal number ∷ []) }
     {
-        let mut digits = Text::new(alloc);
-        digits.push_number(alloc, number)?;
+        let mut digits = Text::new(self.alloc);
+        digits.push_number(self.alloc, number)?;
         self.fields.push(digits)?;
         Ok(())
     }
 
     /// Appends the record to a text, with its line feed.
-    pub fn write_to(&self, text: &mut Text, alloc: Global) -> Result<(), AllocError>
+    pub fn write_to(&self, text: &mut Text) -> Result<(), AllocError>
         ensures { OnOk result (text.new ≡ text.old ++ record_text self.now) }
     {
-        let parts = parts_of(alloc, &self.fields)?;
-        push_fields(text, alloc, &parts)
+        let parts = parts_of(self.alloc, &self.fields)?;
+        push_fields(text, self.alloc, &parts)
     }
 }
