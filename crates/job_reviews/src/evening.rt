@@ -41,7 +41,7 @@ impl Evening<'_> {
 impl Work for Evening<'_> {
     ghost use Rattle.std.specs.Prelude.{⊤};
 
-    type Worker = u32;
+    type Worker = ();
 
     type Notes = ();
 
@@ -67,7 +67,7 @@ impl Work for Evening<'_> {
 
     fn work_at(
         &self,
-        _worker: &mut u32,
+        _worker: &mut (),
         _notes: &mut (),
         _pass: &mut Pass,
         place: u32,

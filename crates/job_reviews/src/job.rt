@@ -88,9 +88,9 @@ pub fn tell_reviews<R: Threads + Sync>(
         places: count_of(files),
         table: &table,
     };
-    let workers = asked.search.workers.min(evening.places).max(1);
-    let mut numbers = vec![in alloc; 0; workers as usize]?;
-    let findings = work_side_by_side(rt, alloc, &evening, numbers.as_mut_slice(), &mut pass)?;
+    let count = asked.search.workers.min(evening.places).max(1);
+    let mut workers = vec![in alloc; (); count as usize]?;
+    let findings = work_side_by_side(rt, alloc, &evening, workers.as_mut_slice(), &mut pass)?;
     let games = in_order(&evening, findings)?;
     reviews_in(alloc, form, asked.moves, &games)
 }
