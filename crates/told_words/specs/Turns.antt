@@ -1,5 +1,5 @@
 -- Who plays which card, and how, at the nodes at which a step of a told plan may stand.
-use Rattle.std.specs.Prelude.{ℕ, ◌==◌, ◌&&◌, Bool, Option, None, Some, List, [], ◌∷◌, map, filter, flat_map, length, if◌then◌else◌}
+use Rattle.std.specs.Prelude.{ℕ, ◌==◌, ◌&&◌, Bool, true, false, Option, None, Some, List, [], ◌∷◌, map, filter, flat_map, length, if◌then◌else◌}
 use Rattle.std.specs.List.{list_any, list_all}
 use Rattle.card_sets.specs.declared.card.Suit.{Suit}
 use Rattle.card_sets.specs.declared.seat.Seat.{Seat}
@@ -24,14 +24,13 @@ manner_on trump (Some suit) card = if same_suit (suit_of card) suit then Follow 
 abbrev pub manner_of : PositionValue → ℕ → Manner
 manner_of t card = manner_on t.trump (suit_led t.trick.cards) card
 
-abbrev pub manner_place : Manner → ℕ
-manner_place Lead = 0
-manner_place Follow = 1
-manner_place Ruff = 2
-manner_place Throw = 3
-
+-- whether two manners are the same
 abbrev pub same_manner : Manner → Manner → Bool
-same_manner a b = manner_place a == manner_place b
+same_manner Lead Lead = true
+same_manner Follow Follow = true
+same_manner Ruff Ruff = true
+same_manner Throw Throw = true
+same_manner _ _ = false
 
 abbrev pub same_seat : Seat → Seat → Bool
 same_seat a b = seat_place a == seat_place b

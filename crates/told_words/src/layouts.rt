@@ -1,7 +1,8 @@
 //! The layouts behind a step, in words.
 ghost use Rattle.std.specs.Prelude.{◌≡◌, ◌++◌, ◌≤◌, OnOk};
 ghost use Rattle.win_vectors.specs.Vectors.{most_layouts};
-ghost use Rattle.told_words.specs.Numbers.{has_layout, has_one, number_text, layouts_text, some_text, between, outcome_text, given_up_text};
+ghost use Rattle.told_words.specs.Numbers.{has_layout, has_one, number_text, layouts_text};
+ghost use Rattle.told_words.specs.Numbers.{some_text, between, outcome_text, given_up_text};
 
 use byte_text::Text;
 use std::alloc::{AllocError, Global};

@@ -1,6 +1,7 @@
 //! The lines of a text.
 ghost use Rattle.std.specs.Prelude.{◌≡◌, ◌++◌, OnOk};
-ghost use Rattle.told_words.specs.Words.{indent, before, line_end, going_on, further_in, winner_text, after_winner};
+ghost use Rattle.told_words.specs.Words.{indent, before, line_end, going_on, further_in};
+ghost use Rattle.told_words.specs.Words.{winner_text, after_winner};
 
 use crate::phrases::push_seat;
 use byte_text::Text;

@@ -2,7 +2,9 @@
 ghost use Rattle.std.specs.Prelude.{◌≡◌, ◌++◌, false, codes, OnOk};
 ghost use Rattle.std.specs.List.{list_all};
 ghost use Rattle.trick_rules.specs.Play.{decided};
-ghost use Rattle.told_words.specs.Phrases.{compass_name, seat_name, cards_text, order_word, verb, phrase, next_phrase, has_begun, phrases, turn_text, is_result, end_text};
+ghost use Rattle.told_words.specs.Phrases.{compass_name, seat_name, cards_text, order_word, verb};
+ghost use Rattle.told_words.specs.Phrases.{phrase, next_phrase, has_begun, phrases, turn_text};
+ghost use Rattle.told_words.specs.Phrases.{is_result, end_text};
 
 use crate::turns::{Manner, played_so};
 use byte_text::Text;

@@ -4,7 +4,8 @@ ghost use Rattle.std.specs.List.{list_all};
 ghost use Rattle.card_sets.specs.SetWords.{has_card, cards_where};
 ghost use Rattle.trick_rules.specs.Positions.{to_play};
 ghost use Rattle.trick_rules.specs.Nodes.{choices, child};
-ghost use Rattle.told_words.specs.Turns.{after_cards, manner_of, same_manner, same_seat, plays_so, played_so, leads_next, winner_at};
+ghost use Rattle.told_words.specs.Turns.{after_cards, manner_of, same_manner, same_seat, plays_so};
+ghost use Rattle.told_words.specs.Turns.{played_so, leads_next, winner_at};
 
 use card_sets::{Card, CardSet, Seat};
 use std::alloc::{AllocError, Global};

@@ -5,7 +5,8 @@ ghost use Rattle.told_plans.specs.ToldMeaning.{told_of, branches_of};
 ghost use Rattle.told_words.specs.Strategies.{FitsItsNode, layouts_of};
 ghost use Rattle.told_words.specs.Numbers.{given_up_text};
 ghost use Rattle.told_words.specs.Phrases.{end_text};
-ghost use Rattle.told_words.specs.Words.{before, line_end, winner_text, played_text, condition, front_end, steps_text, next_text, branch_lines, told_text};
+ghost use Rattle.told_words.specs.Words.{before, line_end, winner_text, played_text, condition};
+ghost use Rattle.told_words.specs.Words.{front_end, steps_text, next_text, branch_lines, told_text};
 
 use crate::layouts::{push_given_up, push_outcome};
 use crate::lines::{Line, push_indent, push_winner};
