@@ -250,16 +250,17 @@ fn the_heavier_layout_decides(rt: HostRuntime) -> Result<(), Fail> {
     Ok(())
 }
 
-// The card of a root that these workers search with two moves, with its weight and how many vectors
-// the front has. Fails if the workers don't meet at the gate.
-fn met_at<R: Threads + Abort + Sync>(
+// Fails if these workers, who search a root with two moves, don't meet at the gate, or if they find
+// anything but two vectors and this card, which wins one layout.
+fn assert_met<R: Threads + Abort + Sync>(
     rt: &R,
     alloc: Global,
     node: &Node,
     workers: u32,
     cuts: bool,
     gate: &Meeting,
-) -> Result<(Card, u32, usize), Fail> {
+    card: Card,
+) -> Result<(), Fail> {
     let options = Options {
         nodes: 1000,
         workers,
@@ -268,15 +269,15 @@ fn met_at<R: Threads + Abort + Sync>(
     };
     let root = front_of(rt, alloc, node, 2, &options, gate)??;
     assert!(rt; gate.took_place());
-    Ok((root.card, root.weight, root.front.len()))
+    assert!(rt; (root.card, root.weight, root.front.len()) == (card, 1, 2));
+    Ok(())
 }
 
 #[test]
 fn two_workers_are_beside_each_other(rt: HostRuntime) -> Result<(), Fail> {
     let gate = Meeting::new(spade(2), spade(3), 0);
     let node = guess(&rt, rt.alloc())?;
-    assert!(rt; met_at(&rt, rt.alloc(), &node, 2, false, &gate)? == (spade(2), 1, 2));
-    Ok(())
+    assert_met(&rt, rt.alloc(), &node, 2, false, &gate, spade(2))
 }
 
 // With one move one worker finds that the jack wins one layout and the king the other. So with two
@@ -285,6 +286,5 @@ fn two_workers_are_beside_each_other(rt: HostRuntime) -> Result<(), Fail> {
 fn two_workers_share_what_won_with_a_move_less(rt: HostRuntime) -> Result<(), Fail> {
     let gate = Meeting::new(spade(11), spade(13), 1);
     let node = after_seven(&rt, rt.alloc())?;
-    assert!(rt; met_at(&rt, rt.alloc(), &node, 4, true, &gate)? == (spade(11), 1, 2));
-    Ok(())
+    assert_met(&rt, rt.alloc(), &node, 4, true, &gate, spade(11))
 }

@@ -1,6 +1,7 @@
 //! The shared table on one thread.
 ghost use Rattle.std.specs.Prelude.{◌≡◌, ◌≤◌, IfOk, length};
 ghost use Rattle.front_table.specs.Entries.{most_entry_vectors};
+ghost use Rattle.shared_table.specs.Passes.{IsPassOf};
 
 use super::endings::{after_two, guess};
 use alphamu_core::{Budget, Found, search};
@@ -9,8 +10,9 @@ use dd_solver::Solver;
 use front_table::{FrontStore, Look, ProvenFront, Put};
 use pareto_fronts::Front;
 use plain_fronts::plain_front;
-use shared_table::{ShardEnd, SharedStore, SharedTable};
+use shared_table::{Pass, ShardEnd, SharedStore, SharedTable};
 use std::alloc::{AllocError, Global};
+use std::process::Abort;
 use std::test::Fail;
 use trick_rules::Node;
 use win_vectors::WinVector;
@@ -29,6 +31,19 @@ pub fn room_for(alloc: Global, node: &Node) -> Result<Front, AllocError>
     let mut out = Front::new(alloc, node.width());
     out.reserve(64)?;
     Ok(out)
+}
+
+// The node after dummy's S2, and a table of so many shards, each with room for 64 entries.
+fn after_two_and_table(
+    rt: &impl Abort,
+    alloc: Global,
+    shards: u32,
+) -> Result<(Node, SharedTable, Pass), Fail>
+    ensures { IfOk result (λ made. IsPassOf made.1 made.2) }
+{
+    assert!(rt; 1 <= shards && shards <= 64);
+    let (table, pass) = SharedTable::new(alloc, shards, 64)?;
+    Ok((after_two(rt, alloc)?, table, pass))
 }
 
 #[test]
@@ -67,8 +82,7 @@ fn a_table_of_one_entry(rt: HostRuntime) -> Result<(), Fail> {
 
 #[test]
 fn a_shard_by_its_sum(rt: HostRuntime) -> Result<(), Fail> {
-    let node = after_two(&rt, rt.alloc())?;
-    let (table, _pass) = SharedTable::new(rt.alloc(), 16, 4)?;
+    let (node, table, _pass) = after_two_and_table(&rt, rt.alloc(), 16)?;
     assert_eq!(rt; table.shard(&node, 1), 4);
     Ok(())
 }
@@ -76,8 +90,7 @@ fn a_shard_by_its_sum(rt: HostRuntime) -> Result<(), Fail> {
 #[test]
 fn a_table_as_a_store(rt: HostRuntime) -> Result<(), Fail> {
     let alloc = rt.alloc();
-    let node = after_two(&rt, alloc)?;
-    let (table, mut pass) = SharedTable::new(alloc, 2, 8)?;
+    let (node, table, mut pass) = after_two_and_table(&rt, alloc, 2)?;
     let mut out = room_for(alloc, &node)?;
     let mut store = SharedStore::new(&table, &mut pass);
     assert!(rt; matches!(&store.put(entry_of(alloc, &node, 1)?), Put::Kept));
@@ -89,8 +102,7 @@ fn a_table_as_a_store(rt: HostRuntime) -> Result<(), Fail> {
 #[test]
 fn a_search_over_a_table_is_found_again_at_once(rt: HostRuntime) -> Result<(), Fail> {
     let alloc = rt.alloc();
-    let node = after_two(&rt, alloc)?;
-    let (table, mut pass) = SharedTable::new(alloc, 1, 64)?;
+    let (node, table, mut pass) = after_two_and_table(&rt, alloc, 1)?;
     let mut store = SharedStore::new(&table, &mut pass);
     let mut solver = Solver::new(alloc);
     let alpha = Front::new(alloc, node.width());

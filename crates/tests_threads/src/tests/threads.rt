@@ -132,23 +132,11 @@ fn assert_kept_once<R: Threads + Abort + Sync>(
 }
 
 #[test]
-fn two_threads_on_one_shard(rt: HostRuntime) -> Result<(), Fail> {
-    assert_kept_once(&rt, rt.alloc(), 1, 2)
-}
-
-#[test]
-fn two_threads_on_many_shards(rt: HostRuntime) -> Result<(), Fail> {
-    assert_kept_once(&rt, rt.alloc(), 16, 2)
-}
-
-#[test]
-fn eight_threads_on_one_shard(rt: HostRuntime) -> Result<(), Fail> {
-    assert_kept_once(&rt, rt.alloc(), 1, 8)
-}
-
-#[test]
-fn eight_threads_on_many_shards(rt: HostRuntime) -> Result<(), Fail> {
-    assert_kept_once(&rt, rt.alloc(), 16, 8)
+fn two_and_eight_threads_on_one_shard_and_on_many(rt: HostRuntime) -> Result<(), Fail> {
+    for (shards, threads) in [(1, 2), (16, 2), (1, 8), (16, 8)] {
+        assert_kept_once(&rt, rt.alloc(), shards, threads)?;
+    }
+    Ok(())
 }
 
 // Draws until there is no number left.
