@@ -26,7 +26,7 @@ fn main(rt: HostRuntime) -> ExitCode {
     let mut out = StdSink::new(rt.stdout());
     let mut err = StdSink::new(rt.stderr());
     let status = match words_given(&rt) {
-        Ok(words) => run_study(&rt, rt.alloc(), &words, &mut shelf, &mut out, &mut err),
+        Ok(words) => run_study(&rt, &words, &mut shelf, &mut out, &mut err),
         Err(error) if error.kind() == io::ErrorKind::OutOfMemory => {
             refuse(Status::Memory, &mut err)
         }

@@ -4,6 +4,7 @@ use Rattle.pbn_deal.specs.Boards.{BoardValue}
 use Rattle.am_outside.specs.Shelf.{Files}
 use Rattle.job_words.specs.declared.asks.Ask.TheVariants as asks
 use Rattle.job_words.specs.declared.asks.LayoutsJob.TheVariants as jobs
+use Rattle.job_words.specs.Asks.{texts_of}
 use Rattle.am_answer.specs.declared.root.Root.{Root}
 use Rattle.am_answer.specs.declared.status.Status.{Status}
 use Rattle.am_answer.specs.declared.status.Status.TheVariants.{BadWords, Memory}
@@ -22,6 +23,7 @@ use Rattle.study_top.specs.Tricks.{trick_of}
 use Rattle.study_top.specs.AllGames.{asks_all}
 use Rattle.study_top.specs.declared.job.StudyJob.{StudyJob}
 use Rattle.study_top.specs.declared.job.StudyJob.TheVariants.{Words, Lines, Page, Cards, Review, Reviews}
+use Rattle.study_top.specs.declared.study.Study.{Study}
 
 -- ---- the words
 
@@ -79,6 +81,13 @@ asked_by all words = asked_after all false words
 -- the words of a study, as those of a job of `alphamu`
 abbrev pub asked_words : List (List ℕ) → List (List ℕ)
 asked_words words = asked_by (asks_all (without_trick words)) (other_words words)
+
+-- the job, the form, the trick and the words of `alphamu` that the words of a study ask for
+pub record IsStudyOf (words : List (List ℕ)) (study : Study) : Type 0 where
+  pub job : study.job ≡ job_of words
+  pub form : form_of study.job words ≡ Ok study.form
+  pub from : trick_of study.job words ≡ Ok study.from
+  pub asked : texts_of study.asked.items ≡ asked_words words
 
 -- ---- what comes of it
 

@@ -1,7 +1,8 @@
 //! The jobs of a study, and its words as those of `alphamu`.
 ghost use Rattle.std.specs.Prelude.{◌≡◌, IfOk, string_bytes};
 ghost use Rattle.job_words.specs.Asks.{texts_of};
-ghost use Rattle.study_top.specs.Study.{job_named, named_job, job_with, base_word, asked_word, asked_by};
+ghost use Rattle.study_top.specs.Study.{job_named, named_job, job_with, base_word, asked_word};
+ghost use Rattle.study_top.specs.Study.{asked_by};
 
 use std::alloc::{AllocError, Global};
 

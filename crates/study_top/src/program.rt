@@ -1,16 +1,16 @@
 //! The call that the program makes.
-ghost use Rattle.std.specs.Prelude.{◌≡◌, ◌≢◌, ◌<◌, ◌-◌, ◌^◌, length, Some, IfOk, IfErr, IfSome, IsErrOf, List, ℕ};
+ghost use Rattle.std.specs.Prelude.{◌≡◌, ◌≢◌, IfOk, IfErr, IfSome, IsErrOf, List, ℕ};
 ghost use Rattle.std.specs.Io.KnownBytes.{append_known};
 ghost use Rattle.am_outside.specs.Faults.{Rose};
 ghost use Rattle.am_outside.specs.Sink.{AppendsPart};
-ghost use Rattle.job_words.specs.Asks.{IsMoves, IsSearchWithinLimits, texts_of};
+ghost use Rattle.job_words.specs.Asks.{texts_of};
 ghost use Rattle.job_words.specs.declared.asks.Ask.TheVariants.{OnLayouts};
-ghost use Rattle.job_words.specs.declared.asks.LayoutsJob.TheVariants.{Card, Check};
 ghost use Rattle.am_answer.specs.Lines.{status_line};
 ghost use Rattle.am_answer.specs.Refusals.{IsUnread};
 ghost use Rattle.am_line.specs.Said.{IsSaid};
 ghost use Rattle.am_answer.specs.Files.{AreWithin};
-ghost use Rattle.study_top.specs.Study.{asked_words, IsTextOf, IsRefusalOf, IsStudyText, IsStudyRefusal};
+ghost use Rattle.study_top.specs.Study.{asked_words, IsTextOf, IsRefusalOf, IsStudyText};
+ghost use Rattle.study_top.specs.Study.{IsStudyRefusal};
 
 use crate::job::StudyJob;
 use crate::study::{Study, study_of};
@@ -25,81 +25,9 @@ use job_page::tell_page;
 use job_review::{Asked, tell_review};
 use job_reviews::tell_reviews;
 use job_told::tell_report;
-use job_words::{Ask, LayoutsJob, Search};
+use job_words::{Ask, LayoutsJob};
 use std::alloc::Global;
 use std::thread::Threads;
-use text_forms::Form;
-
-// The strategies of a report as PBN games, at the root of these files.
-fn lines_in(alloc: Global, deal: &Text, layouts: &Text, report: &Text) -> Result<Text, Status>
-    requires deal_within { length deal.now < 2 ^ 32 - 1 }
-    requires layouts_within { length layouts.now < 2 ^ 32 - 1 }
-    requires report_within { length report.now < 2 ^ 32 - 1 }
-    ensures text { IfOk result (IsTextOf (Some StudyJob.Lines) Form.Text 1
-        (OnLayouts deal.now layouts.now (Check report.now))) }
-    ensures refused { IfErr result (IsRefusalOf (Some StudyJob.Lines) 1
-        (OnLayouts deal.now layouts.now (Check report.now))) }
-{
-    let root = read_root(alloc, deal, layouts)?;
-    tell_lines(alloc, deal, &root, report)
-}
-
-// The report as a page, at the root of these files.
-fn page_in(alloc: Global, deal: &Text, layouts: &Text, report: &Text) -> Result<Text, Status>
-    requires deal_within { length deal.now < 2 ^ 32 - 1 }
-    requires layouts_within { length layouts.now < 2 ^ 32 - 1 }
-    requires report_within { length report.now < 2 ^ 32 - 1 }
-    ensures text { IfOk result (IsTextOf (Some StudyJob.Page) Form.Text 1
-        (OnLayouts deal.now layouts.now (Check report.now))) }
-    ensures refused { IfErr result (IsRefusalOf (Some StudyJob.Page) 1
-        (OnLayouts deal.now layouts.now (Check report.now))) }
-{
-    let root = read_root(alloc, deal, layouts)?;
-    tell_page(alloc, deal, &root, report)
-}
-
-// Every legal card at the root of these files.
-fn cards_in(
-    alloc: Global,
-    deal: &Text,
-    layouts: &Text,
-    moves: u8,
-    search: &Search,
-    form: Form,
-) -> Result<Text, Status>
-    requires deal_within { length deal.now < 2 ^ 32 - 1 }
-    requires layouts_within { length layouts.now < 2 ^ 32 - 1 }
-    requires moves { IsMoves moves }
-    requires limits { IsSearchWithinLimits search.now }
-    ensures text { IfOk result (IsTextOf (Some StudyJob.Cards) form 1
-        (OnLayouts deal.now layouts.now (Card moves search.now))) }
-    ensures refused { IfErr result (IsRefusalOf (Some StudyJob.Cards) 1
-        (OnLayouts deal.now layouts.now (Card moves search.now))) }
-{
-    let root = read_root(alloc, deal, layouts)?;
-    tell_cards(alloc, &root, moves, search, form)
-}
-
-// The decisions of the board of these files, from a trick on.
-fn review_in(
-    alloc: Global,
-    deal: &Text,
-    layouts: &Text,
-    asked: &Asked,
-    form: Form,
-) -> Result<Text, Status>
-    requires deal_within { length deal.now < 2 ^ 32 - 1 }
-    requires layouts_within { length layouts.now < 2 ^ 32 - 1 }
-    requires moves { IsMoves asked.now.moves }
-    requires limits { IsSearchWithinLimits asked.now.search }
-    ensures text { IfOk result (IsTextOf (Some StudyJob.Review) form asked.now.from
-        (OnLayouts deal.now layouts.now (Card asked.now.moves asked.now.search))) }
-    ensures refused { IfErr result (IsRefusalOf (Some StudyJob.Review) asked.now.from
-        (OnLayouts deal.now layouts.now (Card asked.now.moves asked.now.search))) }
-{
-    let board = read_deal(alloc, deal)?;
-    tell_review(alloc, &board, layouts, asked, form)
-}
 
 // What a job tells of a deal and its layouts, or why there is nothing.
 fn text_on(
@@ -121,13 +49,16 @@ fn text_on(
             tell_report(alloc, &root, report)
         }
         (Some(StudyJob::Lines), LayoutsJob::Check { report }) => {
-            lines_in(alloc, deal, layouts, report)
+            let root = read_root(alloc, deal, layouts)?;
+            tell_lines(alloc, deal, &root, report)
         }
         (Some(StudyJob::Page), LayoutsJob::Check { report }) => {
-            page_in(alloc, deal, layouts, report)
+            let root = read_root(alloc, deal, layouts)?;
+            tell_page(alloc, deal, &root, report)
         }
         (Some(StudyJob::Cards), LayoutsJob::Card { moves, search }) => {
-            cards_in(alloc, deal, layouts, *moves, search, study.form)
+            let root = read_root(alloc, deal, layouts)?;
+            tell_cards(alloc, &root, *moves, search, study.form)
         }
         (Some(StudyJob::Review), LayoutsJob::Card { moves, search }) => {
             let asked = Asked {
@@ -135,7 +66,8 @@ fn text_on(
                 from: study.from,
                 search: *search,
             };
-            review_in(alloc, deal, layouts, &asked, study.form)
+            let board = read_deal(alloc, deal)?;
+            tell_review(alloc, &board, layouts, &asked, study.form)
         }
         _ => Err(Status::BadWords),
     }
@@ -200,16 +132,15 @@ fn text_for<R: Threads + Sync, S: Shelf>(
 /// Tells the strategies of a report or shows it as a page, puts every legal card side by side, or
 /// goes through every decision of a played board. The words are those of `check`, except that the
 /// job is `words`, `lines` or `page`, and the report is refused as `check` refuses it; or those of
-/// `card`, except that the job is `cards` or `review`. With these two, `--form` may stand before the
-/// form, `text`, `csv` or `json`; with `review`, `--from` before the trick to begin with, 1 to 13.
-/// Such an option and its value may also be one word, joined by `=`. With `review`, `--games` may
-/// stand among the words, which are then those of `boards`: every game of the deal file is reviewed,
-/// with its own layout file. The words don't include the program's name.
+/// `card`, except that the job is `cards` or `review`. With these two, `--form` may stand before
+/// the form, `text`, `csv` or `json`; with `review`, `--from` before the trick to begin with, 1 to
+/// 13. Such an option and its value may also be one word, joined by `=`. With `review`, `--games`
+/// may stand among the words, which are then those of `boards`: every game of the deal file is
+/// reviewed, with its own layout file. The words don't include the program's name.
 ///
 /// The whole text is made before its first byte is written. The workers are joined, so it may wait.
-pub fn run_study<R: Threads + Sync, S: Shelf, O: Sink, E: Sink>(
+pub fn run_study<R: Threads + Sync + AllocGlobal, S: Shelf, O: Sink, E: Sink>(
     rt: &R,
-    alloc: Global,
     words: &[String],
     shelf: &mut S,
     out: &mut O,
@@ -235,7 +166,7 @@ pub fn run_study<R: Threads + Sync, S: Shelf, O: Sink, E: Sink>(
         (E.faults err.old) (E.faults err.new) }
     ensures same_files { S.told shelf.new ≡ S.told shelf.old }
 {
-    match text_for(rt, alloc, words, shelf) {
+    match text_for(rt, rt.alloc(), words, shelf) {
         Ok(text) => match write_whole(out, text.bytes()) {
             Ok(()) => Status::Done,
             Err(_) => refuse(Status::Unwritten, err),

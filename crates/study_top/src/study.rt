@@ -1,10 +1,10 @@
 //! What the words of a study ask for.
-ghost use Rattle.std.specs.Prelude.{◌≡◌, ◌⊎◌, Ok, IfOk, IfErr};
+ghost use Rattle.std.specs.Prelude.{◌≡◌, ◌⊎◌, IfOk, IfErr};
 ghost use Rattle.job_words.specs.Asks.{texts_of};
 ghost use Rattle.am_answer.specs.Stages.{IsReadRefusal};
 ghost use Rattle.study_top.specs.Forms.{form_of};
 ghost use Rattle.study_top.specs.Tricks.{trick_of};
-ghost use Rattle.study_top.specs.Study.{asked_words, job_of as job_asked};
+ghost use Rattle.study_top.specs.Study.{IsStudyOf, job_of as job_asked};
 
 use crate::all_games::games_asked;
 use crate::apart::apart;
@@ -31,12 +31,7 @@ pub struct Study {
 /// What these words ask for. Errors: `BadWords` if what they say of the form or of the trick can't
 /// be read; `Memory`.
 pub fn study_of(alloc: Global, words: &[String]) -> Result<Study, Status>
-    ensures job { IfOk result (λ study.
-        study.job ≡ job_asked (texts_of words.now)) }
-    ensures form { IfOk result (λ study. form_of study.job (texts_of words.now) ≡ Ok study.form) }
-    ensures from { IfOk result (λ study. trick_of study.job (texts_of words.now) ≡ Ok study.from) }
-    ensures asked { IfOk result (λ study.
-        texts_of study.asked.items ≡ asked_words (texts_of words.now)) }
+    ensures study { IfOk result (IsStudyOf (texts_of words.now)) }
     ensures refused { IfErr result (λ status.
         IsReadRefusal (form_of (job_asked (texts_of words.now))
         (texts_of words.now)) status
