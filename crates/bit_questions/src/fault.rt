@@ -3,7 +3,7 @@ ghost use Rattle.std.specs.Prelude.{◌≡◌};
 ghost use Rattle.bit_questions.specs.Causes.{code_of};
 ghost use Rattle.bit_questions.specs.declared.fault.QuestionFault.TheVariants as faults;
 
-use std::alloc::{AllocError, AllocFailed};
+use std::alloc::AllocError;
 
 /// What is wrong with the numbers of a question. A place is counted from 0.
 #[derive(Clone, Copy, Debug, PartialEq, Eq)]
@@ -76,14 +76,6 @@ impl From<AllocError> for QuestionFault {
     ghost from_gives = { λ _ fault. fault ≡ faults.Memory };
 
     fn from(_: AllocError) -> Self {
-        QuestionFault::Memory
-    }
-}
-
-impl<T: Drop> From<AllocFailed<T>> for QuestionFault {
-    ghost from_gives = { λ _ fault. fault ≡ faults.Memory };
-
-    fn from(_: AllocFailed<T>) -> Self {
         QuestionFault::Memory
     }
 }

@@ -8,7 +8,7 @@ ghost use Rattle.bit_questions.specs.Causes.{IsLayoutFault, IsLeftWord, IsWeight
 use crate::cards::cards_at;
 use crate::fault::QuestionFault;
 use card_sets::CardSet;
-use std::alloc::Global;
+use std::alloc::{AllocError, Global};
 use trick_rules::{Node, Position};
 use win_vectors::{MAX_WEIGHT, MOST_LAYOUTS, Weights};
 
@@ -41,7 +41,7 @@ fn lefts_at(
         let Some(left) = left_at(position, *bits) else {
             return Err(QuestionFault::Layout(place as u16));
         };
-        all.push(left)?;
+        all.push(left).map_err(AllocError::from)?;
     }
     Ok(all)
 }
