@@ -33,14 +33,19 @@ impl Meeting {
 
     /// Whether both cards were entered once more than freely, and no worker waited in vain.
     pub fn took_place(&self) -> bool {
-        self.one_entered.load(Ordering::SeqCst) > self.free
-            && self.other_entered.load(Ordering::SeqCst) > self.free
+        self.has_come(&self.one_entered)
+            && self.has_come(&self.other_entered)
             && !self.failed.load(Ordering::SeqCst)
+    }
+
+    // Whether a card was entered once more than freely, by how often it was entered.
+    fn has_come(&self, entered: &AtomicU32) -> bool {
+        entered.load(Ordering::SeqCst) > self.free
     }
 
     fn wait_for(&self, entered: &AtomicU32) {
         for _ in 0..TURNS {
-            if entered.load(Ordering::SeqCst) > self.free {
+            if self.has_come(entered) {
                 return;
             }
             thread::yield_now();
