@@ -1,5 +1,5 @@
 -- Nodes that are twins, of which two equal cards exchange their names, have one front of what is assured.
-use Rattle.std.proofs.Common.{◌≡◌, ◌∙◌, ◌<◌, ◌++◌, ◌&&◌, ◌||◌, ◌⊎◌, ℕ, zero, suc, Bool, true, false, List, [], ◌∷◌, map, length, replicate, get_or, Contains, append-nil, append_assoc, refl, sym, ap, ap₂, subst, inl, inr, ⊎_elim, arith}
+use Rattle.std.proofs.Common.{◌≡◌, ◌∙◌, ◌<◌, ◌++◌, ◌&&◌, ◌||◌, ◌⊎◌, is_some, ℕ, zero, suc, Bool, true, false, List, [], ◌∷◌, map, length, replicate, get_or, Contains, append-nil, append_assoc, refl, sym, ap, ap₂, subst, inl, inr, ⊎_elim, arith}
 use Rattle.std.specs.Prelude.{nat_eq}
 use Rattle.std.specs.Cmp.Lexicographic.{pointwise}
 use Rattle.std.specs.List.{AllZip}
@@ -11,7 +11,7 @@ use Rattle.card_sets.specs.SetWords.{has_card}
 use Rattle.card_sets.proofs.Sets.{same_set}
 use Rattle.win_vectors.specs.Fronts.{Vector, IsFrontOf, IsReduced, meets, spreads}
 use Rattle.trick_rules.specs.Positions.{PositionValue, State, to_play}
-use Rattle.trick_rules.specs.Play.{after, cards_left, is_declarers, makes}
+use Rattle.trick_rules.specs.Play.{after, cards_left, decided, is_declarers, makes}
 use Rattle.trick_rules.specs.Nodes.{NodeValue, IsNode, states, choices, child}
 use Rattle.trick_rules.proofs.Soundness.{held_low}
 use Rattle.trick_rules.proofs.States.{after-IsState}
@@ -128,77 +128,80 @@ module _ (a b : ℕ) (suit : suit_of a ≡ suit_of b) (order : a < b) (low : b <
     masks : (c : ℕ) → mask bridge o (swap a b c) ≡ mask bridge n c
     masks c = twins-mask a b suit order low n o r c
 
-    module _ (m : ℕ) (below : (c : ℕ) → Contains (choices n) c → HaveOneFront (child n c) (child o (swap a b c)) m) where
-      -- one card of declarer's side after another
-      by_cards : (done rest : List ℕ) (f : List Vector) → ((c : ℕ) → Contains rest c → Contains (choices n) c)
-          → IsFrontOf (AssuredByCard bridge is_sure_node n m done) f → IsFrontOf (AssuredByCard bridge is_sure_node o m (map (swap a b) done)) f
-          → (g : List Vector) × IsFrontOf (AssuredByCard bridge is_sure_node n m (done ++ rest)) g × IsFrontOf (AssuredByCard bridge is_sure_node o m (map (swap a b) (done ++ rest))) g
-      by_cards done [] f within x y = (
-        f,
-        subst (λ (cs : List ℕ). IsFrontOf (AssuredByCard bridge is_sure_node n m cs) f) (sym (append-nil done)) x,
-        subst (λ (cs : List ℕ). IsFrontOf (AssuredByCard bridge is_sure_node o m (map (swap a b) cs)) f) (sym (append-nil done)) y,
-      )
-      by_cards done (c ∷ rest) f within x y =
-          let h = below c (within c (Contains-here c rest)) in
-          let u = reduced_exists (f ++ h.0) in
-          let g = by_cards (done ++ c ∷ []) rest u.0 (λ d k. within d (Contains-there c rest d k))
-          (steps.more_cards n m done c f h.0 u.0 x h.1 u.1)
-          (subst (λ (cs : List ℕ). IsFrontOf (AssuredByCard bridge is_sure_node o m cs) u.0) (sym (map-append (swap a b) done (c ∷ [])))
-          (steps.more_cards o m (map (swap a b) done) (swap a b c) f h.0 u.0 y h.2 u.1)) in (
-            g.0,
-            subst (λ (cs : List ℕ). IsFrontOf (AssuredByCard bridge is_sure_node n m cs) g.0) (append_assoc done (c ∷ []) rest) g.1,
-            subst (λ (cs : List ℕ). IsFrontOf (AssuredByCard bridge is_sure_node o m (map (swap a b) cs)) g.0) (append_assoc done (c ∷ []) rest) g.2,
-          )
+    -- ---- the cards one after another
 
-      one_at_ours : claims n ≡ false → bridge.is_ours n ≡ true → HaveOneFront n o (suc m)
-      one_at_ours off ours =
-          let on = goes_on n off in
-          let on_there = goes_on o (sym claims_same ∙ off) in
-          let g = by_cards [] (choices n) [] (λ c k. k) (steps.no_card n m) (steps.no_card o m) in (
+    -- what these cards give at the one node, and their twins at the other, has one front
+    record HaveOneOver (By : NodeValue → List ℕ → Vector → Type 0) (cards : List ℕ) (f : List Vector) : Type 0 where
+      first : IsFrontOf (By n cards) f
+      second : IsFrontOf (By o (map (swap a b) cards)) f
+
+    module _ (By : NodeValue → List ℕ → Vector → Type 0)
+        (step : (done : List ℕ) (c : ℕ) (f : List Vector) → Contains (choices n) c → HaveOneOver By done f → (u : List Vector) × HaveOneOver By (done ++ c ∷ []) u) where
+      over_each : (done rest : List ℕ) (f : List Vector) → ((c : ℕ) → Contains rest c → Contains (choices n) c) → HaveOneOver By done f → (g : List Vector) × HaveOneOver By (done ++ rest) g
+      over_each done [] f within both = (f, subst (λ (cs : List ℕ). HaveOneOver By cs f) (sym (append-nil done)) both)
+      over_each done (c ∷ rest) f within both =
+          let u = step done c f (within c (Contains-here c rest)) both in
+          let g = over_each (done ++ c ∷ []) rest u.0 (λ d k. within d (Contains-there c rest d k)) u.1 in
+          (g.0, subst (λ (cs : List ℕ). HaveOneOver By cs g.0) (append_assoc done (c ∷ []) rest) g.1)
+
+    -- the node after each card has one front with its twin
+    abbrev Below : ℕ → Type 0
+    Below m = (c : ℕ) → Contains (choices n) c → HaveOneFront (child n c) (child o (swap a b c)) m
+
+    twins_of : (done : List ℕ) (c : ℕ) → map (swap a b) (done ++ c ∷ []) ≡ map (swap a b) done ++ swap a b c ∷ []
+    twins_of done c = map-append (swap a b) done (c ∷ [])
+
+    module _ (m : ℕ) (off : claims n ≡ false) where
+      on : (is_some (decided n.position) ≡ false) × (is_sure_node n ≡ false)
+      on = goes_on n off
+
+      on_there : (is_some (decided o.position) ≡ false) × (is_sure_node o ≡ false)
+      on_there = goes_on o (sym claims_same ∙ off)
+
+      one_at_ours : Below m → is_declarers (to_play n.position) ≡ true → HaveOneFront n o (suc m)
+      one_at_ours below ours =
+          let By : NodeValue → List ℕ → Vector → Type 0 = λ p cs v. AssuredByCard bridge is_sure_node p m cs v in
+          let g = over_each By
+          (λ done c f choice both.
+          let h = below c choice in
+          let u = reduced_exists (f ++ h.0) in (
+            u.0,
+            record {
+              first = steps.more_cards n m done c f h.0 u.0 both.first h.1 u.1;
+              second = subst (λ (cs : List ℕ). IsFrontOf (By o cs) u.0) (sym (twins_of done c)) (steps.more_cards o m (map (swap a b) done) (swap a b c) f h.0 u.0 both.second h.2 u.1);
+            },
+          ))
+          [] (choices n) [] (λ c k. k) (record { first = steps.no_card n m; second = steps.no_card o m }) in (
             g.0,
-            steps.all_cards n m g.0 sound on.0 on.1 ours g.1,
+            steps.all_cards n m g.0 sound on.0 on.1 ours g.1.first,
             steps.all_cards o m g.0 other on_there.0 on_there.1 (sym (nodes-turn a b n o sound r) ∙ ours)
-                (front_same (AssuredByCard bridge is_sure_node o m (map (swap a b) (choices n))) (AssuredByCard bridge is_sure_node o m (choices o)) g.0
-                (λ v w. (w.0, there_all w.0 w.1, w.2)) (λ v w. (w.0, back w.0 w.1, w.2)) g.2),
+                (front_same (By o (map (swap a b) (choices n))) (By o (choices o)) g.0 (λ v w. (w.0, there_all w.0 w.1, w.2)) (λ v w. (w.0, back w.0 w.1, w.2)) g.1.second),
           )
 
-      -- and one reply after another
-      by_replies : (done rest : List ℕ) (f : List Vector) → ((c : ℕ) → Contains rest c → Contains (choices n) c)
-          → IsFrontOf (AssuredByReply bridge is_sure_node n m done) f → IsFrontOf (AssuredByReply bridge is_sure_node o m (map (swap a b) done)) f
-          → (g : List Vector) × IsFrontOf (AssuredByReply bridge is_sure_node n m (done ++ rest)) g × IsFrontOf (AssuredByReply bridge is_sure_node o m (map (swap a b) (done ++ rest))) g
-      by_replies done [] f within x y = (
-        f,
-        subst (λ (cs : List ℕ). IsFrontOf (AssuredByReply bridge is_sure_node n m cs) f) (sym (append-nil done)) x,
-        subst (λ (cs : List ℕ). IsFrontOf (AssuredByReply bridge is_sure_node o m (map (swap a b) cs)) f) (sym (append-nil done)) y,
-      )
-      by_replies done (c ∷ rest) f within x y =
-          let choice = within c (Contains-here c rest) in
+      one_at_theirs : Below (suc m) → is_declarers (to_play n.position) ≡ false → HaveOneFront n o (suc m)
+      one_at_theirs below theirs =
+          let By : NodeValue → List ℕ → Vector → Type 0 = λ p cs v. AssuredByReply bridge is_sure_node p (suc m) cs v in
+          let width : length (states o) ≡ length (states n) =
+          length-map o.lefts (λ left. record { position = o.position; left = left }) ∙ same_width ∙ sym (length-map n.lefts (λ left. record { position = n.position; left = left })) in
+          let g = over_each By
+          (λ done c f choice both.
           let h = below c choice in
           let u = reduced_exists (meets f (spreads (mask bridge n c) h.0)) in
-          let g = by_replies (done ++ c ∷ []) rest u.0 (λ d k. within d (Contains-there c rest d k))
-          (steps.more_replies n m done c f h.0 u.0 sound choice x h.1 u.1)
-          (subst (λ (cs : List ℕ). IsFrontOf (AssuredByReply bridge is_sure_node o m cs) u.0) (sym (map-append (swap a b) done (c ∷ [])))
-          (steps.more_replies o m (map (swap a b) done) (swap a b c) f h.0 u.0 other (there c choice) y h.2
-          (subst (λ (bits : Vector). IsReduced (meets f (spreads bits h.0)) u.0) (sym (masks c)) u.1))) in (
+          let there_too = subst (λ (bits : Vector). IsReduced (meets f (spreads bits h.0)) u.0) (sym (masks c)) u.1 in (
+            u.0,
+            record {
+              first = steps.more_replies n (suc m) done c f h.0 u.0 sound choice both.first h.1 u.1;
+              second = subst (λ (cs : List ℕ). IsFrontOf (By o cs) u.0) (sym (twins_of done c))
+                  (steps.more_replies o (suc m) (map (swap a b) done) (swap a b c) f h.0 u.0 other (there c choice) both.second h.2 there_too);
+            },
+          ))
+          [] (choices n) (replicate (length (states n)) true ∷ []) (λ c k. k)
+          (record { first = steps.no_reply n (suc m); second = subst (λ (k : ℕ). IsFrontOf (By o []) (replicate k true ∷ [])) width (steps.no_reply o (suc m)) }) in (
             g.0,
-            subst (λ (cs : List ℕ). IsFrontOf (AssuredByReply bridge is_sure_node n m cs) g.0) (append_assoc done (c ∷ []) rest) g.1,
-            subst (λ (cs : List ℕ). IsFrontOf (AssuredByReply bridge is_sure_node o m (map (swap a b) cs)) g.0) (append_assoc done (c ∷ []) rest) g.2,
+            steps.all_replies n m g.0 sound on.0 on.1 theirs g.1.first,
+            steps.all_replies o m g.0 other on_there.0 on_there.1 (sym (nodes-turn a b n o sound r) ∙ theirs)
+                (front_same (By o (map (swap a b) (choices n))) (By o (choices o)) g.0 (λ v w. (w.0, λ d k. w.1 d (back d k))) (λ v w. (w.0, λ d k. w.1 d (there_all d k))) g.1.second),
           )
-
-    one_at_theirs : (m : ℕ) → ((c : ℕ) → Contains (choices n) c → HaveOneFront (child n c) (child o (swap a b c)) (suc m)) → claims n ≡ false → bridge.is_ours n ≡ false → HaveOneFront n o (suc m)
-    one_at_theirs m below off theirs =
-        let on = goes_on n off in
-        let on_there = goes_on o (sym claims_same ∙ off) in
-        let width : length (states o) ≡ length (states n) = length-map o.lefts (λ left. record { position = o.position; left = left }) ∙ same_width ∙ sym (length-map n.lefts (λ left. record { position = n.position; left = left })) in
-        let all = replicate (length (states n)) true ∷ [] in
-        let g = by_replies (suc m) below [] (choices n) all (λ c k. k) (steps.no_reply n (suc m))
-        (subst (λ (k : ℕ). IsFrontOf (AssuredByReply bridge is_sure_node o (suc m) []) (replicate k true ∷ [])) width (steps.no_reply o (suc m))) in (
-          g.0,
-          steps.all_replies n m g.0 sound on.0 on.1 theirs g.1,
-          steps.all_replies o m g.0 other on_there.0 on_there.1 (sym (nodes-turn a b n o sound r) ∙ theirs)
-              (front_same (AssuredByReply bridge is_sure_node o (suc m) (map (swap a b) (choices n))) (AssuredByReply bridge is_sure_node o (suc m) (choices o)) g.0
-              (λ v w. (w.0, λ d k. w.1 d (back d k))) (λ v w. (w.0, λ d k. w.1 d (there_all d k))) g.2),
-        )
 
   one_front : (k : ℕ) (n o : NodeValue) (m : ℕ) → cards_left n.position < k → IsNode n → IsNode o → TwinNodes a b n o → HaveOneFront n o m
   one_front zero n o m few sound other r = absurd (omega arith)
@@ -206,20 +209,16 @@ module _ (a b : ℕ) (suit : suit_of a ≡ suit_of b) (order : a < b) (low : b <
       (λ (ends : claims n ≡ true). one_at_claim n o sound other r 0 ends)
       (λ (off : claims n ≡ false). one_at_stop n o sound other r off)
       (cases_Bool (claims n))
-  one_front (suc k) n o (suc m) few sound other r = go (λ below off ours. one_at_ours n o sound other r m below off ours) (λ below off theirs. one_at_theirs n o sound other r m below off theirs)
+  one_front (suc k) n o (suc m) few sound other r = go
       (λ off j c choice.
       let less = lawful.falls n c sound (goes_on n off).0 choice in
       one_front k (child n c) (child o (swap a b c)) j (omega arith) (lawful.holds n c sound choice) (lawful.holds o (swap a b c) other (there n o sound other r c choice)) (twins-child a b suit order low n o r c))
-      (cases_Bool (claims n)) (cases_Bool (bridge.is_ours n))
+      (cases_Bool (claims n)) (cases_Bool (is_declarers (to_play n.position)))
     where
-      Below : ℕ → Type 0
-      Below j = (c : ℕ) → Contains (choices n) c → HaveOneFront (child n c) (child o (swap a b c)) j
-
-      go : (Below m → claims n ≡ false → bridge.is_ours n ≡ true → HaveOneFront n o (suc m)) → (Below (suc m) → claims n ≡ false → bridge.is_ours n ≡ false → HaveOneFront n o (suc m))
-          → (claims n ≡ false → (j : ℕ) → Below j) → (claims n ≡ true) ⊎ (claims n ≡ false) → (bridge.is_ours n ≡ true) ⊎ (bridge.is_ours n ≡ false) → HaveOneFront n o (suc m)
-      go mine theirs below (inl ends) turn = one_at_claim n o sound other r (suc m) ends
-      go mine theirs below (inr off) (inl ours) = mine (below off m) off ours
-      go mine theirs below (inr off) (inr not_ours) = theirs (below off (suc m)) off not_ours
+      go : (claims n ≡ false → (j : ℕ) → Below n o sound other r j) → (claims n ≡ true) ⊎ (claims n ≡ false) → (is_declarers (to_play n.position) ≡ true) ⊎ (is_declarers (to_play n.position) ≡ false) → HaveOneFront n o (suc m)
+      go below (inl ends) turn = one_at_claim n o sound other r (suc m) ends
+      go below (inr off) (inl ours) = one_at_ours n o sound other r m off (below off m) ours
+      go below (inr off) (inr theirs) = one_at_theirs n o sound other r m off (below off (suc m)) theirs
 
 -- ---- after two equal cards of declarer's side
 

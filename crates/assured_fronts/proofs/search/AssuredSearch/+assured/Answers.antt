@@ -183,19 +183,13 @@ visit-returns-in_err-enter-clause-costs t c =
     costs_none ⊥ (tree_size bridge c.args.node.now c.args.moves) c.args.self.now.budget.now.left c.enter.new.self.left c.from_residual.result c.in_err-enter.field-0.0 c.from_residual.ensures.1 (tree_size-positive c.args.node.now c.args.moves) c.in_err-enter.ensures.spent.0 c.in_err-enter.ensures.spent.1
 
 pub visit-returns-in_err-settled-clause-costs : goal.visit-returns-in_err-settled-clause-costs
-visit-returns-in_err-settled-clause-costs t c =
-    memory_once c.args.node.now c.args.moves c.args.self.now.budget.now.left c.enter.new.self.left c.from_residual-in_err-settled.result c.from_residual-in_err-settled.ensures.1 c.in_ok-enter.ensures.paid
+visit-returns-in_err-settled-clause-costs t c = memory_once c.args.node.now c.args.moves c.args.self.now.budget.now.left c.enter.new.self.left c.from_residual-in_err-settled.result c.from_residual-in_err-settled.ensures.1 c.in_ok-enter.ensures.paid
 
 pub visit-returns-in_ok-settled-clause-costs : goal.visit-returns-in_ok-settled-clause-costs
-visit-returns-in_ok-settled-clause-costs t c =
-    costs_one ⊥ (tree_size bridge c.args.node.now c.args.moves) c.args.self.now.budget.now.left c.enter.new.self.left c.in_ok-settled.field-0
-    (λ each. absurd each) (tree_size-positive c.args.node.now c.args.moves) c.in_ok-enter.ensures.paid
+visit-returns-in_ok-settled-clause-costs t c = costs_one ⊥ (tree_size bridge c.args.node.now c.args.moves) c.args.self.now.budget.now.left c.enter.new.self.left c.in_ok-settled.field-0 (λ each. absurd each) (tree_size-positive c.args.node.now c.args.moves) c.in_ok-enter.ensures.paid
 
 pub visit-returns-in_err-open_stop-clause-costs : goal.visit-returns-in_err-open_stop-clause-costs
-visit-returns-in_err-open_stop-clause-costs t c =
-    memory_once c.args.node.now c.args.moves c.args.self.now.budget.now.left c.enter.new.self.left c.from_residual-in_err-open_stop.result c.from_residual-in_err-open_stop.ensures.1 c.in_ok-enter.ensures.paid
+visit-returns-in_err-open_stop-clause-costs t c = memory_once c.args.node.now c.args.moves c.args.self.now.budget.now.left c.enter.new.self.left c.from_residual-in_err-open_stop.result c.from_residual-in_err-open_stop.ensures.1 c.in_ok-enter.ensures.paid
 
 pub visit-returns-in_ok-open_stop-clause-costs : goal.visit-returns-in_ok-open_stop-clause-costs
-visit-returns-in_ok-open_stop-clause-costs t c =
-    costs_one ⊥ (tree_size bridge c.args.node.now c.args.moves) c.args.self.now.budget.now.left c.enter.new.self.left c.in_ok-open_stop.field-0
-    (λ each. absurd each) (tree_size-positive c.args.node.now c.args.moves) c.in_ok-enter.ensures.paid
+visit-returns-in_ok-open_stop-clause-costs t c = costs_one ⊥ (tree_size bridge c.args.node.now c.args.moves) c.args.self.now.budget.now.left c.enter.new.self.left c.in_ok-open_stop.field-0 (λ each. absurd each) (tree_size-positive c.args.node.now c.args.moves) c.in_ok-enter.ensures.paid
