@@ -120,28 +120,6 @@ fn push_makers(page: &mut Page, place: u16, lines: &[Line]) -> Result<(), AllocE
     page.own(b".</p></li>\n")
 }
 
-fn push_each_layout(
-    page: &mut Page,
-    declarer: Compass,
-    node: &Node,
-    by_weight: bool,
-    weights: &Weights,
-    lines: &[Line],
-) -> Result<(), AllocError>
-    requires { length weights.now ≡ length node.now.lefts }
-    ensures { OnOk result (page.new ≡ page.old
-        ++ flat_map (layout_at declarer node.now by_weight weights.now lines.now)
-        (range_with_len 0 (length node.now.lefts))) }
-{
-    let lefts = node.lefts();
-    for place in 0..node.width() {
-        push_hands(page, declarer, node.position(), lefts[usize::from(place)])?;
-        push_worth(page, by_weight, weights.get(place))?;
-        push_makers(page, place, lines)?;
-    }
-    Ok(())
-}
-
 /// Adds the layouts of a node in order: the defenders' hands, the weight of each if layouts are
 /// weighed, and the lines that make it.
 #[tactic(auto, unfolding(crate::specs::Layouts::layouts))]
@@ -158,7 +136,13 @@ pub fn push_layouts(
         ++ layouts declarer node.now by_weight weights.now lines.now) }
 {
     page.own(LAYOUTS)?;
-    push_each_layout(page, declarer, node, by_weight, weights, lines)
+    let lefts = node.lefts();
+    for place in 0..node.width() {
+        push_hands(page, declarer, node.position(), lefts[usize::from(place)])?;
+        push_worth(page, by_weight, weights.get(place))?;
+        push_makers(page, place, lines)?;
+    }
+    Ok(())
 }
 
 fn push_each_number(page: &mut Page, numbers: &[u16]) -> Result<(), AllocError>
