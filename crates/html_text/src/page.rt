@@ -1,5 +1,5 @@
 //! A page as pieces.
-ghost use Rattle.std.specs.Prelude.{◌≡◌, ◌++◌, [], IfOk, OnOk};
+ghost use Rattle.std.specs.Prelude.{◌≡◌, ◌++◌, ◌∷◌, [], IfOk, OnOk};
 ghost use Rattle.std.specs.Fmt.{decimal};
 ghost use Rattle.html_text.specs.Pages.{own as own_piece, told as told_piece, piece_text, written as written_as};
 
@@ -42,28 +42,28 @@ impl Page {
         }
     }
 
+    // Adds a piece.
+    fn add(&mut self, is_own: bool, text: &[u8]) -> Result<(), AllocError>
+        ensures { OnOk result (self.new ≡ self.old
+            ++ (record { is_own = is_own; bytes = text.now } ∷ [])) }
+    {
+        let bytes = Text::from_bytes(self.alloc, text)?;
+        self.pieces.push(Piece { is_own, bytes })?;
+        Ok(())
+    }
+
     /// Adds markup of the page's own, which is a constant of the program: no text of a file is.
     pub fn own(&mut self, markup: &'static [u8]) -> Result<(), AllocError>
         ensures { OnOk result (self.new ≡ self.old ++ own_piece markup.now) }
     {
-        let bytes = Text::from_bytes(self.alloc, markup)?;
-        self.pieces.push(Piece {
-            is_own: true,
-            bytes,
-        })?;
-        Ok(())
+        self.add(true, markup)
     }
 
     /// Adds text, whatever it says.
     pub fn told(&mut self, text: &[u8]) -> Result<(), AllocError>
         ensures { OnOk result (self.new ≡ self.old ++ told_piece text.now) }
     {
-        let bytes = Text::from_bytes(self.alloc, text)?;
-        self.pieces.push(Piece {
-            is_own: false,
-            bytes,
-        })?;
-        Ok(())
+        self.add(false, text)
     }
 
     /// Adds a number in decimal digits.
@@ -73,6 +73,21 @@ impl Page {
         let mut digits = Text::new(self.alloc);
         digits.push_number(self.alloc, number)?;
         self.told(digits.bytes())
+    }
+
+    /// Adds a number in decimal digits between markup of the page's own.
+    pub fn number_between(
+        &mut self,
+        before: &'static [u8],
+        number: u64,
+        after: &'static [u8],
+    ) -> Result<(), AllocError>
+        ensures { OnOk result (self.new ≡ self.old
+            ++ own_piece before.now ++ told_piece (decimal number) ++ own_piece after.now) }
+    {
+        self.own(before)?;
+        self.number(number)?;
+        self.own(after)
     }
 
     /// The page as it is written: text that is told is escaped.

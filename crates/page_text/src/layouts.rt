@@ -47,9 +47,7 @@ fn push_hands(
 fn push_weight(page: &mut Page, weight: u32) -> Result<(), AllocError>
     ensures { OnOk result (page.new ≡ page.old ++ weight_note weight) }
 {
-    page.own(WEIGHS)?;
-    page.number(u64::from(weight))?;
-    page.own(b". ")
+    page.number_between(WEIGHS, u64::from(weight), b". ")
 }
 
 // Adds what a layout weighs, if layouts are weighed.

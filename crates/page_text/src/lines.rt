@@ -57,9 +57,7 @@ pub fn push_cells(page: &mut Page, vector: WinVector) -> Result<(), AllocError>
 fn push_column(page: &mut Page, number: u16) -> Result<(), AllocError>
     ensures { OnOk result (page.new ≡ page.old ++ column number) }
 {
-    page.own(COLUMN)?;
-    page.number(u64::from(number))?;
-    page.own(b"</th>")
+    page.number_between(COLUMN, u64::from(number), b"</th>")
 }
 
 /// Adds the numbers of this many layouts, each above its column.

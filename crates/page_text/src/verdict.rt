@@ -145,7 +145,5 @@ pub fn push_horizon(page: &mut Page, position: &Position, moves: u8) -> Result<(
     if left <= u16::from(moves) {
         return page.own(ALL_PLANNED);
     }
-    page.own(PLANNED)?;
-    page.number(u64::from(moves))?;
-    page.own(PLANNED_END)
+    page.number_between(PLANNED, u64::from(moves), PLANNED_END)
 }
