@@ -31,7 +31,7 @@ PROGRAMS = ("alphamu", "alphamu_study")
 DOCS = "share/doc/alphamu"
 # What people read, with the folders that come whole.
 PAGES = ("README.md", "CHANGELOG.md", "docs/USING.md", "docs/REFUSALS.md", "docs/PROGRAMS.md", "docs/FORMS.md", "docs/SCALING.md",
-         "docs/PROVED.md", "docs/TESTED.md", "docs/SPEED.md", "docs/definitions", "bindings/README.md", "bindings/c/README.md", "examples")
+         "docs/PROVED.md", "docs/TESTED.md", "docs/SPEED.md", "docs/pictures", "docs/definitions", "bindings/README.md", "bindings/c/README.md", "examples")
 LINK = re.compile(r"(?<!!)\[([^]]*)\]\(([^)#\s]*)(#[^)\s]*)?\)")
 COMMAND = re.compile(r"^(    (?:timeout \d+ )?)\./(alphamu|study) ", re.M)
 INSTALLED = {"alphamu": "alphamu", "study": "alphamu_study"}
