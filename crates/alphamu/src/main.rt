@@ -10,7 +10,7 @@ use am_line::refuse;
 use am_match::{Defender, HighCard, LowCard};
 use am_outside::{FileShelf, OpenGate, Shelf, Sink, StdSink};
 use am_top::{Status, run};
-use std::alloc::{AllocError, Global};
+use std::alloc::AllocError;
 use std::process::ExitCode;
 use std::thread::Threads;
 use std::{env, io};
@@ -25,14 +25,14 @@ fn words_given(rt: &HostRuntime) -> io::Result<Vec<String>> {
 }
 
 // Runs the words at a table of two defenders who play low and a third, in reserve, who plays high.
-fn run_at_table<R: Threads + Sync, S: Shelf, O: Sink, E: Sink>(
+fn run_at_table<R: Threads + Sync + AllocGlobal, S: Shelf, O: Sink, E: Sink>(
     rt: &R,
-    alloc: Global,
     words: &[String],
     shelf: &mut S,
     out: &mut O,
     err: &mut E,
 ) -> Result<Status, AllocError> {
+    let alloc = rt.alloc();
     let mut table: Vec<Box<dyn Defender>> = Vec::new(alloc);
     table.push(Box::new(alloc, LowCard::new())?)?;
     table.push(Box::new(alloc, LowCard::new())?)?;
@@ -46,7 +46,7 @@ fn main(rt: HostRuntime) -> ExitCode {
     let mut out = StdSink::new(rt.stdout());
     let mut err = StdSink::new(rt.stderr());
     let status = match words_given(&rt) {
-        Ok(words) => match run_at_table(&rt, rt.alloc(), &words, &mut shelf, &mut out, &mut err) {
+        Ok(words) => match run_at_table(&rt, &words, &mut shelf, &mut out, &mut err) {
             Ok(status) => status,
             Err(_) => refuse(Status::Memory, &mut err),
         },
