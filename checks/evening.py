@@ -62,7 +62,7 @@ def told(given, room, number, nodes):
 
 
 def csv_of(texts):
-    """The CSV that has the values of what is told of each game."""
+    """The CSV with the values that the text has of each game."""
     rows = [[b"game", *review.FIELDS, b"refused"]]
     for number, text in enumerate(texts, 1):
         said = text.removeprefix(b"refused ").rstrip(b"\n")
@@ -84,7 +84,7 @@ def json_of(texts, costly, greatest):
 
 
 def judge(given, room, games, nodes):
-    """What is wrong with the reviews of all games, and what was told of each."""
+    """What is wrong with the reviews of all games, and what the text said of each."""
     with ThreadPoolExecutor(given.jobs) as pool:
         each = list(pool.map(lambda number: told(given, room, number, nodes), range(1, games + 1)))
     texts, decisions, costly, greatest = zip(*each)

@@ -125,7 +125,7 @@ class Browser:
 
 
 def events_at_fault(browser, address):
-    """What the page loaded, ran into or was told off for."""
+    """What the page loaded or ran, and what the browser logged of it."""
     for event in browser.events:
         name, told = event.get("method"), event.get("params", {})
         if name == "Network.requestWillBeSent" and told["request"]["url"] != address:
