@@ -1,0 +1,28 @@
+use Rattle.std.proofs.Common.{◌≤◌, ◌+◌, ◌*◌, length, drop}
+use Rattle.strategy_games.specs.Plans.{Hear}
+use Rattle.strategy_tree.specs.PlanMeaning.{plan_of, replies_of}
+use Rattle.strategy_tree.specs.PlanText.{levels_of, levels_below}
+use Rattle.line_partings.specs.Partings.{IsWhereTheyPart}
+use Rattle.line_partings.proofs.walk.+walk.Given as goal
+
+abbrev pub decreases-first_parting : goal.decreases-first_parting
+decreases-first_parting l = 4 * levels_of (plan_of l.plan.now)
+
+abbrev pub decreases-parting_play : goal.decreases-parting_play
+decreases-parting_play l = 4 * levels_of (plan_of l.rest.now) + 1
+
+abbrev pub decreases-parting_hear : goal.decreases-parting_hear
+decreases-parting_hear l = 4 * levels_below (replies_of l.replies.now) + 3
+
+abbrev pub decreases-parting_replies : goal.decreases-parting_replies
+decreases-parting_replies l = 4 * levels_below (replies_of l.replies.now) + 2
+
+-- where the two part behind the replies from a place on
+abbrev pub invariant-parting_replies-replies : goal.invariant-parting_replies-replies
+invariant-parting_replies-replies l = record {
+  within : l.place ≤ length l.replies;
+  nearest : IsWhereTheyPart (Hear (replies_of (drop l.place l.replies))) (Hear (replies_of (drop l.place l.others))) l.found;
+}
+
+abbrev pub decreases-parting_replies-replies : goal.decreases-parting_replies-replies
+decreases-parting_replies-replies l = l.place
