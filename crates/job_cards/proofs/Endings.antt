@@ -15,8 +15,11 @@ use Rattle.job_cards.specs.Cards.{IsCardsText, IsCardsRefusal}
 
 -- the same root, once as it is and once as it is opened
 module _ (opened root : Root) (same : opened ≡ root) (moves : ℕ) where
-  pub text_of : (form : Form) (table : CardTable) (text : List ℕ) → IsTableUpTo opened.kept.node opened.kept.weights moves table → text ≡ cards_in form opened.kept.weights table → IsCardsText root moves form text
-  text_of form table text is written = subst (λ (r : Root). IsCardsText r moves form text) same (table, is, written)
+  pub table_of : (table : CardTable) → IsTableUpTo opened.kept.node opened.kept.weights moves table → IsTableUpTo root.kept.node root.kept.weights moves table
+  table_of table is = subst (λ (r : Root). IsTableUpTo r.kept.node r.kept.weights moves table) same is
+
+  pub text_of : (form : Form) (table : CardTable) (text : List ℕ) → IsTableUpTo root.kept.node root.kept.weights moves table → text ≡ cards_in form opened.kept.weights table → IsCardsText root moves form text
+  text_of form table text is written = (table, is, subst (λ (r : Root). text ≡ cards_in form r.kept.weights table) same written)
 
   refused : (s : Search) (fault : RootFault) → ((card : ℕ) → fault ≡ Spent card → IsSpentAt root.kept.node moves s.nodes card) → IsCardsRefusal root moves s (root_status fault)
   refused s (Spent card) spent = spent card refl

@@ -1,12 +1,13 @@
-//! What is known of each card of a root, as a text.
+//! What is known of each card of a root, as a table and as a text.
 ghost use Rattle.std.specs.Prelude.{◌≡◌, true, IfOk, IfErr, length};
 ghost use Rattle.job_words.specs.Asks.{IsMoves, IsSearchWithinLimits};
 ghost use Rattle.am_answer.specs.Answers.{has_choice};
+ghost use Rattle.card_brackets.specs.Rows.{IsTableUpTo};
 ghost use Rattle.job_cards.specs.Cards.{IsCardsText, IsCardsRefusal};
 
 use am_answer::{Root, Status};
 use byte_text::Text;
-use card_brackets::card_table;
+use card_brackets::{CardTable, card_table};
 use card_forms::cards_in;
 use job_words::Search;
 use root_answers::{options_of, table_of};
@@ -16,8 +17,37 @@ use text_forms::Form;
 
 /// Every legal card of a root with the bounds of the weight that it wins, for at most `moves` moves
 /// of declarer's side: the least number of moves with which each card is final, or else that one.
-/// They are written in the form. One worker does all the work. Errors: `Spent` at a root card whose
-/// tree has more nodes than a search may enter; `Memory`.
+/// One worker does all the work. Errors: `Spent` at a root card whose tree has more nodes than a
+/// search may enter; `Memory`.
+pub fn cards_of(
+    alloc: Global,
+    root: &Root,
+    moves: u8,
+    search: &Search,
+) -> Result<CardTable, Status>
+    requires turn { has_choice root.now.kept.node ≡ true }
+    requires weighed { length root.now.kept.weights ≡ length root.now.kept.node.lefts }
+    requires moves { IsMoves moves }
+    requires limits { IsSearchWithinLimits search.now }
+    ensures table { IfOk result
+        (IsTableUpTo root.now.kept.node root.now.kept.weights moves) }
+    ensures refused { IfErr result (IsCardsRefusal root.now moves search.now) }
+{
+    let options = options_of(search);
+    let (table, mut pass) = table_of(alloc, search)?;
+    let question = Question {
+        alloc,
+        node: &root.kept.node,
+        moves,
+        weights: &root.kept.weights,
+        options: &options,
+        table: &table,
+    };
+    let found = card_table(&question, &mut pass)?;
+    Ok(found)
+}
+
+/// The same, written in the form. Errors: those of `cards_of`.
 pub fn tell_cards(
     alloc: Global,
     root: &Root,
@@ -32,16 +62,6 @@ pub fn tell_cards(
     ensures text { IfOk result (IsCardsText root.now moves form) }
     ensures refused { IfErr result (IsCardsRefusal root.now moves search.now) }
 {
-    let options = options_of(search);
-    let (table, mut pass) = table_of(alloc, search)?;
-    let question = Question {
-        alloc,
-        node: &root.kept.node,
-        moves,
-        weights: &root.kept.weights,
-        options: &options,
-        table: &table,
-    };
-    let found = card_table(&question, &mut pass)?;
-    Ok(cards_in(alloc, form, question.weights, &found)?)
+    let found = cards_of(alloc, root, moves, search)?;
+    Ok(cards_in(alloc, form, &root.kept.weights, &found)?)
 }

@@ -1,17 +1,19 @@
 -- The page holds the report.
-use Rattle.std.proofs.Common.{◌≡◌, ◌∙◌, ◌++◌, ℕ, List, [], ap, append_assoc}
+use Rattle.std.proofs.Common.{◌≡◌, ◌∙◌, ◌++◌, ℕ, Option, is_some, List, [], ap, append_assoc}
 use Rattle.std.proofs.lemmas.Grind.{flat_map-append}
 use Rattle.pbn_text.specs.Games.{GameValue}
 use Rattle.pbn_deal.specs.Boards.{BoardValue}
 use Rattle.layout_list.specs.Kept.{KeptValue}
 use Rattle.am_report.specs.Reading.{ReadReportValue}
+use Rattle.card_brackets.specs.declared.table.CardTable.{CardTable}
 use Rattle.html_text.specs.declared.page.Piece.{Piece}
 use Rattle.html_text.specs.Escapes.{escape}
 use Rattle.html_text.specs.Pages.{own, piece_text, written}
 use Rattle.page_text.specs.declared.lines.Line.{Line}
 use Rattle.page_text.specs.declared.markup.TheConstants.{END, REPORT, REPORT_END}
 use Rattle.page_text.specs.Frames.{report}
-use Rattle.page_report.specs.ReportPages.{top, middle, page, HoldsReport, HoldsItsReport}
+use Rattle.page_text.specs.Cards.{cards}
+use Rattle.page_report.specs.ReportPages.{scale_of, top, middle, page, HoldsReport, HoldsItsReport}
 
 joined : (a b : List Piece) → written (a ++ b) ≡ written a ++ written b
 joined a b = flat_map-append piece_text a b
@@ -26,13 +28,16 @@ holds front back bytes =
     joined (front ++ report bytes) back ∙ ap (λ t. t ++ written back) (joined front (report bytes)) ∙ append_assoc (written front) (written (report bytes)) (written back)
     ∙ ap (λ t. written front ++ t) (three REPORT.now (escape bytes) REPORT_END.now (written back))
 
-text_holds : (game : GameValue) (board : BoardValue) (kept : KeptValue) (read : ReadReportValue) (bytes : List ℕ) (lines : List Line) (text : List ℕ) → text ≡ written (page game board kept read bytes lines) → HoldsReport bytes text
+text_holds : (game : GameValue) (board : BoardValue) (kept : KeptValue) (read : ReadReportValue) (bytes : List ℕ) (known : Option CardTable) (lines : List Line) (text : List ℕ)
+    → text ≡ written (page game board kept read bytes known lines) → HoldsReport bytes text
 unfolding page
-text_holds game board kept read bytes lines text is = record {
-  before = written (top game board kept read lines ++ middle board kept read lines);
-  after = written (own END.now);
-  is_text = is ∙ holds (top game board kept read lines ++ middle board kept read lines) (own END.now) bytes;
-}
+text_holds game board kept read bytes known lines text is =
+    let front = top game board kept read (is_some known) lines ++ cards (scale_of kept read.version) known ++ middle board kept read lines in
+    record {
+      before = written front;
+      after = written (own END.now);
+      is_text = is ∙ holds front (own END.now) bytes;
+    }
 
 pub page_holds : HoldsItsReport
-page_holds game board kept read bytes text is = text_holds game board kept read bytes is.lines text is.is_text
+page_holds game board kept read bytes known text is = text_holds game board kept read bytes known is.lines text is.is_text

@@ -1,9 +1,9 @@
 -- The page of a report at a root.
-use Rattle.std.specs.Prelude.{◌≡◌, ℕ, ◌+◌, Bool, true, false, Option, None, Some, List, [], ◌∷◌, ◌++◌, length, sum, map, flat_map, codes}
+use Rattle.std.specs.Prelude.{◌≡◌, ℕ, ◌+◌, Bool, true, false, not, Option, None, Some, is_some, List, [], ◌∷◌, ◌++◌, length, sum, map, flat_map, codes, if◌then◌else◌}
 use Rattle.std.specs.Fmt.{decimal}
 use Rattle.std.specs.Option.{option_map}
 use Rattle.card_sets.specs.declared.seat.Compass.{Compass}
-use Rattle.trick_rules.specs.Positions.{to_play}
+use Rattle.trick_rules.specs.Positions.{PositionValue, to_play}
 use Rattle.trick_rules.specs.Nodes.{NodeValue}
 use Rattle.win_vectors.specs.Weights.{weight_of}
 use Rattle.fusion_base.specs.declared.table.CardVector.{CardVector}
@@ -24,15 +24,19 @@ use Rattle.told_plans.specs.Told.{Told}
 use Rattle.told_layouts.specs.Looking.{step_layouts}
 use Rattle.told_words.specs.Words.{told_text}
 use Rattle.told_report.specs.ToldReport.{AreToldOf}
+use Rattle.card_brackets.specs.declared.table.CardTable.{CardTable}
 use Rattle.html_text.specs.declared.page.Piece.{Piece}
 use Rattle.html_text.specs.Pages.{own, told, written}
 use Rattle.html_text.specs.Escapes.{escape}
 use Rattle.page_text.specs.declared.beliefs.Belief.{Belief}
 use Rattle.page_text.specs.declared.lines.Line.{Line}
 use Rattle.page_text.specs.declared.markup.TheConstants.{NAVIGATION, END, REPORT, REPORT_END}
+use Rattle.page_text.specs.declared.verdict.Rivals.{Rivals}
+use Rattle.page_text.specs.declared.verdict.Rivals.TheVariants.{Reported, Planned, All}
 use Rattle.page_text.specs.declared.verdict.Scale.{Scale}
+use Rattle.page_text.specs.Cards.{cards}
 use Rattle.page_text.specs.Frames.{TagValues, start, facts, report}
-use Rattle.page_text.specs.Verdicts.{headline, promise, horizon}
+use Rattle.page_text.specs.Verdicts.{headline, promise, plans_all, horizon}
 use Rattle.page_text.specs.Tables.{table}
 use Rattle.page_text.specs.Lines.{trade_offs, lines_pieces}
 use Rattle.page_text.specs.Beliefs.{sampling}
@@ -109,15 +113,22 @@ left_out dropped = flat_map dropped_pieces dropped ++ own DROPPED_END.now
 
 -- ---- the page
 
+-- the lines that make no more than the best of a report, if it has the best of all that plan as many moves or not
+abbrev pub rivals_of : Bool → PositionValue → ℕ → Rivals
+rivals_of is_best position moves = if not is_best then Reported else if plans_all position moves then All else Planned
+
 -- the card to play, what it keeps, and how far the lines are planned
-unfoldable pub verdict : KeptValue → ReadReportValue → List Line → List Piece
-verdict kept read lines =
-    headline kept.node.position read.card ++ promise (scale_of kept read.version) read.card lines ++ horizon kept.node.position read.moves
+unfoldable pub verdict : Bool → KeptValue → ReadReportValue → List Line → List Piece
+verdict is_best kept read lines =
+    headline kept.node.position read.card
+    ++ promise (scale_of kept read.version) (rivals_of is_best kept.node.position read.moves) read.card lines
+    ++ horizon kept.node.position read.moves
 
 -- the top of the page
-unfoldable pub top : GameValue → BoardValue → KeptValue → ReadReportValue → List Line → List Piece
-top game board kept read lines =
-    start read.card ++ facts (tags_of game) (compass_of board.declarer (to_play kept.node.position)) ++ verdict kept read lines ++ own NAVIGATION.now
+unfoldable pub top : GameValue → BoardValue → KeptValue → ReadReportValue → Bool → List Line → List Piece
+top game board kept read is_best lines =
+    start read.card ++ facts (tags_of game) (compass_of board.declarer (to_play kept.node.position))
+    ++ verdict is_best kept read lines ++ own NAVIGATION.now
 
 -- the lines side by side, with what plain sampling believes, and in words
 unfoldable pub play : KeptValue → ReadReportValue → List Line → List Piece
@@ -134,15 +145,16 @@ all_layouts board kept read lines =
 unfoldable pub middle : BoardValue → KeptValue → ReadReportValue → List Line → List Piece
 middle board kept read lines = table board.declarer kept.node ++ play kept read lines ++ all_layouts board kept read lines
 
--- the page, which ends with the report
-unfoldable pub page : GameValue → BoardValue → KeptValue → ReadReportValue → List ℕ → List Line → List Piece
-page game board kept read bytes lines = top game board kept read lines ++ middle board kept read lines ++ report bytes ++ own END.now
+-- the page, which ends with the report: with every legal card, if the report was searched for
+unfoldable pub page : GameValue → BoardValue → KeptValue → ReadReportValue → List ℕ → Option CardTable → List Line → List Piece
+page game board kept read bytes known lines =
+    top game board kept read (is_some known) lines ++ cards (scale_of kept read.version) known ++ middle board kept read lines ++ report bytes ++ own END.now
 
--- a page of a report
-pub record IsReportPage (game : GameValue) (board : BoardValue) (kept : KeptValue) (read : ReadReportValue) (bytes text : List ℕ) : Type 0 where
+-- a page of a report, with every legal card if it was searched for
+pub record IsReportPage (game : GameValue) (board : BoardValue) (kept : KeptValue) (read : ReadReportValue) (bytes : List ℕ) (known : Option CardTable) (text : List ℕ) : Type 0 where
   pub lines : List Line
   pub are_lines : AreLines board.declarer kept.node read.entries lines
-  pub is_text : text ≡ written (page game board kept read bytes lines)
+  pub is_text : text ≡ written (page game board kept read bytes known lines)
 
 -- a text has these bytes, escaped and nothing else, in the element that the report stands in
 pub record HoldsReport (bytes text : List ℕ) : Type 0 where
@@ -152,4 +164,5 @@ pub record HoldsReport (bytes text : List ℕ) : Type 0 where
 
 -- the page of a report holds that report
 abbrev pub HoldsItsReport : Type 0
-HoldsItsReport = (game : GameValue) (board : BoardValue) (kept : KeptValue) (read : ReadReportValue) (bytes text : List ℕ) → IsReportPage game board kept read bytes text → HoldsReport bytes text
+HoldsItsReport = (game : GameValue) (board : BoardValue) (kept : KeptValue) (read : ReadReportValue) (bytes : List ℕ) (known : Option CardTable) (text : List ℕ)
+    → IsReportPage game board kept read bytes known text → HoldsReport bytes text

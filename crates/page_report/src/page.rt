@@ -1,6 +1,6 @@
 //! The page, part by part.
 ghost use Rattle.std.specs.Prelude.{◌≡◌, ◌++◌, ℕ, false, true, sum, All, IfOk, OnOk, length};
-ghost use Rattle.std.specs.Prelude.{option_copied};
+ghost use Rattle.std.specs.Prelude.{is_some, option_copied};
 ghost use Rattle.trick_rules.specs.Positions.{to_play};
 ghost use Rattle.trick_rules.specs.Play.{is_declarers, is_over};
 ghost use Rattle.strategy_games.specs.Plans.{Fits};
@@ -9,7 +9,7 @@ ghost use Rattle.pbn_deal.specs.Tags.{tag_named};
 ghost use Rattle.am_report.specs.Reading.{report_of};
 ghost use Rattle.page_text.specs.Frames.{told_by};
 ghost use Rattle.page_report.specs.ReportPages.{scale_of, is_weighed, value_of as value_in};
-ghost use Rattle.page_report.specs.ReportPages.{tags_of};
+ghost use Rattle.page_report.specs.ReportPages.{tags_of, rivals_of};
 ghost use Rattle.page_report.specs.ReportPages.{beliefs_of as beliefs_at, verdict, top, play};
 ghost use Rattle.page_report.specs.ReportPages.{all_layouts, middle, page as page_of, IsReportPage};
 
@@ -18,16 +18,18 @@ use crate::dropped::push_left_out;
 use crate::lines::lines_of;
 use am_report::{ReadReport, Version};
 use byte_text::Text;
+use card_brackets::CardTable;
 use html_text::Page;
 use layout_list::Kept;
 use page_text::{
-    Belief, Line, Scale, Tags, push_end, push_facts, push_headline, push_horizon, push_layouts,
-    push_lines, push_navigation, push_numbers, push_promise, push_report, push_sampling,
-    push_start, push_table, push_trade_offs,
+    Belief, Line, Rivals, Scale, Tags, plans_all, push_cards, push_end, push_facts, push_headline,
+    push_horizon, push_layouts, push_lines, push_navigation, push_numbers, push_promise,
+    push_report, push_sampling, push_start, push_table, push_trade_offs,
 };
 use pbn_deal::Board;
 use pbn_text::{Game, Tag};
 use std::alloc::{AllocError, Global};
+use trick_rules::Position;
 use win_vectors::{Weights, WinVector};
 
 /// A report at a root, to be shown.
@@ -42,6 +44,9 @@ pub struct Shown<'a> {
     pub report: &'a ReadReport,
     /// The bytes that the report was read from.
     pub bytes: &'a Text,
+    /// Every legal card at the root, if the report was searched for here: then it has the best
+    /// lines of all.
+    pub cards: Option<&'a CardTable>,
 }
 
 // What all layouts weigh together.
@@ -93,26 +98,50 @@ fn tags_of(game: &Game) -> Tags<'_>
     }
 }
 
+// Whether a report has the best lines of all that plan as many cards: it was searched for.
+fn has_best(shown: &Shown) -> bool
+    ensures { result ≡ is_some (option_copied shown.now.cards) }
+{
+    matches!(shown.cards, Some(_))
+}
+
+// The lines that make no more than the best of the report.
+fn rivals_of(is_best: bool, position: &Position, moves: u8) -> Rivals
+    ensures { result ≡ rivals_of is_best position.now moves }
+{
+    if !is_best {
+        Rivals::Reported
+    } else if plans_all(position, moves) {
+        Rivals::All
+    } else {
+        Rivals::Planned
+    }
+}
+
 #[tactic(auto, unfolding(crate::specs::ReportPages::verdict))]
 fn push_verdict(
     page: &mut Page,
+    is_best: bool,
     kept: &Kept,
     report: &ReadReport,
     lines: &[Line],
 ) -> Result<(), AllocError>
     ensures { OnOk result (page.new
-        ≡ page.old ++ verdict kept.now (report_of report.now) lines.now) }
+        ≡ page.old ++ verdict is_best kept.now (report_of report.now) lines.now) }
 {
     let position = kept.node.position();
+    let scale = scale_of(kept, report.version);
+    let rivals = rivals_of(is_best, position, report.moves);
     push_headline(page, position, report.card)?;
-    push_promise(page, scale_of(kept, report.version), report.card, lines)?;
+    push_promise(page, scale, rivals, report.card, lines)?;
     push_horizon(page, position, report.moves)
 }
 
 #[tactic(auto, unfolding(crate::specs::ReportPages::top))]
 fn push_top(page: &mut Page, alloc: Global, shown: &Shown, lines: &[Line]) -> Result<(), AllocError>
     ensures { OnOk result (page.new ≡ page.old ++ top shown.now.game.now shown.now.board.now
-        shown.now.kept.now (report_of shown.now.report.now) lines.now) }
+        shown.now.kept.now (report_of shown.now.report.now)
+        (is_some (option_copied shown.now.cards)) lines.now) }
 {
     let board = shown.board;
     let kept = shown.kept;
@@ -124,7 +153,7 @@ fn push_top(page: &mut Page, alloc: Global, shown: &Shown, lines: &[Line]) -> Re
         &tags_of(shown.game),
         board.compass(kept.node.position().to_play()),
     )?;
-    push_verdict(page, kept, report, lines)?;
+    push_verdict(page, has_best(shown), kept, report, lines)?;
     push_navigation(page)
 }
 
@@ -186,11 +215,13 @@ fn page_of(alloc: Global, shown: &Shown, found: &Found) -> Result<Page, AllocErr
     requires beliefs { found.now.beliefs.items ≡ beliefs_at shown.now.kept.now }
     ensures { IfOk result (λ page. page ≡ page_of shown.now.game.now shown.now.board.now
         shown.now.kept.now (report_of shown.now.report.now) shown.now.bytes.now
-        found.now.lines.items) }
+        (option_copied shown.now.cards) found.now.lines.items) }
 {
     let bytes = shown.bytes;
+    let scale = scale_of(shown.kept, shown.report.version);
     let mut page = Page::new(alloc);
     push_top(&mut page, alloc, shown, &found.lines)?;
+    push_cards(&mut page, scale, shown.cards)?;
     push_middle(&mut page, shown, found)?;
     push_report(&mut page, bytes.bytes())?;
     push_end(&mut page)?;
@@ -209,7 +240,8 @@ pub fn report_page(alloc: Global, shown: &Shown) -> Result<Text, AllocError>
         × Fits bridge read.entry.plan shown.now.kept.now.node moves)
         shown.now.report.now.entries.items }
     ensures { IfOk result (IsReportPage shown.now.game.now shown.now.board.now
-        shown.now.kept.now (report_of shown.now.report.now) shown.now.bytes.now) }
+        shown.now.kept.now (report_of shown.now.report.now) shown.now.bytes.now
+        (option_copied shown.now.cards)) }
 {
     let board = shown.board;
     let kept = shown.kept;

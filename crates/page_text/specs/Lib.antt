@@ -1,5 +1,6 @@
 pub mod Signs
 pub mod Verdicts
+pub mod Cards
 pub mod Tables
 pub mod Lines
 pub mod Steps

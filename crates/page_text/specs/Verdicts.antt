@@ -1,5 +1,5 @@
 -- What a report comes to.
-use Rattle.std.specs.Prelude.{ℕ, ◌+◌, ◌==◌, Bool, true, Option, None, Some, List, [], ◌∷◌, ◌++◌, max, map, length, nat_le, codes, if◌then◌else◌}
+use Rattle.std.specs.Prelude.{ℕ, ◌+◌, ◌==◌, Bool, true, false, Option, None, Some, List, [], ◌∷◌, ◌++◌, max, map, length, nat_le, codes, if◌then◌else◌}
 use Rattle.std.specs.Fmt.{decimal}
 use Rattle.card_sets.specs.declared.seat.Seat.{Seat}
 use Rattle.card_sets.specs.declared.seat.Seat.TheVariants.{Declarer, Left, Dummy, Right}
@@ -8,6 +8,8 @@ use Rattle.html_text.specs.declared.page.Piece.{Piece}
 use Rattle.html_text.specs.Pages.{own, told}
 use Rattle.page_text.specs.declared.markup.TheConstants.{HEADLINE, PROMISE, WHATEVER, ALL_PLANNED, PLANNED, PLANNED_END}
 use Rattle.page_text.specs.declared.lines.Line.{Line}
+use Rattle.page_text.specs.declared.verdict.Rivals.{Rivals}
+use Rattle.page_text.specs.declared.verdict.Rivals.TheVariants.{Reported, Planned, All}
 use Rattle.page_text.specs.declared.verdict.Scale.{Scale}
 use Rattle.page_text.specs.Signs.{card_pieces}
 
@@ -52,19 +54,26 @@ best_from card lines = greatest (map (weight_from card) lines)
 abbrev pub best_of : List Line → ℕ
 best_of lines = greatest (map (λ line. line.weight) lines)
 
--- whether another line of the report makes more
-abbrev pub others : Bool → List ℕ
-others is_best = if is_best then codes "No line of this report makes more." else codes "Another line of this report makes more."
+-- whether another line of the report makes more, and if not, which lines make no more
+abbrev pub others : Rivals → Bool → List ℕ
+others rivals false = codes "Another line of this report makes more."
+others Reported true = codes "No line of this report makes more."
+others Planned true = codes "No line that plans as many cards makes more."
+others All true = codes "No line makes more."
 
 -- what the card keeps, whatever the defenders do
-unfoldable pub promise : Scale → ℕ → List Line → List Piece
-promise scale card lines =
+unfoldable pub promise : Scale → Rivals → ℕ → List Line → List Piece
+promise scale rivals card lines =
     own PROMISE.now ++ share scale (best_from card lines)
-    ++ own WHATEVER.now ++ own (others (best_from card lines == best_of lines)) ++ own (codes "</p>\n")
+    ++ own WHATEVER.now ++ own (others rivals (best_from card lines == best_of lines)) ++ own (codes "</p>\n")
+
+-- lines with this many moves plan every card that declarer's side has left
+abbrev pub plans_all : PositionValue → ℕ → Bool
+plans_all position moves = nat_le (length position.declarer + length position.dummy) moves
 
 -- how far the lines are planned
 unfoldable pub horizon : PositionValue → ℕ → List Piece
 horizon position moves =
-    if nat_le (length position.declarer + length position.dummy) moves
+    if plans_all position moves
     then own ALL_PLANNED.now
     else own PLANNED.now ++ told (decimal moves) ++ own PLANNED_END.now

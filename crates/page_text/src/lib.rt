@@ -1,10 +1,12 @@
-//! The parts of a page that shows what a search has found: the verdict, the table, the lines of the
-//! report side by side and in words, what plain sampling believes, the layouts, and the report. It
-//! builds on `html_text`, whose page has markup of its own and text that is told. A contract says
-//! that a part is the one that its definition gives.
+//! The parts of a page that shows what a search has found: the verdict, every legal card, the table,
+//! the lines of the report side by side and in words, what plain sampling believes, the layouts, and
+//! the report. It builds on `html_text`, whose page has markup of its own and text that is told, and
+//! on `card_brackets` for what is known of each card. A contract says that a part is the one that its
+//! definition gives.
 #![tactic(auto)]
 
 mod beliefs;
+mod cards;
 mod frame;
 mod layouts;
 mod lines;
@@ -15,8 +17,9 @@ mod table;
 mod verdict;
 
 pub use beliefs::{Belief, push_sampling};
+pub use cards::push_cards;
 pub use frame::{Tags, push_end, push_facts, push_navigation, push_report, push_start};
 pub use layouts::{push_layouts, push_numbers};
 pub use lines::{Line, push_lines, push_trade_offs};
 pub use table::push_table;
-pub use verdict::{Scale, push_headline, push_horizon, push_promise};
+pub use verdict::{Rivals, Scale, plans_all, push_headline, push_horizon, push_promise};

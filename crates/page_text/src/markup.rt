@@ -67,7 +67,7 @@ font:.85rem/1.5 ui-monospace,monospace}
 .m{background:none;color:#000;border:1px solid}.wide{overflow:visible}
 .wide table,.wide thead,.wide tbody{display:block}.wide tr{display:flex;flex-wrap:wrap}
 .wide th,.wide td{width:1.6rem;padding:.1rem 0}
-.wide th:nth-child(-n+3),.wide td:nth-child(-n+3){width:5rem}
+.wide th:nth-child(-n+3),.wide td:nth-child(-n+3),.few th,.few td{width:5rem}
 h2,.note{break-after:avoid}tr,.side{break-inside:avoid}}
 ";
 
@@ -120,6 +120,23 @@ pub const PLANNED: &[u8] = b"<p>Cards of declarer&#8217;s side that are planned:
 pub const PLANNED_END: &[u8] =
     b". If the result is open after them, it is judged as if all hands were seen: with more cards
 planned the figure can be lower, never higher.</p>\n";
+
+// ---- every legal card
+
+pub const CARDS: &[u8] = b"<section id='cards'>
+<h2>Every legal card</h2>
+<p class='note'>Most: no line that begins with the card makes more. Least: a line that begins with
+it makes as much, however the play goes on. Sampled: the contract can be made in as many after the
+card with all hands seen. Settled: most and least are equal, so that more planned cards change
+neither.</p>
+<p>Cards of declarer&#8217;s side that are planned here: ";
+
+pub const FIGURES_OF: &[u8] = b". The figures are out of ";
+
+pub const CARDS_HEAD: &[u8] = b".</p>
+<div class='wide few' tabindex='0'><table>
+<thead><tr><th scope='col'>Card</th><th scope='col'>most</th><th scope='col'>least</th>
+<th scope='col'>sampled</th><th scope='col'>settled</th>";
 
 // ---- the table
 

@@ -2,7 +2,7 @@
 ghost use Rattle.std.specs.Prelude.{◌≡◌, ◌++◌, OnOk};
 ghost use Rattle.page_text.specs.Verdicts.{from_hand, headline, unit, share, begins_with};
 ghost use Rattle.page_text.specs.Verdicts.{weight_from, best_from, best_of, others, promise};
-ghost use Rattle.page_text.specs.Verdicts.{horizon};
+ghost use Rattle.page_text.specs.Verdicts.{plans_all, horizon};
 
 use crate::lines::Line;
 use crate::markup::{ALL_PLANNED, HEADLINE, PLANNED, PLANNED_END, PROMISE, WHATEVER};
@@ -43,7 +43,8 @@ pub fn push_headline(page: &mut Page, position: &Position, card: Card) -> Result
     page.own(b"</h1>\n")
 }
 
-fn unit(scale: Scale) -> &'static [u8]
+/// Whether layouts are counted or weighed.
+pub fn unit(scale: Scale) -> &'static [u8]
     ensures { result.now ≡ unit scale }
 {
     if scale.by_weight {
@@ -107,13 +108,27 @@ pub fn best_of(lines: &[Line]) -> u32
     best
 }
 
-fn others(is_best: bool) -> &'static [u8]
-    ensures { result.now ≡ others is_best }
+/// The lines that are known to make no more than the best of a report.
+#[derive(Clone, Copy, Debug, PartialEq, Eq)]
+pub enum Rivals {
+    /// Those of the report alone.
+    Reported,
+    /// All that plan as many cards.
+    Planned,
+    /// All that there are.
+    All,
+}
+
+fn others(rivals: Rivals, is_best: bool) -> &'static [u8]
+    ensures { result.now ≡ others rivals is_best }
 {
-    if is_best {
-        b"No line of this report makes more."
-    } else {
-        b"Another line of this report makes more."
+    if !is_best {
+        return b"Another line of this report makes more.";
+    }
+    match rivals {
+        Rivals::Reported => b"No line of this report makes more.",
+        Rivals::Planned => b"No line that plans as many cards makes more.",
+        Rivals::All => b"No line makes more.",
     }
 }
 
@@ -122,18 +137,27 @@ fn others(is_best: bool) -> &'static [u8]
 pub fn push_promise(
     page: &mut Page,
     scale: Scale,
+    rivals: Rivals,
     card: Card,
     lines: &[Line],
 ) -> Result<(), AllocError>
-    ensures { OnOk result (page.new ≡ page.old ++ promise scale card lines.now) }
+    ensures { OnOk result (page.new ≡ page.old ++ promise scale rivals card lines.now) }
 {
     let kept = best_from(card, lines);
     let best = best_of(lines);
     page.own(PROMISE)?;
     push_share(page, scale, kept)?;
     page.own(WHATEVER)?;
-    page.own(others(kept == best))?;
+    page.own(others(rivals, kept == best))?;
     page.own(b"</p>\n")
+}
+
+/// Whether lines with this many moves plan every card that declarer's side has left.
+pub fn plans_all(position: &Position, moves: u8) -> bool
+    ensures { result ≡ plans_all position.now moves }
+{
+    let left = u16::from(position.declarer.count()) + u16::from(position.dummy.count());
+    left <= u16::from(moves)
 }
 
 /// Adds how far the lines are planned.
@@ -141,8 +165,7 @@ pub fn push_promise(
 pub fn push_horizon(page: &mut Page, position: &Position, moves: u8) -> Result<(), AllocError>
     ensures { OnOk result (page.new ≡ page.old ++ horizon position.now moves) }
 {
-    let left = u16::from(position.declarer.count()) + u16::from(position.dummy.count());
-    if left <= u16::from(moves) {
+    if plans_all(position, moves) {
         return page.own(ALL_PLANNED);
     }
     page.number_between(PLANNED, u64::from(moves), PLANNED_END)

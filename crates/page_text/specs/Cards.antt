@@ -1,0 +1,48 @@
+-- Every legal card of a root, side by side.
+use Rattle.std.specs.Prelude.{ℕ, ◌==◌, Bool, Option, None, Some, List, [], ◌++◌, flat_map, codes, if◌then◌else◌}
+use Rattle.std.specs.Fmt.{decimal}
+use Rattle.card_brackets.specs.declared.rows.CardRow.{CardRow}
+use Rattle.card_brackets.specs.declared.table.CardTable.{CardTable}
+use Rattle.card_brackets.specs.Rows.{is_final}
+use Rattle.html_text.specs.declared.page.Piece.{Piece}
+use Rattle.html_text.specs.Pages.{own, told}
+use Rattle.page_text.specs.declared.markup.TheConstants.{CARDS, CARDS_HEAD, FIGURES_OF, FIRST_CARD, ROW, ROWS, ROWS_END, WEIGHT}
+use Rattle.page_text.specs.declared.verdict.Scale.{Scale}
+use Rattle.page_text.specs.Signs.{card_pieces}
+use Rattle.page_text.specs.Verdicts.{unit}
+
+-- whether a card is the one to play
+abbrev pub named_mark : Bool → List ℕ
+named_mark is_named = if is_named then codes " <b>to play</b>" else []
+
+-- whether the bounds of a card are equal
+abbrev pub settled_mark : Bool → List ℕ
+settled_mark is_settled = if is_settled then codes "</td><td>yes</td></tr>\n" else codes "</td><td>no</td></tr>\n"
+
+-- a card, and whether it is the one to play
+unfoldable pub card_cell : ℕ → ℕ → List Piece
+card_cell named card = own ROW.now ++ card_pieces card ++ own (named_mark (card == named)) ++ own FIRST_CARD.now
+
+-- the upper bound, the lower bound, what sampling believes, and whether the bounds are equal
+unfoldable pub bounds : CardRow → List Piece
+bounds row =
+    told (decimal row.most) ++ (own WEIGHT.now ++ told (decimal row.least) ++ own WEIGHT.now)
+    ++ told (decimal row.sampled) ++ own (settled_mark (is_final row))
+
+-- a card with all that
+unfoldable pub card_row : ℕ → CardRow → List Piece
+card_row named row = card_cell named row.card ++ bounds row
+
+-- with how many moves the cards are judged, and out of what
+unfoldable pub cards_head : Scale → ℕ → List Piece
+cards_head scale moves =
+    (own CARDS.now ++ told (decimal moves) ++ own FIGURES_OF.now) ++ told (decimal scale.total) ++ own (unit scale) ++ own CARDS_HEAD.now
+
+-- a row for each card
+unfoldable pub card_rows : Scale → CardTable → List Piece
+card_rows scale table = cards_head scale table.moves ++ own ROWS.now ++ flat_map (card_row table.named) table.rows.items ++ own ROWS_END.now
+
+-- every legal card, if that is known
+abbrev pub cards : Scale → Option CardTable → List Piece
+cards scale (Some table) = card_rows scale table
+cards scale None = []

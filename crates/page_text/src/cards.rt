@@ -1,0 +1,103 @@
+//! Every legal card of a root, side by side.
+ghost use Rattle.std.specs.Prelude.{◌≡◌, ◌++◌, flat_map, OnOk, option_copied};
+ghost use Rattle.page_text.specs.Cards.{named_mark, settled_mark, card_cell, bounds, card_row};
+ghost use Rattle.page_text.specs.Cards.{cards_head, card_rows, cards as cards_known};
+
+use crate::markup::{CARDS, CARDS_HEAD, FIGURES_OF, FIRST_CARD, ROW, ROWS, ROWS_END, WEIGHT};
+use crate::signs::push_card;
+use crate::verdict::{Scale, unit};
+use card_brackets::{CardRow, CardTable};
+use card_sets::Card;
+use html_text::Page;
+use std::alloc::AllocError;
+
+fn named_mark(is_named: bool) -> &'static [u8]
+    ensures { result.now ≡ named_mark is_named }
+{
+    if is_named { b" <b>to play</b>" } else { b"" }
+}
+
+fn settled_mark(is_settled: bool) -> &'static [u8]
+    ensures { result.now ≡ settled_mark is_settled }
+{
+    if is_settled {
+        b"</td><td>yes</td></tr>\n"
+    } else {
+        b"</td><td>no</td></tr>\n"
+    }
+}
+
+// Adds a card, and whether it is the one to play.
+#[tactic(auto, unfolding(crate::specs::Cards::card_cell))]
+fn push_card_cell(page: &mut Page, named: Card, card: Card) -> Result<(), AllocError>
+    ensures { OnOk result (page.new ≡ page.old ++ card_cell named card) }
+{
+    page.own(ROW)?;
+    push_card(page, card)?;
+    page.own(named_mark(card == named))?;
+    page.own(FIRST_CARD)
+}
+
+// Adds what is known of a card.
+#[tactic(auto, unfolding(crate::specs::Cards::bounds))]
+fn push_bounds(page: &mut Page, row: &CardRow) -> Result<(), AllocError>
+    ensures { OnOk result (page.new ≡ page.old ++ bounds row.now) }
+{
+    page.number(u64::from(row.most))?;
+    page.number_between(WEIGHT, u64::from(row.least), WEIGHT)?;
+    page.number(u64::from(row.sampled))?;
+    page.own(settled_mark(row.is_final()))
+}
+
+#[tactic(auto, unfolding(crate::specs::Cards::card_row))]
+fn push_row(page: &mut Page, named: Card, row: &CardRow) -> Result<(), AllocError>
+    ensures { OnOk result (page.new ≡ page.old ++ card_row named row.now) }
+{
+    push_card_cell(page, named, row.card)?;
+    push_bounds(page, row)
+}
+
+fn push_rows(page: &mut Page, named: Card, rows: &[CardRow]) -> Result<(), AllocError>
+    ensures { OnOk result (page.new ≡ page.old ++ flat_map (card_row named) rows.now) }
+{
+    for row in rows {
+        push_row(page, named, row)?;
+    }
+    Ok(())
+}
+
+#[tactic(auto, unfolding(crate::specs::Cards::cards_head))]
+fn push_head(page: &mut Page, scale: Scale, moves: u8) -> Result<(), AllocError>
+    ensures { OnOk result (page.new ≡ page.old ++ cards_head scale moves) }
+{
+    page.number_between(CARDS, u64::from(moves), FIGURES_OF)?;
+    page.number(u64::from(scale.total))?;
+    page.own(unit(scale))?;
+    page.own(CARDS_HEAD)
+}
+
+#[tactic(auto, unfolding(crate::specs::Cards::card_rows))]
+fn push_table(page: &mut Page, scale: Scale, table: &CardTable) -> Result<(), AllocError>
+    ensures { OnOk result (page.new ≡ page.old ++ card_rows scale table.now) }
+{
+    push_head(page, scale, table.moves)?;
+    page.own(ROWS)?;
+    push_rows(page, table.named, &table.rows)?;
+    page.own(ROWS_END)
+}
+
+/// Adds every legal card with what is known of it, if that is known: in card order the bounds of
+/// what is won after it, what sampling believes, and whether more planned cards change nothing.
+pub fn push_cards(
+    page: &mut Page,
+    scale: Scale,
+    cards: Option<&CardTable>,
+) -> Result<(), AllocError>
+    ensures { OnOk result
+        (page.new ≡ page.old ++ cards_known scale (option_copied cards.entry)) }
+{
+    match cards {
+        Some(table) => push_table(page, scale, table),
+        None => Ok(()),
+    }
+}
