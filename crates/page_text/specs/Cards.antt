@@ -1,33 +1,33 @@
 -- Every legal card of a root, side by side.
-use Rattle.std.specs.Prelude.{ℕ, ◌==◌, Bool, Option, None, Some, List, [], ◌++◌, flat_map, codes, if◌then◌else◌}
+use Rattle.std.specs.Prelude.{ℕ, ◌==◌, Bool, Option, None, Some, List, [], ◌++◌, flat_map, if◌then◌else◌}
 use Rattle.std.specs.Fmt.{decimal}
 use Rattle.card_brackets.specs.declared.rows.CardRow.{CardRow}
 use Rattle.card_brackets.specs.declared.table.CardTable.{CardTable}
 use Rattle.card_brackets.specs.Rows.{is_final}
 use Rattle.html_text.specs.declared.page.Piece.{Piece}
 use Rattle.html_text.specs.Pages.{own, told}
-use Rattle.page_text.specs.declared.markup.TheConstants.{CARDS, CARDS_HEAD, FIGURES_OF, FIRST_CARD, ROW, ROWS, ROWS_END, WEIGHT}
+use Rattle.page_text.specs.declared.markup.TheConstants.{CARDS, CARDS_HEAD, FIGURES_OF, FIRST_CARD, NAMED, OPEN, ROW, ROWS, ROWS_END, SETTLED, WEIGHT}
 use Rattle.page_text.specs.declared.verdict.Scale.{Scale}
 use Rattle.page_text.specs.Signs.{card_pieces}
 use Rattle.page_text.specs.Verdicts.{unit}
 
--- whether a card is the one to play
-abbrev pub named_mark : Bool → List ℕ
-named_mark is_named = if is_named then codes " <b>to play</b>" else []
+-- the end of a card's cell, which says whether it is the one to play
+abbrev pub card_end : Bool → List ℕ
+card_end is_named = if is_named then NAMED.now else FIRST_CARD.now
 
--- whether the bounds of a card are equal
-abbrev pub settled_mark : Bool → List ℕ
-settled_mark is_settled = if is_settled then codes "</td><td>yes</td></tr>\n" else codes "</td><td>no</td></tr>\n"
+-- the end of a row, which says whether its bounds are equal
+abbrev pub row_end : CardRow → List ℕ
+row_end row = if is_final row then SETTLED.now else OPEN.now
 
 -- a card, and whether it is the one to play
 unfoldable pub card_cell : ℕ → ℕ → List Piece
-card_cell named card = own ROW.now ++ card_pieces card ++ own (named_mark (card == named)) ++ own FIRST_CARD.now
+card_cell named card = own ROW.now ++ card_pieces card ++ own (card_end (card == named))
 
 -- the upper bound, the lower bound, what sampling believes, and whether the bounds are equal
 unfoldable pub bounds : CardRow → List Piece
 bounds row =
     told (decimal row.most) ++ (own WEIGHT.now ++ told (decimal row.least) ++ own WEIGHT.now)
-    ++ told (decimal row.sampled) ++ own (settled_mark (is_final row))
+    ++ told (decimal row.sampled) ++ own (row_end row)
 
 -- a card with all that
 unfoldable pub card_row : ℕ → CardRow → List Piece

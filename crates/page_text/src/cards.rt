@@ -1,9 +1,11 @@
 //! Every legal card of a root, side by side.
 ghost use Rattle.std.specs.Prelude.{◌≡◌, ◌++◌, flat_map, OnOk, option_copied};
-ghost use Rattle.page_text.specs.Cards.{named_mark, settled_mark, card_cell, bounds, card_row};
+ghost use Rattle.page_text.specs.Cards.{card_end, row_end, card_cell, bounds, card_row};
 ghost use Rattle.page_text.specs.Cards.{cards_head, card_rows, cards as cards_known};
 
-use crate::markup::{CARDS, CARDS_HEAD, FIGURES_OF, FIRST_CARD, ROW, ROWS, ROWS_END, WEIGHT};
+use crate::markup::{
+    CARDS, CARDS_HEAD, FIGURES_OF, FIRST_CARD, NAMED, OPEN, ROW, ROWS, ROWS_END, SETTLED, WEIGHT,
+};
 use crate::signs::push_card;
 use crate::verdict::{Scale, unit};
 use card_brackets::{CardRow, CardTable};
@@ -11,31 +13,30 @@ use card_sets::Card;
 use html_text::Page;
 use std::alloc::AllocError;
 
-fn named_mark(is_named: bool) -> &'static [u8]
-    ensures { result.now ≡ named_mark is_named }
+// The end of a card's cell, which says whether it is the one to play.
+fn card_end(is_named: bool) -> &'static [u8]
+    ensures { result.now ≡ card_end is_named }
 {
-    if is_named { b" <b>to play</b>" } else { b"" }
-}
-
-fn settled_mark(is_settled: bool) -> &'static [u8]
-    ensures { result.now ≡ settled_mark is_settled }
-{
-    if is_settled {
-        b"</td><td>yes</td></tr>\n"
-    } else {
-        b"</td><td>no</td></tr>\n"
+    match is_named {
+        true => NAMED,
+        false => FIRST_CARD,
     }
 }
 
-// Adds a card, and whether it is the one to play.
+// The end of a row, which says whether its bounds are equal.
+fn row_end(row: &CardRow) -> &'static [u8]
+    ensures { result.now ≡ row_end row.now }
+{
+    if row.is_final() { SETTLED } else { OPEN }
+}
+
 #[tactic(auto, unfolding(crate::specs::Cards::card_cell))]
 fn push_card_cell(page: &mut Page, named: Card, card: Card) -> Result<(), AllocError>
     ensures { OnOk result (page.new ≡ page.old ++ card_cell named card) }
 {
     page.own(ROW)?;
     push_card(page, card)?;
-    page.own(named_mark(card == named))?;
-    page.own(FIRST_CARD)
+    page.own(card_end(card == named))
 }
 
 // Adds what is known of a card.
@@ -46,7 +47,7 @@ fn push_bounds(page: &mut Page, row: &CardRow) -> Result<(), AllocError>
     page.number(u64::from(row.most))?;
     page.number_between(WEIGHT, u64::from(row.least), WEIGHT)?;
     page.number(u64::from(row.sampled))?;
-    page.own(settled_mark(row.is_final()))
+    page.own(row_end(row))
 }
 
 #[tactic(auto, unfolding(crate::specs::Cards::card_row))]
@@ -57,11 +58,12 @@ fn push_row(page: &mut Page, named: Card, row: &CardRow) -> Result<(), AllocErro
     push_bounds(page, row)
 }
 
-fn push_rows(page: &mut Page, named: Card, rows: &[CardRow]) -> Result<(), AllocError>
-    ensures { OnOk result (page.new ≡ page.old ++ flat_map (card_row named) rows.now) }
+fn push_rows(page: &mut Page, table: &CardTable) -> Result<(), AllocError>
+    ensures { OnOk result
+        (page.new ≡ page.old ++ flat_map (card_row table.now.named) table.now.rows.items) }
 {
-    for row in rows {
-        push_row(page, named, row)?;
+    for row in &table.rows {
+        push_row(page, table.named, row)?;
     }
     Ok(())
 }
@@ -82,7 +84,7 @@ fn push_table(page: &mut Page, scale: Scale, table: &CardTable) -> Result<(), Al
 {
     push_head(page, scale, table.moves)?;
     page.own(ROWS)?;
-    push_rows(page, table.named, &table.rows)?;
+    push_rows(page, table)?;
     page.own(ROWS_END)
 }
 

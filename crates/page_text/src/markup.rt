@@ -138,6 +138,12 @@ pub const CARDS_HEAD: &[u8] = b".</p>
 <thead><tr><th scope='col'>Card</th><th scope='col'>most</th><th scope='col'>least</th>
 <th scope='col'>sampled</th><th scope='col'>settled</th>";
 
+pub const NAMED: &[u8] = b" <b>to play</b></th><td>";
+
+pub const SETTLED: &[u8] = b"</td><td>yes</td></tr>\n";
+
+pub const OPEN: &[u8] = b"</td><td>no</td></tr>\n";
+
 // ---- the table
 
 pub const TABLE_START: &[u8] = b"<section id='table'>
