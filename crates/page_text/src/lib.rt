@@ -1,7 +1,7 @@
 //! The parts of a page that shows what a search has found: the verdict, the table, the lines of the
-//! report side by side and in words, what plain sampling believes, the layouts, and the report. It
-//! builds on `html_text`, whose page has markup of its own and text that is told. A contract says
-//! that a part is the one that its definition gives.
+//! report side by side and in words, where they part, what plain sampling believes, the layouts, and
+//! the report. It builds on `html_text`, whose page has markup of its own and text that is told. A
+//! contract says that a part is the one that its definition gives.
 #![tactic(auto)]
 
 mod beliefs;
@@ -9,6 +9,7 @@ mod frame;
 mod layouts;
 mod lines;
 mod markup;
+mod partings;
 mod signs;
 mod steps;
 mod table;
@@ -18,5 +19,6 @@ pub use beliefs::{Belief, push_sampling};
 pub use frame::{Tags, push_end, push_facts, push_navigation, push_report, push_start};
 pub use layouts::{push_layouts, push_numbers};
 pub use lines::{Line, push_lines, push_trade_offs};
+pub use partings::{Beside, push_partings};
 pub use table::push_table;
 pub use verdict::{Scale, push_headline, push_horizon, push_promise};
