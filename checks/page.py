@@ -6,6 +6,7 @@ of a report of MOVES moves for the board of each folder in EXAMPLES. A page must
 after its document type), its links must lead to parts of it, nothing on it may be loaded, its element `text` must hold the report
 byte for byte, and its signs must say what the report's vectors say. Its steps must be those of the job `words`, and what sampling
 believes must be what the job `fusion` says; the weights of the layouts, and the lines that make each, must agree with the report.
+Where the lines part must be where the report's plans, walked through level by level, first play different cards.
 A report that `check` refuses must be refused with the same line and status. The exit status is 0 only if nothing is wrong, and if
 at least LEAST pages were made.
 
@@ -32,6 +33,7 @@ REPORT, LINES = b"report.of.the.case", b"words.of.the.case"
 MOST_LINES, LEAST = 20000, 100
 EXAMPLES, MOVES = ("restricted-choice", "slam", "squeeze-or-finesse", "two-way-finesse"), "4"
 SIGNS = {"1": "\u2713", "0": "\u2717"}
+PLACES = ("North", "East", "South", "West")
 LETTERS = {"\u2660": "S", "\u2665": "H", "\u2666": "D", "\u2663": "C"}
 HOSTILE = b'</li><script>alert(1)</script>&amp;<b class=\'x\'>\xe9'
 SHOWN = "</li><script>alert(1)</script>&amp;<b class='x'>\ufffd"
@@ -124,7 +126,51 @@ def faults_of_layouts(page, entries):
     return wrong
 
 
-def faults_of(text, report, words, fusion):
+def place_apart(plan, other):
+    """The cards after which two plans first play different cards, and those cards; none if the plans are the same."""
+    level = [((), plan, other)]
+    while level:
+        for cards, one, two in level:
+            if isinstance(one, tuple) and one[0] != two[0]:
+                return cards, one[0], two[0]
+        level = [((*cards, card), below, below_too) for cards, one, two in level if one
+                 for card, below, below_too in ([(one[0], one[1], two[1])] if isinstance(one, tuple) else
+                                                [(card, below, dict(two)[card]) for card, below in one])]
+    return None
+
+
+def told_apart(board, number, place):
+    """What a page says of the first line beside the one of this number, which part at this place."""
+    if place is None:
+        return f"Lines 1 and {number} are the same."
+    cards, one, two = place
+    moment, told = reading.moment_after(board), []
+
+    def shown(card):
+        seat = moment.turn()
+        name, front = name_of(card).decode(), PLACES[(board.declarer + seat) % 4]
+        return f"{front} {name}" if seat % 2 else name + (" from dummy" if seat else " from hand")
+
+    for card in cards:
+        said = shown(card)
+        moment.play(moment.turn(), card)
+        told.append(said + ("," if moment.trick else ";"))
+    front = " ".join(["after", *told]) if told else "at once"
+    return f"Lines 1 and {number}: {front} line 1 plays {name_of(one).decode()} and line {number} {shown(two)}."
+
+
+def faults_of_partings(page, entries, board):
+    """What is wrong with where the lines are said to part."""
+    part = next(it for it in page.iter("section") if it.get("id") == "partings")
+    first, *plans = (plan for _, _, plan in entries)
+    wanted = [told_apart(board, number, place_apart(first, plan)) for number, plan in enumerate(plans[:5], 2)]
+    shown, text = [" ".join(text_of(it).split()) for it in part.iter("li")], text_of(part)
+    if shown != wanted or ("no second line" in text) != (not plans) or ("Only the first six" in text) != (len(plans) > 5):
+        return [f"where the lines part: {shown} in place of {wanted}"]
+    return []
+
+
+def faults_of(text, deal, report, words, fusion):
     """What is wrong with a page of this report, whose strategies in words are these, and its cards by the job fusion."""
     reader = Reader()
     text = text.decode()
@@ -146,6 +192,7 @@ def faults_of(text, report, words, fusion):
     if shown != told:
         wrong.append("the steps of the lines differ from those of the job words")
     wrong += faults_of_beliefs(page, entries, fusion) + faults_of_layouts(page, entries)
+    wrong += faults_of_partings(page, entries, reading.board_of(reading.games_of(deal)[0]))
     best = max(weight for _, weight, _ in entries)
     promised = re.search(r"<strong>(\d+) of", text)
     if int(promised[1]) == best and "No line of this report makes more." not in text:
@@ -169,9 +216,10 @@ def judge(case, program, seconds):
     if status:
         return [f"{case}: no page: {said!r}"], 0
     fusion = run(program, case, seconds, words=[b"--job", b"fusion", b"--deal", deal, b"--layouts", layouts])[0]
-    wrong = faults_of(page, report, told(b"words")[0], fusion)
+    text = bytes_of(case, os.fsdecode(deal))
+    wrong = faults_of(page, text, report, told(b"words")[0], fusion)
     tags = b"".join(b'[%s "%s"]\n' % (name, HOSTILE) for name in (b"Event", b"Board"))
-    hostile, _, status = told(b"page", {deal: tags + bytes_of(case, os.fsdecode(deal))}.items())
+    hostile, _, status = told(b"page", {deal: tags + text}.items())
     reader = Reader()
     reader.feed(hostile.decode())
     if status or reader.wrong or reader.texts.get(("li", None), "").count(SHOWN) < 1:
@@ -181,15 +229,18 @@ def judge(case, program, seconds):
 
 def judge_example(program, name, seconds):
     """What is wrong with the page of an example."""
+    room = os.path.join(TOP, "examples", name)
+
     def ask(caller, job, *words):
         words = [caller, "--job", job, "--deal", "deal.pbn", "--layouts", "layouts.lay", *words]
-        return subprocess.run(words, cwd=os.path.join(TOP, "examples", name), capture_output=True, timeout=seconds, check=True).stdout
+        return subprocess.run(words, cwd=room, capture_output=True, timeout=seconds, check=True).stdout
     report, fusion = ask(program, "solve", "--moves", MOVES), ask(program, "fusion")
     with tempfile.NamedTemporaryFile() as file:
         file.write(report)
         file.flush()
         page, words = (ask(STUDY, job, "--report", file.name) for job in ("page", "words"))
-    return [f"examples/{name}: {it}" for it in faults_of(page, report, words, fusion)]
+    with open(os.path.join(room, "deal.pbn"), "rb") as file:
+        return [f"examples/{name}: {it}" for it in faults_of(page, file.read(), report, words, fusion)]
 
 
 def refusals(seconds):

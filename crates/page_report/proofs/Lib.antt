@@ -1,3 +1,4 @@
 pub mod MoreLines
+pub mod MoreBesides
 pub mod Held
 pub mod Believed

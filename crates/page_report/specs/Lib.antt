@@ -1,1 +1,2 @@
+pub mod BesideLines
 pub mod ReportPages

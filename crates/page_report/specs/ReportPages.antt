@@ -39,8 +39,11 @@ use Rattle.page_text.specs.Frames.{TagValues, start, facts, report}
 use Rattle.page_text.specs.Verdicts.{headline, promise, plans_all, horizon}
 use Rattle.page_text.specs.Tables.{table}
 use Rattle.page_text.specs.Lines.{trade_offs, lines_pieces}
+use Rattle.page_text.specs.declared.partings.Beside.{Beside}
+use Rattle.page_text.specs.Partings.{partings}
 use Rattle.page_text.specs.Beliefs.{sampling}
 use Rattle.page_text.specs.Layouts.{layouts, file_numbers}
+use Rattle.page_report.specs.BesideLines.{AreBeside}
 use Rattle.page_report.specs.declared.markup.TheConstants.{DROPPED, AT_CARD, DROPPED_END}
 
 -- ---- what a page shows
@@ -141,20 +144,24 @@ unfoldable pub all_layouts : BoardValue → KeptValue → ReadReportValue → Li
 all_layouts board kept read lines =
     layouts board.declarer kept.node (is_weighed read.version) kept.weights lines ++ file_numbers kept.numbers ++ left_out kept.dropped
 
--- the table, the lines and the layouts
-unfoldable pub middle : BoardValue → KeptValue → ReadReportValue → List Line → List Piece
-middle board kept read lines = table board.declarer kept.node ++ play kept read lines ++ all_layouts board kept read lines
+-- the table, the lines and where they part, and the layouts
+unfoldable pub middle : BoardValue → KeptValue → ReadReportValue → List Line → List Beside → List Piece
+middle board kept read lines besides =
+    table board.declarer kept.node ++ play kept read lines ++ partings board.declarer kept.node.position (length lines) besides
+    ++ all_layouts board kept read lines
 
 -- the page, which ends with the report: with every legal card, if the report was searched for
-unfoldable pub page : GameValue → BoardValue → KeptValue → ReadReportValue → List ℕ → Option CardTable → List Line → List Piece
-page game board kept read bytes known lines =
-    top game board kept read (is_some known) lines ++ cards (scale_of kept read.version) known ++ middle board kept read lines ++ report bytes ++ own END.now
+unfoldable pub page : GameValue → BoardValue → KeptValue → ReadReportValue → List ℕ → Option CardTable → List Line → List Beside → List Piece
+page game board kept read bytes known lines besides =
+    top game board kept read (is_some known) lines ++ cards (scale_of kept read.version) known ++ middle board kept read lines besides ++ report bytes ++ own END.now
 
 -- a page of a report, with every legal card if it was searched for
 pub record IsReportPage (game : GameValue) (board : BoardValue) (kept : KeptValue) (read : ReadReportValue) (bytes : List ℕ) (known : Option CardTable) (text : List ℕ) : Type 0 where
   pub lines : List Line
+  pub besides : List Beside
   pub are_lines : AreLines board.declarer kept.node read.entries lines
-  pub is_text : text ≡ written (page game board kept read bytes known lines)
+  pub are_beside : AreBeside read.entries besides
+  pub is_text : text ≡ written (page game board kept read bytes known lines besides)
 
 -- a text has these bytes, escaped and nothing else, in the element that the report stands in
 pub record HoldsReport (bytes text : List ℕ) : Type 0 where

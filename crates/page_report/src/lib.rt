@@ -4,6 +4,7 @@
 #![tactic(auto)]
 
 mod beliefs;
+mod besides;
 mod dropped;
 pub mod laws;
 mod lines;

@@ -8,12 +8,14 @@ ghost use Rattle.strategy_tree.specs.Bridge.{bridge};
 ghost use Rattle.pbn_deal.specs.Tags.{tag_named};
 ghost use Rattle.am_report.specs.Reading.{report_of};
 ghost use Rattle.page_text.specs.Frames.{told_by};
+ghost use Rattle.page_report.specs.BesideLines.{AreBeside};
 ghost use Rattle.page_report.specs.ReportPages.{scale_of, is_weighed, value_of as value_in};
 ghost use Rattle.page_report.specs.ReportPages.{tags_of, rivals_of};
 ghost use Rattle.page_report.specs.ReportPages.{beliefs_of as beliefs_at, verdict, top, play};
 ghost use Rattle.page_report.specs.ReportPages.{all_layouts, middle, page as page_of, IsReportPage};
 
 use crate::beliefs::beliefs_of;
+use crate::besides::besides_of;
 use crate::dropped::push_left_out;
 use crate::lines::lines_of;
 use am_report::{ReadReport, Version};
@@ -22,8 +24,9 @@ use card_brackets::CardTable;
 use html_text::Page;
 use layout_list::Kept;
 use page_text::{
-    Belief, Line, Rivals, Scale, Tags, plans_all, push_cards, push_end, push_facts, push_headline,
-    push_horizon, push_layouts, push_lines, push_navigation, push_numbers, push_promise,
+    Belief, Beside, Line, Rivals, Scale, Tags, plans_all, push_cards, push_end, push_facts,
+    push_headline, push_horizon, push_layouts, push_lines, push_navigation, push_numbers,
+    push_partings, push_promise,
     push_report, push_sampling, push_start, push_table, push_trade_offs,
 };
 use pbn_deal::Board;
@@ -157,10 +160,11 @@ fn push_top(page: &mut Page, alloc: Global, shown: &Shown, lines: &[Line]) -> Re
     push_navigation(page)
 }
 
-// The lines of a report, and what plain sampling believes.
+// The lines of a report, where they part, and what plain sampling believes.
 #[derive(Drop)]
 struct Found {
     lines: Vec<Line>,
+    besides: Vec<Beside>,
     beliefs: Vec<Belief>,
 }
 
@@ -201,11 +205,20 @@ fn push_middle(page: &mut Page, shown: &Shown, found: &Found) -> Result<(), Allo
     requires weighed { length shown.now.kept.now.weights ≡ length shown.now.kept.now.node.lefts }
     requires beliefs { found.now.beliefs.items ≡ beliefs_at shown.now.kept.now }
     ensures { OnOk result (page.new ≡ page.old ++ middle shown.now.board.now
-        shown.now.kept.now (report_of shown.now.report.now) found.now.lines.items) }
+        shown.now.kept.now (report_of shown.now.report.now) found.now.lines.items
+        found.now.besides.items) }
 {
     let kept = shown.kept;
-    push_table(page, shown.board.declarer(), &kept.node)?;
+    let declarer = shown.board.declarer();
+    push_table(page, declarer, &kept.node)?;
     push_play(page, kept, shown.report, found)?;
+    push_partings(
+        page,
+        declarer,
+        kept.node.position(),
+        found.lines.len(),
+        &found.besides,
+    )?;
     push_all_layouts(page, shown, &found.lines)
 }
 
@@ -215,7 +228,7 @@ fn page_of(alloc: Global, shown: &Shown, found: &Found) -> Result<Page, AllocErr
     requires beliefs { found.now.beliefs.items ≡ beliefs_at shown.now.kept.now }
     ensures { IfOk result (λ page. page ≡ page_of shown.now.game.now shown.now.board.now
         shown.now.kept.now (report_of shown.now.report.now) shown.now.bytes.now
-        (option_copied shown.now.cards) found.now.lines.items) }
+        (option_copied shown.now.cards) found.now.lines.items found.now.besides.items) }
 {
     let bytes = shown.bytes;
     let scale = scale_of(shown.kept, shown.report.version);
@@ -231,13 +244,14 @@ fn page_of(alloc: Global, shown: &Shown, found: &Found) -> Result<Page, AllocErr
 /// The page of a report at a root, where declarer's side is to play.
 ///
 /// Each strategy is told in words, and each told plan, cut down at the node, is the report's plan.
+/// The first strategy and each of the next five are compared.
 /// The report itself stands at the end of the page, byte for byte.
 pub fn report_page(alloc: Global, shown: &Shown) -> Result<Text, AllocError>
     requires ours { is_declarers (to_play shown.now.kept.now.node.position) ≡ true }
     requires goes_on { is_over shown.now.kept.now.node.position ≡ false }
     requires weighed { length shown.now.kept.now.weights ≡ length shown.now.kept.now.node.lefts }
-    requires fit { All (λ read. (moves : ℕ)
-        × Fits bridge read.entry.plan shown.now.kept.now.node moves)
+    requires fit { All (λ read.
+        Fits bridge read.entry.plan shown.now.kept.now.node shown.now.report.now.moves)
         shown.now.report.now.entries.items }
     ensures { IfOk result (IsReportPage shown.now.game.now shown.now.board.now
         shown.now.kept.now (report_of shown.now.report.now) shown.now.bytes.now
@@ -248,6 +262,7 @@ pub fn report_page(alloc: Global, shown: &Shown) -> Result<Text, AllocError>
     let report = shown.report;
     let found = Found {
         lines: lines_of(alloc, board.declarer(), &kept.node, &report.entries)?,
+        besides: besides_of(alloc, &report.entries)?,
         beliefs: beliefs_of(alloc, kept)?,
     };
     let page = page_of(alloc, shown, &found)?;

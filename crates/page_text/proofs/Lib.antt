@@ -2,3 +2,4 @@ pub mod Grown
 pub mod Held
 pub mod Nested
 pub mod OneLayout
+pub mod Histories

@@ -6,4 +6,5 @@ pub mod Lines
 pub mod Steps
 pub mod Beliefs
 pub mod Layouts
+pub mod Partings
 pub mod Frames

@@ -1,8 +1,8 @@
 //! The parts of a page that shows what a search has found: the verdict, every legal card, the table,
-//! the lines of the report side by side and in words, what plain sampling believes, the layouts, and
-//! the report. It builds on `html_text`, whose page has markup of its own and text that is told, and
-//! on `card_brackets` for what is known of each card. A contract says that a part is the one that its
-//! definition gives.
+//! the lines of the report side by side and in words, where they part, what plain sampling believes,
+//! the layouts, and the report. It builds on `html_text`, whose page has markup of its own and text
+//! that is told, and on `card_brackets` for what is known of each card. A contract says that a part
+//! is the one that its definition gives.
 #![tactic(auto)]
 
 mod beliefs;
@@ -11,6 +11,7 @@ mod frame;
 mod layouts;
 mod lines;
 mod markup;
+mod partings;
 mod signs;
 mod steps;
 mod table;
@@ -21,5 +22,6 @@ pub use cards::push_cards;
 pub use frame::{Tags, push_end, push_facts, push_navigation, push_report, push_start};
 pub use layouts::{push_layouts, push_numbers};
 pub use lines::{Line, push_lines, push_trade_offs};
+pub use partings::{Beside, push_partings};
 pub use table::push_table;
 pub use verdict::{Rivals, Scale, plans_all, push_headline, push_horizon, push_promise};

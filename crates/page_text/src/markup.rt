@@ -74,7 +74,7 @@ h2,.note{break-after:avoid}tr,.side{break-inside:avoid}}
 pub const NAVIGATION: &[u8] =
     b"<nav><a href='#table'>The table</a> <a href='#trade-offs'>Side by side</a>
 <a href='#sampling'>Sampling</a> <a href='#lines'>In words</a>
-<a href='#layouts'>The layouts</a> <a href='#report'>The report</a></nav>
+<a href='#partings'>Where they part</a> <a href='#layouts'>The layouts</a> <a href='#report'>The report</a></nav>
 </header>
 <main>
 ";
@@ -235,6 +235,30 @@ pub const LIST_END: &[u8] = b"</li>\n</ul>\n";
 pub const NEXT_STEP: &[u8] = b"</li>\n<li>";
 
 pub const SECTION_END: &[u8] = b"</section>\n";
+
+// ---- where the lines part
+
+pub const PARTINGS: &[u8] = b"<section id='partings'>
+<h2>Where the lines part</h2>
+";
+
+pub const NO_SECOND: &[u8] = b"<p>This report has no second line.</p>\n";
+
+pub const BESIDE: &[u8] = b"<p class='note'>Two lines part where they play different cards after the
+same cards. If there are several such places, the one with the fewest cards is shown, and of equally
+many the first in card order. A semicolon ends a trick.</p>
+<ul>
+";
+
+pub const BOTH_LINES: &[u8] = b"<li>Lines <a href='#line-1'>1</a> and ";
+
+pub const ALIKE: &[u8] = b" are the same.</li>\n";
+
+pub const AND_LINE: &[u8] = b" and line ";
+
+pub const PARTED: &[u8] = b"line 1 plays ";
+
+pub const ONLY_SIX: &[u8] = b"<p class='note'>Only the first six lines are compared.</p>\n";
 
 // ---- the layouts
 

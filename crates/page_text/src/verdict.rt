@@ -21,8 +21,8 @@ pub struct Scale {
     pub by_weight: bool,
 }
 
-// The hand that a seat of declarer's side plays from.
-fn from_hand(seat: Seat) -> &'static [u8]
+/// The hand that a seat of declarer's side plays from.
+pub fn from_hand(seat: Seat) -> &'static [u8]
     ensures { result.now ≡ from_hand seat }
 {
     match seat {
