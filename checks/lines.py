@@ -3,7 +3,7 @@
 
 Asks ./study for the games (`lines`) of each case in cases/ that expects a report, if its hands have at most MOST_TRICKS cards and
 it has at most MOST_GAMES games. The answer must be that of a second reading of the definitions (reading.py, playing.py), byte for
-byte. `list` of PROGRAM, which is ./alphamu if you name none, must read the first READ games of each, and give exactly the game's
+byte, with the case's report and with its moves in place of the report. `list` of PROGRAM, which is ./alphamu if you name none, must read the first READ games of each, and give exactly the game's
 own layout. A report that `check` refuses must be refused with the same line and status. The exit status is 0 only if nothing
 differs, and if at least LEAST games were told.
 
@@ -16,7 +16,7 @@ from concurrent.futures import ProcessPoolExecutor
 sys.dont_write_bytecode = True
 import reading
 from cases import TOP, bytes_of, expected, is_ready, names_of_cases, parser_of, run, words_of
-from options import job_of
+from options import job_of, with_job
 from playing import after, legal, makes, name_of, winner_of
 
 STUDY = os.path.join(TOP, "study")
@@ -123,6 +123,8 @@ def judge(program, case, seconds):
     words = [b"--job", b"lines", b"--deal", files[0], b"--layouts", files[1], b"--report", REPORT]
     wanted = b"% alphamu lines 1\n" + b"".join(game for game, _ in games), b"", 0
     wrong = [] if run(STUDY, case, seconds, words=words, files={REPORT: text}) == wanted else [f"{case}: the games differ"]
+    if run(STUDY, case, seconds, words=with_job(words_of(case), b"lines")) != wanted:
+        wrong.append(f"{case}: the games of a report that is searched for differ")
     for game, deal in games[:READ]:
         found = run(program, case, seconds, words=[b"--job", b"list", b"--deal", GAME], files={GAME: game})
         if found != (b"% alphamu layouts 1\n" + deal + b"\n", b"", 0):

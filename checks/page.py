@@ -7,6 +7,8 @@ after its document type), its links must lead to parts of it, nothing on it may 
 byte for byte, and its signs must say what the report's vectors say. Its steps must be those of the job `words`, and what sampling
 believes must be what the job `fusion` says; the weights of the layouts, and the lines that make each, must agree with the report.
 Where the lines part must be where the report's plans, walked through level by level, first play different cards.
+If the study searches for the report of a case, its page must be the same but for two things: it promises that no line makes more,
+and it has a table of all cards, which must say what the job `cards` says.
 A report that `check` refuses must be refused with the same line and status. The exit status is 0 only if nothing is wrong, and if
 at least LEAST pages were made.
 
@@ -24,7 +26,7 @@ from html.parser import HTMLParser
 sys.dont_write_bytecode = True
 import reading
 from cases import TOP, bytes_of, expected, is_ready, names_of_cases, parser_of, run, words_of
-from options import job_of
+from options import job_of, with_job
 from playing import card_named
 
 STUDY = os.path.join(TOP, "study")
@@ -200,6 +202,31 @@ def faults_of(text, deal, report, words, fusion):
     return wrong
 
 
+def faults_of_search(searched, page, cards):
+    """What is wrong with the page of a report that was searched for, by the page of that report and the text of the job cards."""
+    promise = "No line makes more." if "Every card of declarer&#8217;s side is planned" in page else "No line that plans as many cards makes more."
+    parts = re.findall(r"<section id='cards'>.*?</section>\n", searched, re.S)
+    if [page.replace("No line of this report makes more.", promise, 1)] != [searched.replace(it, "") for it in parts]:
+        return ["the page of a report that is searched for differs"]
+    moves, named = (re.search(pattern, cards, re.M)[1] for pattern in (r"^moves (\d+)$", r"^named (..)$"))
+    wanted = [[f"{card} to play" if card == named else card, most, least, sampled, final] for card, most, least, sampled, final in re.findall(
+        r"^card (..) most (\d+) least (\d+) sampled (\d+) final (yes|no) ", cards, re.M)]
+    wrong = [] if rows_of(xml.etree.ElementTree.fromstring(searched.split("\n", 1)[1]), "cards") == wanted else ["the table of all cards differs"]
+    total = re.search(r"^layouts (\d+) weight (\d+)$", cards, re.M)
+    outs = f"out of {total[1]} layouts.", f"out of {total[2]} by weight."
+    if f"planned here: {moves}. " not in parts[0] or not any(it in parts[0] for it in outs):
+        wrong.append("the head of the table of all cards differs")
+    return wrong
+
+
+def judge_search(case, page, seconds):
+    """What is wrong with the page that the study makes by a search, by the page of the case's report."""
+    searched, cards = (run(STUDY, case, seconds, words=with_job(words_of(case), job)) for job in (b"page", b"cards"))
+    if searched[2] or cards[2]:
+        return [] if searched == cards else [f"the search for a page ends with {searched[1:]}"]
+    return faults_of_search(searched[0].decode(), page.decode(), cards[0].decode())
+
+
 def judge(case, program, seconds):
     """What is wrong with the pages of a case, and how many there are."""
     report, _, status = expected(case)
@@ -217,14 +244,14 @@ def judge(case, program, seconds):
         return [f"{case}: no page: {said!r}"], 0
     fusion = run(program, case, seconds, words=[b"--job", b"fusion", b"--deal", deal, b"--layouts", layouts])[0]
     text = bytes_of(case, os.fsdecode(deal))
-    wrong = faults_of(page, text, report, told(b"words")[0], fusion)
+    wrong = faults_of(page, text, report, told(b"words")[0], fusion) + judge_search(case, page, seconds)
     tags = b"".join(b'[%s "%s"]\n' % (name, HOSTILE) for name in (b"Event", b"Board"))
     hostile, _, status = told(b"page", {deal: tags + text}.items())
     reader = Reader()
     reader.feed(hostile.decode())
     if status or reader.wrong or reader.texts.get(("li", None), "").count(SHOWN) < 1:
         wrong.append(f"hostile tags aren't told as text: {reader.wrong}")
-    return [f"{case}: {it}" for it in wrong], 2
+    return [f"{case}: {it}" for it in wrong], 3
 
 
 def judge_example(program, name, seconds):

@@ -2,7 +2,7 @@
 """told.py [--jobs N] [--seconds N] [--only PATTERN] [PROGRAM]
 
 Tells the report of each case in cases/ that expects one, as docs/definitions/told-plans.md says, and compares the text with that of
-a program for the job `words`. If you name no program it is ./study, which ./build makes. The layouts of a step are found
+a program for the job `words`, with the report and with the case's moves in its place. If you name no program it is ./study, which ./build makes. The layouts of a step are found
 by following the report's plan in each layout, with double dummy as plain minimax (playing.py). The exit status is 0 only if
 nothing differs and something was told.
 """
@@ -13,7 +13,7 @@ from concurrent.futures import ThreadPoolExecutor
 
 import cases
 import reading
-from options import job_of
+from options import job_of, with_job
 from playing import after, child, choices, legal, makes, name_of, seat_to_play
 
 STUDY = os.path.join(cases.TOP, "study")
@@ -197,10 +197,12 @@ def judge(program, case, seconds):
     board = reading.board_of(reading.games_read(deal)[0])
     wanted = told_text(board, reading.layouts_kept(layouts, board), report)
     asked = ["--job", "words", "--deal", given["deal"], "--layouts", given["layouts"], "--report", "told.report"]
-    out, err, status = cases.run(program, case, seconds, words=asked, files={b"told.report": report})
-    if status or out != wanted:
-        lines = [f"{mine!r}, and not {theirs!r}" for mine, theirs in zip(out.splitlines(), wanted.splitlines()) if mine != theirs]
-        return f"{case}: exit status {status} {err.decode()}; {lines[:3]}"
+    searched = with_job(cases.words_of(case), b"words")
+    for words, files in ((asked, {b"told.report": report}), (searched, {})):
+        out, err, status = cases.run(program, case, seconds, words=words, files=files)
+        if status or out != wanted:
+            lines = [f"{mine!r}, and not {theirs!r}" for mine, theirs in zip(out.splitlines(), wanted.splitlines()) if mine != theirs]
+            return f"{case}: exit status {status} {err.decode()}; {lines[:3]}"
     return None
 
 

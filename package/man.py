@@ -5,8 +5,8 @@ import re
 
 TITLE, SECTION = re.compile(r"^# "), re.compile(r"^## (.*)$")
 BULLET = "\\(bu"
-# The jobs of alphamu_study, each with the job of alphamu whose words it reads.
-STUDY_JOBS = {"words": "check", "lines": "check", "page": "check", "cards": "card", "review": "card"}
+# The jobs of alphamu_study, each with a job of alphamu whose words it reads.
+STUDY_JOBS = [*((job, read) for job in ("page", "words", "lines") for read in ("solve", "check")), ("cards", "card"), ("review", "card")]
 # What such a job takes beside them.
 FORM = "[\\fB\\-\\-form\\fR \\fBtext\\fR|\\fBcsv\\fR|\\fBjson\\fR]"
 OWN_OPTIONS = {"cards": [FORM], "review": ["[\\fB\\-\\-from\\fR \\fIN\\fR]", "[\\fB\\-\\-games\\fR]", FORM]}
@@ -124,7 +124,7 @@ def usage(jobs, program, job, read):
 def synopsis(jobs):
     """A line for each job, and the options of the search."""
     lines = [usage(jobs, "alphamu", job, job) for job in jobs.JOBS]
-    lines += [usage(jobs, "alphamu_study", job, read) for job, read in STUDY_JOBS.items()]
+    lines += [usage(jobs, "alphamu_study", job, read) for job, read in STUDY_JOBS]
     flags = [f"[\\fB\\-\\-{escaped(it)}\\fR" + ("]" if it in jobs.FLAGS else " \\fIN\\fR]") for it in jobs.SEARCH]
     return [*"\n.br\n".join(lines).split("\n"), ".PP", "The search options are", " ".join(flags)]
 

@@ -3,4 +3,5 @@ pub mod Parted
 pub mod AllGames
 pub mod Forms
 pub mod Tricks
+pub mod Solved
 pub mod Study

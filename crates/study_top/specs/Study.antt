@@ -1,9 +1,12 @@
 -- What a study is asked, and what comes of it.
-use Rattle.std.specs.Prelude.{◌≡◌, ◌⊎◌, ◌&&◌, not, ℕ, Bool, true, false, List, [], ◌∷◌, codes, Ok, Option, None, Some, bytes_eq, if◌then◌else◌}
+use Rattle.std.specs.Prelude.{◌≡◌, ◌⊎◌, ◌&&◌, ◌||◌, not, ℕ, Bool, true, false, List, [], ◌∷◌, codes, Ok, Option, None, Some, is_some, bytes_eq, if◌then◌else◌}
+use Rattle.std.specs.List.{list_any}
+use Rattle.byte_text.specs.Lines.{text_after}
 use Rattle.pbn_deal.specs.Boards.{BoardValue}
 use Rattle.am_outside.specs.Shelf.{Files}
 use Rattle.job_words.specs.declared.asks.Ask.TheVariants as asks
 use Rattle.job_words.specs.declared.asks.LayoutsJob.TheVariants as jobs
+use Rattle.job_words.specs.declared.asks.Search.{Search}
 use Rattle.job_words.specs.Asks.{texts_of}
 use Rattle.am_answer.specs.declared.root.Root.{Root}
 use Rattle.am_answer.specs.declared.status.Status.{Status}
@@ -14,6 +17,8 @@ use Rattle.am_answer.specs.Stages.{IsReadRefusal, IsFileRefusal}
 use Rattle.job_told.specs.ToldJob.{IsToldReport}
 use Rattle.job_lines.specs.LinesJob.{IsLinesReport}
 use Rattle.job_page.specs.PageJob.{IsPage}
+use Rattle.card_brackets.specs.declared.table.CardTable.{CardTable}
+use Rattle.card_brackets.specs.Rows.{IsTableUpTo}
 use Rattle.job_cards.specs.Cards.{IsCardsText, IsCardsRefusal}
 use Rattle.job_review.specs.Reviews.{IsReviewText, IsReviewRefusal}
 use Rattle.job_reviews.specs.Reviews.{IsReviewsText}
@@ -21,6 +26,7 @@ use Rattle.text_forms.specs.declared.form.Form.{Form}
 use Rattle.study_top.specs.Forms.{form_of, without_trick, other_words}
 use Rattle.study_top.specs.Tricks.{trick_of}
 use Rattle.study_top.specs.AllGames.{asks_all}
+use Rattle.study_top.specs.Solved.{IsSolvedReport, IsUnsolved}
 use Rattle.study_top.specs.declared.job.StudyJob.{StudyJob}
 use Rattle.study_top.specs.declared.job.StudyJob.TheVariants.{Words, Lines, Page, Cards, Review, Reviews}
 use Rattle.study_top.specs.declared.study.Study.{Study}
@@ -54,33 +60,36 @@ job_with true job = None
 abbrev pub job_of : List (List ℕ) → Option StudyJob
 job_of words = job_with (asks_all (without_trick words)) (named_job (other_words words))
 
--- the job of `alphamu` that reads what a job of a study reads; no other word names one
-abbrev pub base_word : Option StudyJob → List ℕ
-base_word (Some Words) = codes "check"
-base_word (Some Lines) = codes "check"
-base_word (Some Page) = codes "check"
-base_word (Some Cards) = codes "card"
-base_word (Some Review) = codes "card"
-base_word (Some Reviews) = codes "boards"
-base_word None = []
+-- a word that says how many moves a search goes through
+abbrev pub is_moves : List ℕ → Bool
+is_moves word = bytes_eq word (codes "--moves") || is_some (text_after (codes "--moves=") word)
 
--- a word of a study, as that job of `alphamu` has it
-abbrev pub asked_word : Bool → Bool → List ℕ → List ℕ
-asked_word all false word = word
-asked_word all true word = base_word (job_with all (job_named word))
+-- a study searches for its report: it has that word in place of a report's
+abbrev pub asks_search : List (List ℕ) → Bool
+asks_search words = list_any is_moves words
 
--- words, the first of which may name a job
-abbrev pub asked_after : Bool → Bool → List (List ℕ) → List (List ℕ)
-asked_after all names_job [] = []
-asked_after all names_job (word ∷ words) = asked_word all names_job word ∷ asked_after all (not names_job && bytes_eq word (codes "--job")) words
+-- the job of `alphamu` that reads what a job of a study reads, if it searches for its report or not; no other word names one
+abbrev pub base_word : Bool → Option StudyJob → List ℕ
+base_word searches (Some Words) = if searches then codes "solve" else codes "check"
+base_word searches (Some Lines) = if searches then codes "solve" else codes "check"
+base_word searches (Some Page) = if searches then codes "solve" else codes "check"
+base_word searches (Some Cards) = codes "card"
+base_word searches (Some Review) = codes "card"
+base_word searches (Some Reviews) = codes "boards"
+base_word searches None = []
 
--- these words, as those of a job of `alphamu`
-abbrev pub asked_by : Bool → List (List ℕ) → List (List ℕ)
-asked_by all words = asked_after all false words
+-- words with this job in place of the one that they name; the first of these words may name it
+abbrev pub asked_after : List ℕ → Bool → List (List ℕ) → List (List ℕ)
+asked_after base names_job [] = []
+asked_after base names_job (word ∷ words) = (if names_job then base else word) ∷ asked_after base (not names_job && bytes_eq word (codes "--job")) words
+
+-- these words, as those of that job of `alphamu`
+abbrev pub asked_by : List ℕ → List (List ℕ) → List (List ℕ)
+asked_by base words = asked_after base false words
 
 -- the words of a study, as those of a job of `alphamu`
 abbrev pub asked_words : List (List ℕ) → List (List ℕ)
-asked_words words = asked_by (asks_all (without_trick words)) (other_words words)
+asked_words words = asked_by (base_word (asks_search (other_words words)) (job_of words)) (other_words words)
 
 -- the job, the form, the trick and the words of `alphamu` that the words of a study ask for
 pub record IsStudyOf (words : List (List ℕ)) (study : Study) : Type 0 where
@@ -100,22 +109,55 @@ abbrev pub IsRefusedAt : List ℕ → List ℕ → Status → (Root → Type 0) 
 IsRefusedAt deal layouts status IsRefused =
     IsFileRefusal (root_in deal layouts) status ⊎ ((root : Root) × (root_in deal layouts ≡ Ok root) × IsRefused root)
 
+-- what a job tells of a report at the root of a deal, and on a page of every legal card, if they are known
+abbrev pub IsTextOfReport : Option StudyJob → List ℕ → Root → List ℕ → Option CardTable → List ℕ → Type 0
+IsTextOfReport (Some Words) deal root report known text = IsToldReport root report text
+IsTextOfReport (Some Lines) deal root report known text = IsLinesReport deal root report text
+IsTextOfReport (Some Page) deal root report known text = IsPage deal root report known text
+IsTextOfReport job deal root report known text = ⊥
+
+-- why it tells nothing of it: `check` refuses the report; any other job takes none
+abbrev pub IsReportRefusal : Option StudyJob → Root → List ℕ → Status → Type 0
+IsReportRefusal (Some Words) root report status = IsFileRefusal (task_at root (jobs.Check report)) status
+IsReportRefusal (Some Lines) root report status = IsFileRefusal (task_at root (jobs.Check report)) status
+IsReportRefusal (Some Page) root report status = IsFileRefusal (task_at root (jobs.Check report)) status
+IsReportRefusal job root report status = status ≡ BadWords
+
+-- what a job shows beside a report that is searched for: a page every legal card, for at most as many moves
+abbrev pub AreCardsFor : Option StudyJob → Root → ℕ → Option CardTable → Type 0
+AreCardsFor (Some Page) root moves (Some table) = IsTableUpTo root.kept.node root.kept.weights moves table
+AreCardsFor (Some Page) root moves None = ⊥
+AreCardsFor job root moves known = known ≡ None
+
+-- why it doesn't
+abbrev pub AreCardsRefused : Option StudyJob → Root → ℕ → Search → Status → Type 0
+AreCardsRefused (Some Page) root moves search status = IsCardsRefusal root moves search status
+AreCardsRefused job root moves search status = ⊥
+
+-- what a job tells of the report that `solve` gives
+abbrev pub IsTextOfSearch : Option StudyJob → List ℕ → Root → ℕ → Search → List ℕ → Type 0
+IsTextOfSearch job deal root moves search text = (report : List ℕ) × (known : Option CardTable)
+    × IsSolvedReport root moves search report × AreCardsFor job root moves known × IsTextOfReport job deal root report known text
+
+-- why it tells nothing of it: there is none, the tree of a card is too large, or the report is refused
+abbrev pub IsSearchRefusal : Option StudyJob → Root → ℕ → Search → Status → Type 0
+IsSearchRefusal job root moves search status = IsUnsolved root moves search status ⊎ AreCardsRefused job root moves search status
+    ⊎ ((report : List ℕ) × IsSolvedReport root moves search report × IsReportRefusal job root report status)
+
 -- what a study's job tells of what was read; only `cards` and `review` have forms, and only `review` begins with a trick
 abbrev pub IsTextOf : Option StudyJob → Form → ℕ → InputsValue → List ℕ → Type 0
-IsTextOf (Some Words) form from (asks.OnLayouts deal layouts (jobs.Check report)) text = IsToldAt deal layouts (λ root. IsToldReport root report text)
-IsTextOf (Some Lines) form from (asks.OnLayouts deal layouts (jobs.Check report)) text = IsToldAt deal layouts (λ root. IsLinesReport deal root report text)
-IsTextOf (Some Page) form from (asks.OnLayouts deal layouts (jobs.Check report)) text = IsToldAt deal layouts (λ root. IsPage deal root report text)
+IsTextOf job form from (asks.OnLayouts deal layouts (jobs.Check report)) text = IsToldAt deal layouts (λ root. IsTextOfReport job deal root report None text)
+IsTextOf job form from (asks.OnLayouts deal layouts (jobs.Solve moves search)) text = IsToldAt deal layouts (λ root. IsTextOfSearch job deal root moves search text)
 IsTextOf (Some Cards) form from (asks.OnLayouts deal layouts (jobs.Card moves search)) text = IsToldAt deal layouts (λ root. IsCardsText root moves form text)
 IsTextOf (Some Review) form from (asks.OnLayouts deal layouts (jobs.Card moves search)) text = (board : BoardValue) × (board_in deal ≡ Ok board) × IsReviewText board layouts moves from form text
 IsTextOf (Some Reviews) form from (asks.Boards files moves search) text = IsReviewsText files (record { moves = moves; from = from; search = search }) form text
 IsTextOf _ _ _ _ text = ⊥
 
--- why it tells nothing of it: `check` refuses the report, the tree of a card is too large, or a board isn't reviewed; for all
--- games only an allocation that fails
+-- why it tells nothing of it: the report or the search is refused, the tree of a card is too large, or a board isn't reviewed;
+-- for all games only an allocation that fails
 abbrev pub IsRefusalOf : Option StudyJob → ℕ → InputsValue → Status → Type 0
-IsRefusalOf (Some Words) from (asks.OnLayouts deal layouts (jobs.Check report)) status = IsRefusedAt deal layouts status (λ root. IsFileRefusal (task_at root (jobs.Check report)) status)
-IsRefusalOf (Some Lines) from (asks.OnLayouts deal layouts (jobs.Check report)) status = IsRefusedAt deal layouts status (λ root. IsFileRefusal (task_at root (jobs.Check report)) status)
-IsRefusalOf (Some Page) from (asks.OnLayouts deal layouts (jobs.Check report)) status = IsRefusedAt deal layouts status (λ root. IsFileRefusal (task_at root (jobs.Check report)) status)
+IsRefusalOf job from (asks.OnLayouts deal layouts (jobs.Check report)) status = IsRefusedAt deal layouts status (λ root. IsReportRefusal job root report status)
+IsRefusalOf job from (asks.OnLayouts deal layouts (jobs.Solve moves search)) status = IsRefusedAt deal layouts status (λ root. IsSearchRefusal job root moves search status)
 IsRefusalOf (Some Cards) from (asks.OnLayouts deal layouts (jobs.Card moves search)) status = IsRefusedAt deal layouts status (λ root. IsCardsRefusal root moves search status)
 IsRefusalOf (Some Review) from (asks.OnLayouts deal layouts (jobs.Card moves search)) status = IsFileRefusal (board_in deal) status
     ⊎ ((board : BoardValue) × (board_in deal ≡ Ok board) × IsReviewRefusal board layouts moves from search.nodes status)

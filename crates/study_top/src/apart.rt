@@ -7,8 +7,8 @@ ghost use Rattle.study_top.specs.Apart.{apart, parts_of};
 
 use std::alloc::{AllocError, Global};
 
-// What follows a front of a word.
-fn text_after<'a>(word: &'a str, front: &str) -> Option<&'a str>
+/// What follows a front of a word.
+pub(crate) fn text_after<'a>(word: &'a str, front: &str) -> Option<&'a str>
     ensures { option_copied result ≡ text_after front.now word.now }
 {
     word.strip_prefix(front)

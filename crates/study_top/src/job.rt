@@ -1,9 +1,10 @@
 //! The jobs of a study, and its words as those of `alphamu`.
-ghost use Rattle.std.specs.Prelude.{◌≡◌, IfOk, string_bytes};
+ghost use Rattle.std.specs.Prelude.{◌≡◌, IfOk};
 ghost use Rattle.job_words.specs.Asks.{texts_of};
-ghost use Rattle.study_top.specs.Study.{job_named, named_job, job_with, base_word, asked_word};
-ghost use Rattle.study_top.specs.Study.{asked_by};
+ghost use Rattle.study_top.specs.Study.{job_named, named_job, job_with, is_moves, asks_search};
+ghost use Rattle.study_top.specs.Study.{base_word, asked_by};
 
+use crate::apart::text_after;
 use std::alloc::{AllocError, Global};
 
 /// What a study tells.
@@ -63,36 +64,48 @@ pub fn job_of(all: bool, words: &[String]) -> Option<StudyJob>
     None
 }
 
-// The job of `alphamu` that reads what a job of a study reads.
-fn base_word(job: Option<StudyJob>) -> &'static str
-    ensures { result.now ≡ base_word job }
+fn is_moves(word: &str) -> bool
+    ensures { result ≡ is_moves word.now }
+{
+    word == "--moves" || text_after(word, "--moves=").is_some()
+}
+
+/// Whether a study searches for its report: the words have `--moves` among them.
+pub fn asks_search(words: &[String]) -> bool
+    ensures { result ≡ asks_search (texts_of words.now) }
+{
+    for word in words {
+        if is_moves(word.as_str()) {
+            return true;
+        }
+    }
+    false
+}
+
+/// The job of `alphamu` that reads what a job of a study reads, which may search for its report.
+pub fn base_word(searches: bool, job: Option<StudyJob>) -> &'static str
+    ensures { result.now ≡ base_word searches job }
 {
     match job {
-        Some(StudyJob::Words) | Some(StudyJob::Lines) | Some(StudyJob::Page) => "check",
-        Some(StudyJob::Cards) | Some(StudyJob::Review) => "card",
+        Some(StudyJob::Words | StudyJob::Lines | StudyJob::Page) if searches => "solve",
+        Some(StudyJob::Words | StudyJob::Lines | StudyJob::Page) => "check",
+        Some(StudyJob::Cards | StudyJob::Review) => "card",
         Some(StudyJob::Reviews) => "boards",
         None => "",
     }
 }
 
-fn asked_word(alloc: Global, all: bool, names_job: bool, word: &str) -> Result<String, AllocError>
-    ensures { IfOk result (λ text. string_bytes text ≡ asked_word all names_job word.now) }
-{
-    if names_job {
-        String::from_str(alloc, base_word(job_with(all, job_named(word))))
-    } else {
-        String::from_str(alloc, word)
-    }
-}
-
-/// The words of a study, with the job of `alphamu` that reads the same in place of its own.
-pub fn asked_by(alloc: Global, all: bool, words: &[String]) -> Result<Vec<String>, AllocError>
-    ensures { IfOk result (λ asked. texts_of asked.items ≡ asked_by all (texts_of words.now)) }
+/// The words of a study, with the job of `alphamu` that reads the same, `base`, in place of its
+/// own.
+pub fn asked_by(alloc: Global, base: &str, words: &[String]) -> Result<Vec<String>, AllocError>
+    ensures { IfOk result (λ asked.
+        texts_of asked.items ≡ asked_by base.now (texts_of words.now)) }
 {
     let mut asked = Vec::new(alloc);
     let mut names_job = false;
     for word in words {
-        asked.push(asked_word(alloc, all, names_job, word.as_str())?)?;
+        let text = if names_job { base } else { word.as_str() };
+        asked.push(String::from_str(alloc, text)?)?;
         names_job = !names_job && word.as_str() == "--job";
     }
     Ok(asked)

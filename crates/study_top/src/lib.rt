@@ -1,6 +1,6 @@
 //! The program `alphamu_study` as one call: words and files in, a text or a refusal out. It builds
-//! on the reading of inputs, on `job_told`, `job_lines`, `job_page`, `job_cards` and `job_review`,
-//! and on the line of a refusal.
+//! on the reading of inputs, on `job_search` for a report that is searched for, on `job_told`,
+//! `job_lines`, `job_page`, `job_cards` and `job_review`, and on the line of a refusal.
 #![tactic(auto)]
 
 mod all_games;
@@ -9,6 +9,7 @@ mod form;
 mod job;
 mod parted;
 mod program;
+mod solved;
 mod study;
 mod trick;
 

@@ -1,36 +1,114 @@
 //! The call that the program makes.
-ghost use Rattle.std.specs.Prelude.{◌≡◌, ◌≢◌, IfOk, IfErr, IfSome, IsErrOf, List, ℕ};
+ghost use Rattle.std.specs.Prelude.{◌≡◌, ◌≢◌, ◌<◌, ◌-◌, ◌^◌, Ok, IfOk, IfErr, IfSome, IsErrOf, List, ℕ};
+ghost use Rattle.std.specs.Prelude.{length, option_copied};
 ghost use Rattle.std.specs.Io.KnownBytes.{append_known};
 ghost use Rattle.am_outside.specs.Faults.{Rose};
 ghost use Rattle.am_outside.specs.Sink.{AppendsPart};
-ghost use Rattle.job_words.specs.Asks.{texts_of};
+ghost use Rattle.job_words.specs.Asks.{texts_of, IsMoves, IsSearchWithinLimits};
 ghost use Rattle.job_words.specs.declared.asks.Ask.TheVariants.{OnLayouts};
+ghost use Rattle.am_answer.specs.Answers.{IsRoot, board_in};
 ghost use Rattle.am_answer.specs.Lines.{status_line};
 ghost use Rattle.am_answer.specs.Refusals.{IsUnread};
 ghost use Rattle.am_line.specs.Said.{IsSaid};
 ghost use Rattle.am_answer.specs.Files.{AreWithin};
 ghost use Rattle.study_top.specs.Study.{asked_words, IsTextOf, IsRefusalOf, IsStudyText};
-ghost use Rattle.study_top.specs.Study.{IsStudyRefusal};
+ghost use Rattle.study_top.specs.Study.{IsStudyRefusal, IsTextOfReport, IsReportRefusal};
+ghost use Rattle.study_top.specs.Study.{AreCardsFor, AreCardsRefused};
+ghost use Rattle.study_top.specs.Study.{IsTextOfSearch, IsSearchRefusal};
 
 use crate::job::StudyJob;
+use crate::solved::solved_report;
 use crate::study::{Study, study_of};
-use am_answer::{FileWord, Inputs, Status};
+use am_answer::{FileWord, Inputs, Root, Status};
 use am_inputs::{read_deal, read_inputs, read_root};
 use am_line::refuse;
 use am_outside::{Shelf, Sink, write_whole};
 use byte_text::Text;
-use job_cards::tell_cards;
+use card_brackets::CardTable;
+use job_cards::{cards_of, tell_cards};
 use job_lines::tell_lines;
 use job_page::tell_page;
 use job_review::{Asked, tell_review};
 use job_reviews::tell_reviews;
 use job_told::tell_report;
-use job_words::{Ask, LayoutsJob};
+use job_words::{Ask, LayoutsJob, Search};
 use std::alloc::Global;
 use std::thread::Threads;
 
+// Every legal card of a root, if the job shows them.
+fn cards_for(
+    alloc: Global,
+    job: Option<StudyJob>,
+    root: &Root,
+    moves: u8,
+    search: &Search,
+) -> Result<Option<CardTable>, Status>
+    requires root { IsRoot root.now }
+    requires moves { IsMoves moves }
+    requires limits { IsSearchWithinLimits search.now }
+    ensures cards { IfOk result (AreCardsFor job root.now moves) }
+    ensures refused { IfErr result (AreCardsRefused job root.now moves search.now) }
+{
+    match job {
+        Some(StudyJob::Page) => {
+            let table = cards_of(alloc, root, moves, search)?;
+            Ok(Some(table))
+        }
+        _ => Ok(None),
+    }
+}
+
+// What a job tells of a report at the root of a deal, or why there is nothing.
+fn text_of(
+    alloc: Global,
+    job: Option<StudyJob>,
+    deal: &Text,
+    root: &Root,
+    report: &Text,
+    cards: Option<&CardTable>,
+) -> Result<Text, Status>
+    requires board { board_in deal.now ≡ Ok root.now.board }
+    requires root { IsRoot root.now }
+    requires deal_short { length deal.now < 2 ^ 32 - 1 }
+    requires report_short { length report.now < 2 ^ 32 - 1 }
+    ensures text { IfOk result
+        (IsTextOfReport job deal.now root.now report.now (option_copied cards.entry)) }
+    ensures refused { IfErr result (IsReportRefusal job root.now report.now) }
+{
+    match job {
+        Some(StudyJob::Words) => tell_report(alloc, root, report),
+        Some(StudyJob::Lines) => tell_lines(alloc, deal, root, report),
+        Some(StudyJob::Page) => tell_page(alloc, deal, root, report, cards),
+        _ => Err(Status::BadWords),
+    }
+}
+
+// The same of the report that `solve` gives.
+fn text_by_search<R: Threads + Sync>(
+    rt: &R,
+    alloc: Global,
+    job: Option<StudyJob>,
+    deal: &Text,
+    root: &Root,
+    moves: u8,
+    search: &Search,
+) -> Result<Text, Status>
+    requires board { board_in deal.now ≡ Ok root.now.board }
+    requires root { IsRoot root.now }
+    requires deal_short { length deal.now < 2 ^ 32 - 1 }
+    requires moves { IsMoves moves }
+    requires limits { IsSearchWithinLimits search.now }
+    ensures text { IfOk result (IsTextOfSearch job deal.now root.now moves search.now) }
+    ensures refused { IfErr result (IsSearchRefusal job root.now moves search.now) }
+{
+    let report = solved_report(rt, alloc, root, moves, search)?;
+    let cards = cards_for(alloc, job, root, moves, search)?;
+    text_of(alloc, job, deal, root, &report, cards.as_ref())
+}
+
 // What a job tells of a deal and its layouts, or why there is nothing.
-fn text_on(
+fn text_on<R: Threads + Sync>(
+    rt: &R,
     alloc: Global,
     study: &Study,
     deal: &Text,
@@ -44,17 +122,13 @@ fn text_on(
         (OnLayouts deal.now layouts.now asked.now)) }
 {
     match (study.job, asked) {
-        (Some(StudyJob::Words), LayoutsJob::Check { report }) => {
+        (job, LayoutsJob::Check { report }) => {
             let root = read_root(alloc, deal, layouts)?;
-            tell_report(alloc, &root, report)
+            text_of(alloc, job, deal, &root, report, None)
         }
-        (Some(StudyJob::Lines), LayoutsJob::Check { report }) => {
+        (job, LayoutsJob::Solve { moves, search }) => {
             let root = read_root(alloc, deal, layouts)?;
-            tell_lines(alloc, deal, &root, report)
-        }
-        (Some(StudyJob::Page), LayoutsJob::Check { report }) => {
-            let root = read_root(alloc, deal, layouts)?;
-            tell_page(alloc, deal, &root, report)
+            text_by_search(rt, alloc, job, deal, &root, *moves, search)
         }
         (Some(StudyJob::Cards), LayoutsJob::Card { moves, search }) => {
             let root = read_root(alloc, deal, layouts)?;
@@ -86,7 +160,9 @@ fn text_in<R: Threads + Sync>(
     ensures refused { IfErr result (IsRefusalOf study.now.job study.now.from inputs.now) }
 {
     match (study.job, inputs) {
-        (_, Ask::OnLayouts { deal, layouts, job }) => text_on(alloc, study, deal, layouts, job),
+        (_, Ask::OnLayouts { deal, layouts, job }) => {
+            text_on(rt, alloc, study, deal, layouts, job)
+        }
         (
             Some(StudyJob::Reviews),
             Ask::Boards {

@@ -9,7 +9,7 @@ ghost use Rattle.study_top.specs.Study.{IsStudyOf, job_of as job_asked};
 use crate::all_games::games_asked;
 use crate::apart::apart;
 use crate::form::form_in;
-use crate::job::{StudyJob, asked_by, job_of};
+use crate::job::{StudyJob, asked_by, asks_search, base_word, job_of};
 use crate::parted::parted_by;
 use crate::trick::trick_in;
 use am_answer::Status;
@@ -47,7 +47,8 @@ pub fn study_of(alloc: Global, words: &[String]) -> Result<Study, Status>
     let job = job_of(games.all, &games.others);
     let form = form_in(job, &by_form.values)?;
     let from = trick_in(job, &by_from.values)?;
-    let asked = asked_by(alloc, games.all, &games.others)?;
+    let base = base_word(asks_search(&games.others), job);
+    let asked = asked_by(alloc, base, &games.others)?;
     Ok(Study {
         job,
         form,

@@ -1,10 +1,16 @@
+use Rattle.std.proofs.Common.{inr}
+use Rattle.std.proofs.lemmas.Result.{IfErr-weaker}
 use Rattle.study_top.proofs.RootBoard.{board_of_root}
 use Rattle.study_top.proofs.program.text_on.Goals as goal
 
-pub tell_lines-requires-clause-board : goal.tell_lines-requires-clause-board
-tell_lines-requires-clause-board c =
-    board_of_root c.args.deal.now c.args.layouts.now c.in_ok-root-in-Some-Lines-Check.root c.in_ok-root-in-Some-Lines-Check.ensures.root
+pub text_of-requires-clause-board : goal.text_of-requires-clause-board
+text_of-requires-clause-board g c =
+    board_of_root c.args.deal.now c.args.layouts.now c.in_ok-root-in_default-Check.root c.in_ok-root-in_default-Check.ensures.root
 
-pub tell_page-requires-clause-board : goal.tell_page-requires-clause-board
-tell_page-requires-clause-board c =
-    board_of_root c.args.deal.now c.args.layouts.now c.in_ok-root-in-Some-Page-Check.root c.in_ok-root-in-Some-Page-Check.ensures.root
+pub text_by_search-requires-clause-board : goal.text_by_search-requires-clause-board
+text_by_search-requires-clause-board g c = λ κs lives.
+    board_of_root c.args.deal.now c.args.layouts.now c.in_ok-root-in_default-Solve.root c.in_ok-root-in_default-Solve.ensures.root
+
+pub returns-in_ok-root-in_default-Solve-clause-refused : goal.returns-in_ok-root-in_default-Solve-clause-refused
+returns-in_ok-root-in_default-Solve-clause-refused g c =
+    rw (c.in_default-Solve.is-1) (IfErr-weaker c.text_by_search.result _ _ (λ status refused. inr (c.in_ok-root-in_default-Solve.root, c.in_ok-root-in_default-Solve.ensures.root, refused)) c.text_by_search.ensures.refused)

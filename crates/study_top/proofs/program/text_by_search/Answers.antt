@@ -1,0 +1,14 @@
+use Rattle.std.proofs.Common.{inl, inr}
+use Rattle.std.proofs.lemmas.Result.{IfErr-weaker}
+use Rattle.am_answer.proofs.Passed.{refused_by}
+use Rattle.study_top.specs.Study.{IsSearchRefusal}
+use Rattle.study_top.proofs.program.text_by_search.Goals as goal
+
+pub returns-in_err-cards-clause-refused : goal.returns-in_err-cards-clause-refused
+returns-in_err-cards-clause-refused g c =
+    refused_by (IsSearchRefusal c.args.job c.args.root.now c.args.moves c.args.search.now) c.from_residual-in_err-cards.result c.in_err-cards.field-0.0 c.from_residual-in_err-cards.ensures.1
+    (inr (inl c.in_err-cards.ensures.refused))
+
+pub returns-clause-refused : goal.returns-clause-refused
+returns-clause-refused g c =
+    IfErr-weaker c.text_of.result _ _ (λ status refused. inr (inr (_, c.in_ok-report.ensures.text, refused))) c.text_of.ensures.refused
