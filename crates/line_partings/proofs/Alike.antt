@@ -1,10 +1,9 @@
 -- Plans of one node do the same until they part.
-use Rattle.std.proofs.Common.{◌≡◌, ◌∙◌, ℕ, zero, suc, true, false, refl, sym, ap, subst, List, [], ◌∷◌}
-use Rattle.std.specs.Prelude.{is_some}
-use Rattle.card_sets.specs.SetWords.{has_card, IsCardSet}
+use Rattle.std.proofs.Common.{◌≡◌, ◌∙◌, ℕ, zero, suc, true, false, refl, sym, subst, ◌∷◌}
+use Rattle.card_sets.specs.SetWords.{IsCardSet}
 use Rattle.card_sets.proofs.Sets.{IsCardSet-cards_where, IsCardSet-tail}
-use Rattle.trick_rules.specs.Nodes.{NodeValue, choices, child}
-use Rattle.strategy_games.specs.Plans.{Plan, Replies, Stop, Play, Hear, NoReply, Reply, cards_of, stops, Fits, FitEach}
+use Rattle.trick_rules.specs.Nodes.{NodeValue, child}
+use Rattle.strategy_games.specs.Plans.{Plan, Replies, Stop, Play, Hear, Reply, cards_of, Fits, FitEach}
 use Rattle.strategy_tree.specs.Bridge.{bridge}
 use Rattle.line_partings.specs.Partings.{FitOneNode}
 

@@ -1,15 +1,12 @@
 -- Plans that part, card by card.
-use Rattle.std.proofs.Common.{◌≡◌, ◌∙◌, ◌==◌, ◌<◌, ℕ, Bool, true, false, cond, Option, Some, None, List, [], ◌∷◌, length, refl, sym, ap, subst, inl, inr, arith}
-use Rattle.std.specs.Prelude.{◌≢◌, ◌⊎◌, option_and_then, nat_le, if◌then◌else◌}
+use Rattle.std.proofs.Common.{◌≡◌, ◌∙◌, ℕ, Bool, cond, Option, Some, None, List, [], ◌∷◌, refl, sym, ap, subst, inl, inr, arith}
+use Rattle.std.specs.Prelude.{◌≢◌, option_and_then}
 use Rattle.std.specs.Option.{option_map}
-use Rattle.std.proofs.lemmas.Bool.{cases_eq, cases_lt, eq-eqb, ne_eqb}
-use Rattle.card_sets.specs.SetWords.{has_card, IsCardSet}
-use Rattle.card_sets.proofs.Sets.{tail-after}
-use Rattle.strategy_games.specs.Plans.{Plan, Replies, Stop, Play, Hear, NoReply, Reply, cards_of}
-use Rattle.told_plans.specs.Follows.{Action, Stops, Plays, Waits, action, answer_to, rest_after, does_after}
-use Rattle.told_plans.proofs.Answered.{first_answer, later_answer, replied}
-use Rattle.line_partings.specs.Partings.{PartAfter, IsBefore, IsEarlier, PartingValue, IsFirstParting, IsWhereTheyPart}
-use Rattle.line_partings.specs.Nearest.{with_card, nearer}
+use Rattle.std.proofs.lemmas.Bool.{cases_eq, eq-eqb, ne_eqb}
+use Rattle.strategy_games.specs.Plans.{Plan, Play}
+use Rattle.told_plans.specs.Follows.{Plays, rest_after, does_after}
+use Rattle.line_partings.specs.Partings.{PartAfter, IsEarlier, PartingValue, IsFirstParting, IsWhereTheyPart}
+use Rattle.line_partings.specs.Nearest.{with_card}
 
 -- ---- histories
 
@@ -41,11 +38,14 @@ never_from_itself plan other history a b same part =
 after_same_card : (c d : ℕ) (p q : Plan ℕ) (history : List ℕ) (a b : ℕ) → PartAfter (Play c p) (Play c q) (d ∷ history) a b → (c ≡ d) × PartAfter p q history a b
 after_same_card c d p q history a b part =
     elim (cases_eq c d) [
-      | inl same ↦ (same, record {
+      | inl same ↦ (
+        same,
+        record {
           plays = sym (ap (λ (t : Bool). option_and_then (does_after history) (cond t (Some p) None)) (eq-eqb c d same)) ∙ part.plays;
           other_plays = sym (ap (λ (t : Bool). option_and_then (does_after history) (cond t (Some q) None)) (eq-eqb c d same)) ∙ part.other_plays;
           differ = part.differ;
-        })
+        },
+      )
       | inr other ↦
           (let none : None ≡ Some (Plays a) = sym (ap (λ (t : Bool). option_and_then (does_after history) (cond t (Some p) None)) (ne_eqb c d other)) ∙ part.plays in
           absurd cc)

@@ -1,9 +1,9 @@
 -- Two plans first part at one place at most.
-use Rattle.std.proofs.Common.{◌≡◌, ◌∙◌, ◌<◌, ◌≤◌, ℕ, suc, Some, List, [], ◌∷◌, length, refl, sym, ap, inl, inr, arith}
+use Rattle.std.proofs.Common.{◌≡◌, ◌∙◌, ◌<◌, ℕ, List, [], ◌∷◌, length, refl, sym, ap, inl, inr, arith}
 use Rattle.std.specs.Prelude.{◌⊎◌}
 use Rattle.std.proofs.lemmas.Bool.{cases_eq, cases_lt}
 use Rattle.strategy_games.specs.Plans.{Plan}
-use Rattle.told_plans.specs.Follows.{Plays, does_after}
+use Rattle.told_plans.specs.Follows.{does_after}
 use Rattle.line_partings.specs.Partings.{PartAfter, IsBefore, IsEarlier, PartingValue, IsFirstParting}
 use Rattle.line_partings.proofs.Apart.{one_action, never_from_itself}
 
@@ -16,9 +16,9 @@ in_order (c ∷ history) (d ∷ later) many =
     elim (cases_eq c d) [
       | inl same ↦ go same (in_order history later (omega (arith, many)))
       | inr other ↦ elim (cases_lt c d) [
-          | inl below ↦ inr (inl (inl below))
-          | inr above ↦ (let lower : d < c = omega (arith, above, other) in inr (inr (inl lower)))
-        ]
+        | inl below ↦ inr (inl (inl below))
+        | inr above ↦ (let lower : d < c = omega (arith, above, other) in inr (inr (inl lower)))
+      ]
     ]
   where
     go : c ≡ d → (history ≡ later) ⊎ (IsBefore history later ⊎ IsBefore later history) → (c ∷ history ≡ d ∷ later) ⊎ (IsBefore (c ∷ history) (d ∷ later) ⊎ IsBefore (d ∷ later) (c ∷ history))
@@ -32,9 +32,9 @@ one_earlier history later =
     elim (cases_lt (length history) (length later)) [
       | inl fewer ↦ inr (inl (inl fewer))
       | inr more ↦ elim (cases_lt (length later) (length history)) [
-          | inl fewer ↦ inr (inr (inl fewer))
-          | inr few ↦ (let many : length history ≡ length later = omega (arith, more, few) in go many (in_order history later many))
-        ]
+        | inl fewer ↦ inr (inr (inl fewer))
+        | inr few ↦ (let many : length history ≡ length later = omega (arith, more, few) in go many (in_order history later many))
+      ]
     ]
   where
     go : length history ≡ length later → (history ≡ later) ⊎ (IsBefore history later ⊎ IsBefore later history) → (history ≡ later) ⊎ (IsEarlier history later ⊎ IsEarlier later history)

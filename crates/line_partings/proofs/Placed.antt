@@ -63,7 +63,7 @@ module _ (xs ys : List Reply) (fit : FitOneNode (Hear (replies_of xs)) (Hear (re
       let ss = replies_of (drop (i + 1) ys) in
       let all = nearer (option_map (with_card x.card) below) found in
       let whole : IsWhereTheyPart (Hear (games.Reply x.card (plan_of x.plan) rs)) (Hear (games.Reply x.card (plan_of y.plan) ss)) all =
-        one_reply_more x.card (plan_of x.plan) (plan_of y.plan) rs ss first_here.in_order below found is_below is_found in
+      one_reply_more x.card (plan_of x.plan) (plan_of y.plan) rs ss first_here.in_order below found is_below is_found in
       let mine : IsWhereTheyPart (Hear (replies_of (drop i xs))) (Hear (games.Reply x.card (plan_of y.plan) ss)) all = subst (λ us. IsWhereTheyPart (Hear us) (Hear (games.Reply x.card (plan_of y.plan) ss)) all) (sym next_x) whole in
       let also_y : replies_of (drop i ys) ≡ games.Reply x.card (plan_of y.plan) ss = next_y ∙ ap (λ c. games.Reply c (plan_of y.plan) ss) (sym first_here.same) in
       subst (λ us. IsWhereTheyPart (Hear (replies_of (drop i xs))) (Hear us) all) (sym also_y) mine

@@ -1,14 +1,14 @@
 -- A reply before others: the nearer of the place behind it and the place behind those.
-use Rattle.std.proofs.Common.{◌≡◌, ◌∙◌, ◌==◌, ◌<◌, ◌≤◌, ℕ, Bool, true, false, cond, Option, Some, None, List, [], ◌∷◌, length, refl, sym, ap, subst, inl, inr, arith}
+use Rattle.std.proofs.Common.{◌≡◌, ◌∙◌, ◌<◌, ◌≤◌, ℕ, Bool, true, false, cond, Option, Some, None, List, [], ◌∷◌, length, refl, sym, ap, subst, inl, inr, arith}
 use Rattle.std.specs.Prelude.{◌⊎◌, option_and_then, nat_le}
 use Rattle.std.specs.Option.{option_map}
 use Rattle.std.proofs.lemmas.Bool.{cases_eq}
-use Rattle.card_sets.specs.SetWords.{has_card, IsCardSet}
+use Rattle.card_sets.specs.SetWords.{IsCardSet}
 use Rattle.card_sets.proofs.Sets.{tail-after}
-use Rattle.strategy_games.specs.Plans.{Plan, Replies, Hear, NoReply, Reply, cards_of}
+use Rattle.strategy_games.specs.Plans.{Plan, Replies, Hear, Reply, cards_of}
 use Rattle.told_plans.specs.Follows.{Action, Plays, Waits, answer_to, does_after}
 use Rattle.told_plans.proofs.Answered.{first_answer, later_answer, replied}
-use Rattle.line_partings.specs.Partings.{PartAfter, IsBefore, IsEarlier, PartingValue, IsFirstParting, IsWhereTheyPart}
+use Rattle.line_partings.specs.Partings.{PartAfter, IsEarlier, PartingValue, IsFirstParting, IsWhereTheyPart}
 use Rattle.line_partings.specs.Nearest.{with_card, nearer}
 use Rattle.line_partings.proofs.Apart.{earlier_tail, never_from_itself}
 
@@ -53,19 +53,22 @@ module _ (c : ℕ) (p q : Plan ℕ) (rs ss : Replies ℕ) (in_order : IsCardSet 
         | inl same ↦
             (let first = subst (λ x. PartAfter (Hear (Reply c p rs)) (Hear (Reply c q ss)) (x ∷ history) a b) (sym same) part in
             record {
-              which = inl (same, record {
-                plays = sym (ap (option_and_then (does_after history)) (first_answer c p rs)) ∙ first.plays;
-                other_plays = sym (ap (option_and_then (does_after history)) (first_answer c q ss)) ∙ first.other_plays;
-                differ = part.differ;
-              });
+              which = inl (
+                same,
+                record {
+                  plays = sym (ap (option_and_then (does_after history)) (first_answer c p rs)) ∙ first.plays;
+                  other_plays = sym (ap (option_and_then (does_after history)) (first_answer c q ss)) ∙ first.other_plays;
+                  differ = part.differ;
+                },
+              );
             })
         | inr other ↦ record {
-            which = inr (record {
-              plays = sym (ap (option_and_then (does_after history)) (later_answer c d p rs other)) ∙ part.plays;
-              other_plays = sym (ap (option_and_then (does_after history)) (later_answer c d q ss other)) ∙ part.other_plays;
-              differ = part.differ;
-            });
-          }
+          which = inr (record {
+            plays = sym (ap (option_and_then (does_after history)) (later_answer c d p rs other)) ∙ part.plays;
+            other_plays = sym (ap (option_and_then (does_after history)) (later_answer c d q ss other)) ∙ part.other_plays;
+            differ = part.differ;
+          });
+        }
       ]
 
   -- a history comes no earlier than a place if it doesn't so behind the first reply, nor behind a later one

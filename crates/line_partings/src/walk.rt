@@ -37,7 +37,11 @@ impl Model for Parting {
 /// and of equally many after those that come first in card order. `None` exactly when the two are
 /// the same.
 #[cycle(walk)]
-pub fn first_parting(alloc: Global, plan: &Plan, other: &Plan) -> Result<Option<Parting>, AllocError>
+pub fn first_parting(
+    alloc: Global,
+    plan: &Plan,
+    other: &Plan,
+) -> Result<Option<Parting>, AllocError>
     requires { FitOneNode (plan_of plan.now) (plan_of other.now) }
     ensures { IfOk result (IsWhereTheyPart (plan_of plan.now) (plan_of other.now)) }
 {

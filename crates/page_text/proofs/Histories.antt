@@ -1,5 +1,5 @@
 -- The cards of a history, one more of them told.
-use Rattle.std.proofs.Common.{◌≡◌, ◌∙◌, ◌<◌, ◌≤◌, ◌+◌, ℕ, suc, List, [], ◌∷◌, ◌++◌, length, get_or, drop, drop-cons, sym, ap, append_assoc, arith}
+use Rattle.std.proofs.Common.{◌≡◌, ◌∙◌, ◌<◌, ◌≤◌, ◌+◌, ℕ, suc, List, ◌∷◌, ◌++◌, length, get_or, drop, drop-cons, sym, ap, append_assoc, arith}
 use Rattle.std.proofs.lemmas.List.{drop_all, append-nil}
 use Rattle.card_sets.specs.declared.seat.Compass.{Compass}
 use Rattle.trick_rules.specs.declared.trump.Trump.{Trump}

@@ -244,9 +244,9 @@ pub const PARTINGS: &[u8] = b"<section id='partings'>
 
 pub const NO_SECOND: &[u8] = b"<p>This report has no second line.</p>\n";
 
-pub const BESIDE: &[u8] = b"<p class='note'>Two lines part where they play different cards after the
-same cards. If there are several such places, the one with the fewest cards is shown, and of equally
-many the first in card order. A semicolon ends a trick.</p>
+pub const BESIDE: &[u8] = b"<p class='note'>Two lines part if they play different cards after the
+same cards. The earliest such place is shown, and of several equally early the first in card order.
+A semicolon ends a trick.</p>
 <ul>
 ";
 

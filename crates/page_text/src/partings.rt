@@ -48,12 +48,7 @@ fn push_defender(page: &mut Page, declarer: Compass, seat: Seat) -> Result<(), A
 
 // Adds a card, with the hand that it comes from or the defender who plays it.
 #[tactic(auto, unfolding(crate::specs::Partings::played))]
-fn push_played(
-    page: &mut Page,
-    declarer: Compass,
-    seat: Seat,
-    card: Card,
-) -> Result<(), AllocError>
+fn push_played(page: &mut Page, declarer: Compass, seat: Seat, card: Card) -> Result<(), AllocError>
     ensures { OnOk result (page.new ≡ page.old ++ played declarer seat card) }
 {
     push_defender(page, declarer, seat)?;
@@ -107,7 +102,11 @@ fn push_history(
 fn opening(history: &[Card]) -> &'static [u8]
     ensures { result.now ≡ opening history.now }
 {
-    if history.is_empty() { b": at once " } else { b": after " }
+    if history.is_empty() {
+        b": at once "
+    } else {
+        b": after "
+    }
 }
 
 // Adds the first line and the one of a number, as links to their words.
@@ -128,12 +127,7 @@ fn push_other_line(page: &mut Page, number: u64) -> Result<(), AllocError>
 
 // Adds the card that the line of a number plays, and from which hand.
 #[tactic(auto, unfolding(crate::specs::Partings::other_card))]
-fn push_other_card(
-    page: &mut Page,
-    number: u64,
-    card: Card,
-    seat: Seat,
-) -> Result<(), AllocError>
+fn push_other_card(page: &mut Page, number: u64, card: Card, seat: Seat) -> Result<(), AllocError>
     ensures { OnOk result (page.new ≡ page.old ++ other_card number card seat) }
 {
     push_other_line(page, number)?;

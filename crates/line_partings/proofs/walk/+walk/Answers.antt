@@ -1,7 +1,7 @@
-use Rattle.std.proofs.Common.{◌≡◌, ◌∙◌, ◌≤◌, ◌<◌, ◌+◌, ◌-◌, ◌==◌, ℕ, true, false, not, Result, Ok, Err, List, drop, length, get_or, IfOk, sym, ap, subst, arith}
+use Rattle.std.proofs.Common.{◌≡◌, ◌∙◌, ◌≤◌, ◌<◌, ◌+◌, ◌-◌, ◌==◌, ℕ, false, not, Result, Ok, Err, drop, length, get_or, IfOk, sym, ap, subst, arith}
 use Rattle.std.specs.Option.{option_map}
 use Rattle.std.proofs.lemmas.List.{get_or_default}
-use Rattle.strategy_games.specs.Plans.{Plan, Play, Hear}
+use Rattle.strategy_games.specs.Plans.{Play, Hear}
 use Rattle.strategy_tree.specs.declared.plan.Reply.{Reply}
 use Rattle.strategy_tree.specs.PlanMeaning.{plan_of, replies_of}
 use Rattle.strategy_tree.specs.PlanText.{levels_of, levels_below}
@@ -59,11 +59,10 @@ parting_replies-first_parting-requires t c =
     let y = c.index-others-place.result in
     let low : i < length xs = omega (arith, c.replies.invariant.within, c.replies-test.true) in
     let level : levels_of (plan_of (get_or xs i x).plan) ≤ levels_below (replies_of xs) =
-      subst (λ (r : Reply). levels_of (plan_of r.plan) ≤ levels_below (replies_of xs)) c.index-replies-place.is (level_at xs i x low c.index-replies-place.is) in
-    (
+    subst (λ (r : Reply). levels_of (plan_of r.plan) ≤ levels_below (replies_of xs)) c.index-replies-place.is (level_at xs i x low c.index-replies-place.is) in (
       omega (arith, level, c.decreases),
       subst (λ (r : Reply). FitOneNode (plan_of r.plan) (plan_of (get_or ys i y).plan)) c.index-replies-place.is
-      (subst (λ (r : Reply). FitOneNode (plan_of x.plan) (plan_of r.plan)) c.index-others-place.is (fit_at xs ys c.requires i x y low c.index-replies-place.is c.index-others-place.is)),
+          (subst (λ (r : Reply). FitOneNode (plan_of x.plan) (plan_of r.plan)) c.index-others-place.is (fit_at xs ys c.requires i x y low c.index-replies-place.is c.index-others-place.is)),
     )
 
 pub parting_replies-replies-preserved : goal.parting_replies-replies-preserved
@@ -79,12 +78,12 @@ parting_replies-replies-preserved t c =
     let low : i < length xs = omega (arith, c.replies.invariant.within, c.replies-test.true) in
     let next : c.replies.place ≡ i + 1 = omega (arith, c.replies-test.true) in
     let is_below : IsWhereTheyPart (plan_of x.plan) (plan_of y.plan) below =
-      subst (λ (r : Reply). IsWhereTheyPart (plan_of r.plan) (plan_of y.plan) below) (sym c.index-replies-place.is)
-      (subst (λ (r : Reply). IsWhereTheyPart (plan_of (get_or xs i x).plan) (plan_of r.plan) below) (sym c.index-others-place.is) c.in_ok-below.ensures) in
+    subst (λ (r : Reply). IsWhereTheyPart (plan_of r.plan) (plan_of y.plan) below) (sym c.index-replies-place.is)
+    (subst (λ (r : Reply). IsWhereTheyPart (plan_of (get_or xs i x).plan) (plan_of r.plan) below) (sym c.index-others-place.is) c.in_ok-below.ensures) in
     let is_found : IsWhereTheyPart (Hear (replies_of (drop (i + 1) xs))) (Hear (replies_of (drop (i + 1) ys))) found =
-      subst (λ (k : ℕ). IsWhereTheyPart (Hear (replies_of (drop k xs))) (Hear (replies_of (drop k ys))) found) next c.replies.invariant.nearest in
+    subst (λ (k : ℕ). IsWhereTheyPart (Hear (replies_of (drop k xs))) (Hear (replies_of (drop k ys))) found) next c.replies.invariant.nearest in
     let here : c.in_ok-after_card.field-0 ≡ option_map (with_card x.card) below =
-      cc (c.in_ok-after_card.ensures, get_or_default xs i again x low, c.index-replies-place.is) in
+    cc (c.in_ok-after_card.ensures, get_or_default xs i again x low, c.index-replies-place.is) in
     let all : c.nearer-found.result ≡ nearer (option_map (with_card x.card) below) found = c.nearer-found.ensures ∙ ap (λ h. nearer h found) here in
     record {
       within = omega (arith, c.replies.invariant.within);

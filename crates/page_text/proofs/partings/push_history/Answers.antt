@@ -1,4 +1,3 @@
-use Rattle.std.proofs.Common.{sym, ap, ◌∙◌}
 use Rattle.page_text.proofs.Histories.{card_added, card_played, all_added, all_played}
 use Rattle.page_text.proofs.partings.push_history.Goals as goal
 
