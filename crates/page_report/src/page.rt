@@ -18,11 +18,12 @@ use crate::dropped::push_left_out;
 use crate::lines::lines_of;
 use am_report::{ReadReport, Version};
 use byte_text::Text;
+use card_sets::Compass;
 use html_text::Page;
 use layout_list::Kept;
 use page_text::{
-    Belief, Line, Scale, Tags, push_end, push_facts, push_headline, push_horizon, push_layouts,
-    push_lines, push_navigation, push_numbers, push_promise, push_report, push_sampling,
+    Belief, Line, Scale, Tags, push_end, push_facts, push_headline, push_horizon, push_kept_reason,
+    push_layouts, push_lines, push_navigation, push_numbers, push_promise, push_report, push_sampling,
     push_start, push_table, push_trade_offs,
 };
 use pbn_deal::Board;
@@ -96,16 +97,18 @@ fn tags_of(game: &Game) -> Tags<'_>
 #[tactic(auto, unfolding(crate::specs::ReportPages::verdict))]
 fn push_verdict(
     page: &mut Page,
+    declarer: Compass,
     kept: &Kept,
     report: &ReadReport,
     lines: &[Line],
 ) -> Result<(), AllocError>
     ensures { OnOk result (page.new
-        ≡ page.old ++ verdict kept.now (report_of report.now) lines.now) }
+        ≡ page.old ++ verdict declarer kept.now (report_of report.now) lines.now) }
 {
     let position = kept.node.position();
     push_headline(page, position, report.card)?;
     push_promise(page, scale_of(kept, report.version), report.card, lines)?;
+    push_kept_reason(page, declarer, report.card, lines)?;
     push_horizon(page, position, report.moves)
 }
 
@@ -124,7 +127,7 @@ fn push_top(page: &mut Page, alloc: Global, shown: &Shown, lines: &[Line]) -> Re
         &tags_of(shown.game),
         board.compass(kept.node.position().to_play()),
     )?;
-    push_verdict(page, kept, report, lines)?;
+    push_verdict(page, board.declarer(), kept, report, lines)?;
     push_navigation(page)
 }
 
@@ -138,19 +141,20 @@ struct Found {
 #[tactic(auto, unfolding(crate::specs::ReportPages::play))]
 fn push_play(
     page: &mut Page,
+    declarer: Compass,
     kept: &Kept,
     report: &ReadReport,
     found: &Found,
 ) -> Result<(), AllocError>
     requires { found.now.beliefs.items ≡ beliefs_at kept.now }
     ensures { OnOk result (page.new
-        ≡ page.old ++ play kept.now (report_of report.now) found.now.lines.items) }
+        ≡ page.old ++ play declarer kept.now (report_of report.now) found.now.lines.items) }
 {
     let scale = scale_of(kept, report.version);
     let width = kept.node.width();
     push_trade_offs(page, width, &found.lines)?;
     push_sampling(page, scale, width, &found.beliefs, &found.lines)?;
-    push_lines(page, scale, &found.lines)
+    push_lines(page, declarer, scale, &found.lines)
 }
 
 #[tactic(auto, unfolding(crate::specs::ReportPages::all_layouts))]
@@ -176,7 +180,7 @@ fn push_middle(page: &mut Page, shown: &Shown, found: &Found) -> Result<(), Allo
 {
     let kept = shown.kept;
     push_table(page, shown.board.declarer(), &kept.node)?;
-    push_play(page, kept, shown.report, found)?;
+    push_play(page, shown.board.declarer(), kept, shown.report, found)?;
     push_all_layouts(page, shown, &found.lines)
 }
 

@@ -1,6 +1,7 @@
 pub mod Signs
 pub mod Verdicts
 pub mod Tables
+pub mod Reasons
 pub mod Lines
 pub mod Steps
 pub mod Beliefs

@@ -121,6 +121,19 @@ pub const PLANNED_END: &[u8] =
     b". If the result is open after them, it is judged as if all hands were seen: with more cards
 planned the figure can be lower, never higher.</p>\n";
 
+// ---- what decides
+
+pub const KEPT_DECIDED: &[u8] =
+    b"<p>Among these layouts, the line that it keeps makes exactly those in which ";
+
+pub const DECIDED: &[u8] = b"<p>Among these layouts it makes exactly those in which ";
+
+pub const DECIDED_END: &[u8] = b".</p>\n";
+
+pub const HAS_EXACTLY: &[u8] = b" has exactly ";
+
+pub const HAS_AT_LEAST: &[u8] = b" has at least ";
+
 // ---- the table
 
 pub const TABLE_START: &[u8] = b"<section id='table'>
