@@ -1,5 +1,5 @@
 -- The first of a list that passes a test passes it, and if there is none, none passes.
-use Rattle.std.proofs.Common.{◌≡◌, ◌≢◌, ◌∙◌, ℕ, zero, suc, Bool, true, false, Option, Some, None, MatchOption, List, [], ◌∷◌, All, find, ap, sym, subst, inl, inr, arith, IfSome, IfNone}
+use Rattle.std.proofs.Common.{◌≡◌, zero, suc, Bool, true, false, Option, Some, None, MatchOption, List, [], ◌∷◌, All, find, inl, inr, arith}
 use Rattle.std.proofs.lemmas.Bool.{cases_Bool}
 
 module _ {X : Type 0} (p : X → Bool) where

@@ -1,5 +1,5 @@
 -- The first reason of the table of all facts is the first of all reasons.
-use Rattle.std.proofs.Common.{◌≡◌, ◌≢◌, ◌∙◌, ℕ, suc, ◌<◌, Bool, true, false, ◌&&◌, ◌||◌, Option, Some, None, MatchOption, List, [], ◌∷◌, ◌++◌, length, map, flat_map, find, get_or, All, refl, ap, ap₂, sym, subst, if◌then◌else◌, arith}
+use Rattle.std.proofs.Common.{◌≡◌, ◌≢◌, ◌∙◌, Bool, true, false, ◌&&◌, ◌||◌, Option, Some, None, MatchOption, List, [], ◌∷◌, ◌++◌, length, map, flat_map, find, get_or, All, refl, ap, ap₂, sym, if◌then◌else◌}
 use Rattle.std.specs.Option.{option_or}
 use Rattle.std.specs.Cmp.Lexicographic.{pointwise}
 use Rattle.std.proofs.Math.Bool.{beq}

@@ -1,5 +1,5 @@
 -- Facts about the cards that the defenders hold now.
-use Rattle.std.specs.Prelude.{ℕ, ◌-◌, ◌==◌, Bool, List, [], ◌∷◌, ◌++◌, length, map, flat_map, nat_le}
+use Rattle.std.specs.Prelude.{ℕ, ◌-◌, ◌==◌, Bool, List, [], ◌∷◌, ◌++◌, length, flat_map, nat_le}
 use Rattle.std.specs.List.{range_with_len}
 use Rattle.card_sets.specs.declared.card.Suit.{Suit}
 use Rattle.card_sets.specs.declared.card.Suit.TheVariants.{Spades, Hearts, Diamonds, Clubs}
@@ -7,10 +7,8 @@ use Rattle.card_sets.specs.declared.seat.Seat.{Seat}
 use Rattle.card_sets.specs.declared.seat.Seat.TheVariants.{Left, Right}
 use Rattle.card_sets.specs.Cards.{card_of}
 use Rattle.card_sets.specs.SetWords.{has_card}
-use Rattle.win_vectors.specs.Fronts.{Vector}
 use Rattle.trick_rules.specs.Positions.{State}
 use Rattle.trick_rules.specs.Play.{hand_of, of_suit}
-use Rattle.trick_rules.specs.Nodes.{NodeValue, states}
 use Rattle.layout_facts.specs.declared.fact.Fact.{Fact}
 use Rattle.layout_facts.specs.declared.fact.Fact.TheVariants.{Holds, Exactly, AtLeast}
 

@@ -1,5 +1,5 @@
 -- What decides a win vector: one fact about the defenders' hands, or two.
-use Rattle.std.specs.Prelude.{ℕ, ◌==◌, Bool, ◌&&◌, ◌||◌, Option, None, List, ◌++◌, length, map, flat_map, find, nat_lt, if◌then◌else◌}
+use Rattle.std.specs.Prelude.{◌==◌, Bool, ◌&&◌, ◌||◌, Option, None, List, ◌++◌, length, map, flat_map, find, nat_lt, if◌then◌else◌}
 use Rattle.std.specs.Cmp.Lexicographic.{pointwise}
 use Rattle.std.proofs.Math.Bool.{beq}
 use Rattle.win_vectors.specs.Fronts.{Vector}

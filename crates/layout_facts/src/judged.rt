@@ -39,11 +39,7 @@ fn judge(node: &Node, fact: &Fact) -> Judged
 }
 
 /// Each fact with the layouts of the node in which it is so.
-pub fn all_judged(
-    alloc: Global,
-    node: &Node,
-    listed: &[Fact],
-) -> Result<Vec<Judged>, AllocError>
+pub fn all_judged(alloc: Global, node: &Node, listed: &[Fact]) -> Result<Vec<Judged>, AllocError>
     ensures { IfOk result (λ table. table.items ≡ map (judged_at node.now) listed.now) }
 {
     let mut table = Vec::new(alloc);

@@ -23,8 +23,8 @@ use html_text::Page;
 use layout_list::Kept;
 use page_text::{
     Belief, Line, Scale, Tags, push_end, push_facts, push_headline, push_horizon, push_kept_reason,
-    push_layouts, push_lines, push_navigation, push_numbers, push_promise, push_report, push_sampling,
-    push_start, push_table, push_trade_offs,
+    push_layouts, push_lines, push_navigation, push_numbers, push_promise, push_report,
+    push_sampling, push_start, push_table, push_trade_offs,
 };
 use pbn_deal::Board;
 use pbn_text::{Game, Tag};

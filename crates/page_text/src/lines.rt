@@ -6,8 +6,8 @@ ghost use Rattle.page_text.specs.Lines.{cell, column, link, first_card, row_star
 ghost use Rattle.page_text.specs.Lines.{opening, line_start, line_words, line_pieces, lines_pieces};
 
 use crate::markup::{
-    COLUMN, DECIDED, FIRST_CARD, LINE, LINES, LINK, ROW, ROWS, ROWS_END, SECTION_END, SUMMARY, TRADE_OFFS,
-    WEIGHT, WORDS, WORDS_END,
+    COLUMN, DECIDED, FIRST_CARD, LINE, LINES, LINK, ROW, ROWS, ROWS_END, SECTION_END, SUMMARY,
+    TRADE_OFFS, WEIGHT, WORDS, WORDS_END,
 };
 use crate::reasons::push_decided;
 use crate::signs::push_card;

@@ -1,7 +1,8 @@
 //! What decides which layouts a line makes, in words.
 ghost use Rattle.std.specs.Prelude.{◌≡◌, ◌++◌, option_copied, OnOk};
 ghost use Rattle.page_text.specs.Reasons.{place_of, number_held, least_held, fact_pieces};
-ghost use Rattle.page_text.specs.Reasons.{joint_word, reason_pieces, decided, kept_line, kept_reason};
+ghost use Rattle.page_text.specs.Reasons.{joint_word, reason_pieces, decided};
+ghost use Rattle.page_text.specs.Reasons.{kept_line, kept_reason};
 
 use crate::lines::Line;
 use crate::markup::{DECIDED_END, HAS_AT_LEAST, HAS_EXACTLY, KEPT_DECIDED};
@@ -114,9 +115,7 @@ pub fn push_decided(
 fn kept_line<'a>(card: Card, best: u32, lines: &'a [Line]) -> Option<&'a Line>
     ensures { option_copied result ≡ kept_line card best lines.now }
 {
-    lines
-        .iter()
-        .find(|line| begins_with(card, line.begins) && line.weight == best)
+    lines.iter().find(|line| begins_with(card, line.begins) && line.weight == best)
 }
 
 /// Adds in which layouts the line makes that the card keeps, if a fact or two tell.

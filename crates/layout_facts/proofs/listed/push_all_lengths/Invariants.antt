@@ -1,4 +1,4 @@
-use Rattle.std.proofs.Common.{◌≡◌, ◌++◌, ◌-◌, flat_map}
+use Rattle.std.proofs.Common.{◌≡◌, ◌++◌, flat_map}
 use Rattle.std.specs.List.{range_with_len}
 use Rattle.layout_facts.specs.Facts.{lengths}
 use Rattle.layout_facts.proofs.listed.push_all_lengths.Given as goal
