@@ -5,7 +5,8 @@ Asks ./study for the page (`page`) of each case in cases/ that expects a report,
 of a report of MOVES moves for the board of each folder in EXAMPLES. A page must be well formed (each tag closed in order, and XML
 after its document type), its links must lead to parts of it, nothing on it may be loaded, its element `text` must hold the report
 byte for byte, and its signs must say what the report's vectors say. Its steps must be those of the job `words`, and what sampling
-believes must be what the job `fusion` says; the weights of the layouts, and the lines that make each, must agree with the report.
+believes must be what the job `fusion` says; the weights of the layouts, and the lines that make each, must agree with the report. What
+is said to decide a vector must be the first fact, or the first two, that by the hands on the page are so in exactly its layouts.
 Where the lines part must be where the report's plans, walked through level by level, first play different cards.
 If the study searches for the report of a case, its page must be the same but for two things: it promises that no line makes more,
 and it has a table of all cards, which must say what the job `cards` says.
@@ -172,6 +173,51 @@ def faults_of_partings(page, entries, board):
     return []
 
 
+def facts_of(page):
+    """What may decide a vector, in order: each fact in words, and the layouts in which it is so, by the hands on the page."""
+    items = next(it for it in page.iter("ol") if it.get("class") == "layouts")
+    deals = [[{it[0]: it[1:] for it in ("".join(text_of(suit).split()) for suit in side.iter("li"))} for side in item.findall("div")] for item in items]
+    seats = [side.find("b").text for side in items[0].findall("div")]
+    facts = [(f"{seats[side]} holds {suit}{rank}", [rank in deal[side][suit] for deal in deals])
+             for rank in "AKQJT98765432" for suit in "SHDC" for side in (0, 1)]
+    for count in range(14):
+        for suit in "SHDC":
+            for side in (0, 1):
+                lengths = [len(deal[side][suit]) for deal in deals]
+                facts.append((f"{seats[side]} has {f'exactly {count}' if count else 'no'} {suit}", [it == count for it in lengths]))
+                facts.append((f"{seats[side]} has at least {count} {suit}", [it >= count for it in lengths]))
+    return [(words, tuple(so)) for words, so in facts]
+
+
+def reason_of(facts, bits):
+    """The first fact that is so in exactly these layouts, or the first two with 'and' or 'or', in words; nothing if none is, or if all layouts are made, or none."""
+    if len(set(bits)) < 2:
+        return ""
+    alone = [words for words, so in facts if so == bits]
+    above = [(words, so) for words, so in facts if all(it >= bit for it, bit in zip(so, bits))]
+    below = [(words, so) for words, so in facts if all(it <= bit for it, bit in zip(so, bits))]
+    both = (f"{one} and {two}" for one, so in above for two, too in above if tuple(a and b for a, b in zip(so, too)) == bits)
+    either = (f"{one} or {two}" for one, so in below for two, too in below if tuple(a or b for a, b in zip(so, too)) == bits)
+    return alone[0] if alone else next(both, None) or next(either, "")
+
+
+def faults_of_reasons(page, entries):
+    """What is wrong with what is said to decide the vectors."""
+    facts, cache = facts_of(page), {}
+    wanted = [cache.setdefault(bits, reason_of(facts, tuple(bit == "1" for bit in bits.decode()))) for bits, _, _ in entries]
+    told = [(it.find("p") is not None and " ".join(text_of(it.find("p")).split())) or "" for it in page.iter("div") if it.get("class") == "words"]
+    if told != [it and f"Among these layouts it makes exactly those in which {it}." for it in wanted]:
+        return ["what decides the vectors differs"]
+    card = card_named(" ".join(text_of(next(page.iter("h1"))).split())[len("Play the "):][:2].encode())
+    kept = [(weight, reason) for (_, weight, plan), reason in zip(entries, wanted) if plan is None or plan[0] == card]
+    first = max(kept, key=lambda it: it[0])[1] if kept else ""
+    shown = [" ".join(text_of(it).split()) for it in next(page.iter("header")).findall("p")]
+    said = [it for it in shown if it.startswith("Among these layouts")]
+    if said != ([f"Among these layouts, the line that it keeps makes exactly those in which {first}."] if first else []):
+        return ["what decides the line that the card keeps differs"]
+    return []
+
+
 def faults_of(text, deal, report, words, fusion):
     """What is wrong with a page of this report, whose strategies in words are these, and its cards by the job fusion."""
     reader = Reader()
@@ -193,7 +239,7 @@ def faults_of(text, deal, report, words, fusion):
     shown = [list(steps_of(it)) for it in page.iter("div") if it.get("class") == "words"]
     if shown != told:
         wrong.append("the steps of the lines differ from those of the job words")
-    wrong += faults_of_beliefs(page, entries, fusion) + faults_of_layouts(page, entries)
+    wrong += faults_of_beliefs(page, entries, fusion) + faults_of_layouts(page, entries) + faults_of_reasons(page, entries)
     wrong += faults_of_partings(page, entries, reading.board_of(reading.games_of(deal)[0]))
     best = max(weight for _, weight, _ in entries)
     promised = re.search(r"<strong>(\d+) of", text)

@@ -9,6 +9,7 @@ use Rattle.win_vectors.specs.Weights.{weight_of}
 use Rattle.fusion_base.specs.declared.table.CardVector.{CardVector}
 use Rattle.fusion_base.specs.Sampling.{card_vectors}
 use Rattle.strategy_games.specs.Plans.{Plan, Stop, Play, Hear}
+use Rattle.layout_facts.specs.Reasons.{what_decides}
 use Rattle.pbn_text.specs.Games.{GameValue}
 use Rattle.pbn_deal.specs.Boards.{BoardValue, compass_of}
 use Rattle.pbn_deal.specs.Tags.{tag_named}
@@ -37,6 +38,7 @@ use Rattle.page_text.specs.declared.verdict.Scale.{Scale}
 use Rattle.page_text.specs.Cards.{cards}
 use Rattle.page_text.specs.Frames.{TagValues, start, facts, report}
 use Rattle.page_text.specs.Verdicts.{headline, promise, plans_all, horizon}
+use Rattle.page_text.specs.Reasons.{kept_reason}
 use Rattle.page_text.specs.Tables.{table}
 use Rattle.page_text.specs.Lines.{trade_offs, lines_pieces}
 use Rattle.page_text.specs.declared.partings.Beside.{Beside}
@@ -54,13 +56,14 @@ first_card Stop = None
 first_card (Play card rest) = Some card
 first_card (Hear replies) = None
 
--- a strategy of the report, by its number, with its told plan in words
+-- a strategy of the report, by its number, with what decides its vector, and its told plan in words
 abbrev pub line_of : Compass → NodeValue → ℕ → ReadEntryValue → Told → Line
 line_of declarer node number read told = record {
   number = number;
   vector = read.entry.vector;
   weight = read.weight;
   begins = first_card read.entry.plan;
+  reason = what_decides node read.entry.vector;
   words = told_text declarer (step_layouts read.entry.plan node) told node;
 }
 
@@ -120,24 +123,24 @@ left_out dropped = flat_map dropped_pieces dropped ++ own DROPPED_END.now
 abbrev pub rivals_of : Bool → PositionValue → ℕ → Rivals
 rivals_of is_best position moves = if not is_best then Reported else if plans_all position moves then All else Planned
 
--- the card to play, what it keeps, and how far the lines are planned
-unfoldable pub verdict : Bool → KeptValue → ReadReportValue → List Line → List Piece
-verdict is_best kept read lines =
+-- the card to play, what it keeps, what decides that, and how far the lines are planned
+unfoldable pub verdict : Bool → Compass → KeptValue → ReadReportValue → List Line → List Piece
+verdict is_best declarer kept read lines =
     headline kept.node.position read.card
     ++ promise (scale_of kept read.version) (rivals_of is_best kept.node.position read.moves) read.card lines
-    ++ horizon kept.node.position read.moves
+    ++ kept_reason declarer read.card lines ++ horizon kept.node.position read.moves
 
 -- the top of the page
 unfoldable pub top : GameValue → BoardValue → KeptValue → ReadReportValue → Bool → List Line → List Piece
 top game board kept read is_best lines =
     start read.card ++ facts (tags_of game) (compass_of board.declarer (to_play kept.node.position))
-    ++ verdict is_best kept read lines ++ own NAVIGATION.now
+    ++ verdict is_best board.declarer kept read lines ++ own NAVIGATION.now
 
 -- the lines side by side, with what plain sampling believes, and in words
-unfoldable pub play : KeptValue → ReadReportValue → List Line → List Piece
-play kept read lines =
+unfoldable pub play : Compass → KeptValue → ReadReportValue → List Line → List Piece
+play declarer kept read lines =
     trade_offs (length kept.node.lefts) lines ++ sampling (scale_of kept read.version) (length kept.node.lefts) (beliefs_of kept) lines
-    ++ lines_pieces (scale_of kept read.version) lines
+    ++ lines_pieces declarer (scale_of kept read.version) lines
 
 -- the layouts that are kept, and those that are left out
 unfoldable pub all_layouts : BoardValue → KeptValue → ReadReportValue → List Line → List Piece
@@ -147,7 +150,7 @@ all_layouts board kept read lines =
 -- the table, the lines and where they part, and the layouts
 unfoldable pub middle : BoardValue → KeptValue → ReadReportValue → List Line → List Beside → List Piece
 middle board kept read lines besides =
-    table board.declarer kept.node ++ play kept read lines ++ partings board.declarer kept.node.position (length lines) besides
+    table board.declarer kept.node ++ play board.declarer kept read lines ++ partings board.declarer kept.node.position (length lines) besides
     ++ all_layouts board kept read lines
 
 -- the page, which ends with the report: with every legal card, if the report was searched for

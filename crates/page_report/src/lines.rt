@@ -12,6 +12,7 @@ ghost use Rattle.page_report.specs.ReportPages.{first_card as first_card_of, lin
 use am_report::ReadEntry;
 use byte_text::Text;
 use card_sets::{Card, Compass};
+use layout_facts::what_decides;
 use page_text::Line;
 use std::alloc::{AllocError, Global};
 use strategy_tree::Plan;
@@ -66,6 +67,7 @@ fn line_of(
         vector: read.entry.vector,
         weight: read.weight,
         begins: first_card(&read.entry.plan),
+        reason: what_decides(alloc, node, read.entry.vector)?,
         words,
     })
 }

@@ -21,13 +21,14 @@ use crate::lines::lines_of;
 use am_report::{ReadReport, Version};
 use byte_text::Text;
 use card_brackets::CardTable;
+use card_sets::Compass;
 use html_text::Page;
 use layout_list::Kept;
 use page_text::{
     Belief, Beside, Line, Rivals, Scale, Tags, plans_all, push_cards, push_end, push_facts,
-    push_headline, push_horizon, push_layouts, push_lines, push_navigation, push_numbers,
-    push_partings, push_promise,
-    push_report, push_sampling, push_start, push_table, push_trade_offs,
+    push_headline, push_horizon, push_kept_reason, push_layouts, push_lines, push_navigation,
+    push_numbers, push_partings, push_promise, push_report, push_sampling, push_start, push_table,
+    push_trade_offs,
 };
 use pbn_deal::Board;
 use pbn_text::{Game, Tag};
@@ -125,18 +126,20 @@ fn rivals_of(is_best: bool, position: &Position, moves: u8) -> Rivals
 fn push_verdict(
     page: &mut Page,
     is_best: bool,
+    declarer: Compass,
     kept: &Kept,
     report: &ReadReport,
     lines: &[Line],
 ) -> Result<(), AllocError>
     ensures { OnOk result (page.new
-        ≡ page.old ++ verdict is_best kept.now (report_of report.now) lines.now) }
+        ≡ page.old ++ verdict is_best declarer kept.now (report_of report.now) lines.now) }
 {
     let position = kept.node.position();
     let scale = scale_of(kept, report.version);
     let rivals = rivals_of(is_best, position, report.moves);
     push_headline(page, position, report.card)?;
     push_promise(page, scale, rivals, report.card, lines)?;
+    push_kept_reason(page, declarer, report.card, lines)?;
     push_horizon(page, position, report.moves)
 }
 
@@ -156,7 +159,7 @@ fn push_top(page: &mut Page, alloc: Global, shown: &Shown, lines: &[Line]) -> Re
         &tags_of(shown.game),
         board.compass(kept.node.position().to_play()),
     )?;
-    push_verdict(page, has_best(shown), kept, report, lines)?;
+    push_verdict(page, has_best(shown), board.declarer(), kept, report, lines)?;
     push_navigation(page)
 }
 
@@ -171,19 +174,20 @@ struct Found {
 #[tactic(auto, unfolding(crate::specs::ReportPages::play))]
 fn push_play(
     page: &mut Page,
+    declarer: Compass,
     kept: &Kept,
     report: &ReadReport,
     found: &Found,
 ) -> Result<(), AllocError>
     requires { found.now.beliefs.items ≡ beliefs_at kept.now }
     ensures { OnOk result (page.new
-        ≡ page.old ++ play kept.now (report_of report.now) found.now.lines.items) }
+        ≡ page.old ++ play declarer kept.now (report_of report.now) found.now.lines.items) }
 {
     let scale = scale_of(kept, report.version);
     let width = kept.node.width();
     push_trade_offs(page, width, &found.lines)?;
     push_sampling(page, scale, width, &found.beliefs, &found.lines)?;
-    push_lines(page, scale, &found.lines)
+    push_lines(page, declarer, scale, &found.lines)
 }
 
 #[tactic(auto, unfolding(crate::specs::ReportPages::all_layouts))]
@@ -211,7 +215,7 @@ fn push_middle(page: &mut Page, shown: &Shown, found: &Found) -> Result<(), Allo
     let kept = shown.kept;
     let declarer = shown.board.declarer();
     push_table(page, declarer, &kept.node)?;
-    push_play(page, kept, shown.report, found)?;
+    push_play(page, declarer, kept, shown.report, found)?;
     push_partings(
         page,
         declarer,

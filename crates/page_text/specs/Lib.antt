@@ -2,6 +2,7 @@ pub mod Signs
 pub mod Verdicts
 pub mod Cards
 pub mod Tables
+pub mod Reasons
 pub mod Lines
 pub mod Steps
 pub mod Beliefs

@@ -2,14 +2,16 @@
 use Rattle.std.specs.Prelude.{ℕ, ◌==◌, Bool, Option, None, Some, List, ◌++◌, flat_map, codes, if◌then◌else◌}
 use Rattle.std.specs.List.{range_with_len}
 use Rattle.std.specs.Fmt.{decimal}
+use Rattle.card_sets.specs.declared.seat.Compass.{Compass}
 use Rattle.html_text.specs.declared.page.Piece.{Piece}
 use Rattle.html_text.specs.Pages.{own, told}
-use Rattle.page_text.specs.declared.markup.TheConstants.{TRADE_OFFS, LINES, COLUMN, LINK, ROW, FIRST_CARD, WEIGHT, ROWS, ROWS_END, LINE, SUMMARY, WORDS, WORDS_END, SECTION_END}
+use Rattle.page_text.specs.declared.markup.TheConstants.{TRADE_OFFS, DECIDED, LINES, COLUMN, LINK, ROW, FIRST_CARD, WEIGHT, ROWS, ROWS_END, LINE, SUMMARY, WORDS, WORDS_END, SECTION_END}
 use Rattle.page_text.specs.declared.lines.Line.{Line}
 use Rattle.page_text.specs.declared.verdict.Scale.{Scale}
 use Rattle.page_text.specs.Signs.{card_pieces}
 use Rattle.page_text.specs.Verdicts.{share}
 use Rattle.page_text.specs.Steps.{steps}
+use Rattle.page_text.specs.Reasons.{decided}
 
 -- ---- side by side
 
@@ -52,11 +54,14 @@ opening number = if number == 1 then codes "' open='open'>" else codes "'>"
 unfoldable pub line_start : ℕ → List Piece
 line_start number = own LINE.now ++ told (decimal number) ++ own (opening number) ++ own SUMMARY.now ++ told (decimal number)
 
--- a line with what it makes, and its words as nested lists
-unfoldable pub line_pieces : Scale → Line → List Piece
-line_pieces scale line =
-    line_start line.number ++ own (codes " makes ") ++ share scale line.weight ++ own WORDS.now ++ steps line.words ++ own WORDS_END.now
+-- what decides which layouts a line makes, and its words as nested lists
+unfoldable pub line_words : Compass → Line → List Piece
+line_words declarer line = own WORDS.now ++ decided DECIDED.now declarer line.reason ++ steps line.words ++ own WORDS_END.now
+
+-- a line with what it makes, and its words
+unfoldable pub line_pieces : Compass → Scale → Line → List Piece
+line_pieces declarer scale line = line_start line.number ++ own (codes " makes ") ++ share scale line.weight ++ line_words declarer line
 
 -- the lines, one after another
-unfoldable pub lines_pieces : Scale → List Line → List Piece
-lines_pieces scale lines = own LINES.now ++ flat_map (line_pieces scale) lines ++ own SECTION_END.now
+unfoldable pub lines_pieces : Compass → Scale → List Line → List Piece
+lines_pieces declarer scale lines = own LINES.now ++ flat_map (line_pieces declarer scale) lines ++ own SECTION_END.now

@@ -12,6 +12,7 @@ mod layouts;
 mod lines;
 mod markup;
 mod partings;
+mod reasons;
 mod signs;
 mod steps;
 mod table;
@@ -23,5 +24,6 @@ pub use frame::{Tags, push_end, push_facts, push_navigation, push_report, push_s
 pub use layouts::{push_layouts, push_numbers};
 pub use lines::{Line, push_lines, push_trade_offs};
 pub use partings::{Beside, push_partings};
+pub use reasons::push_kept_reason;
 pub use table::push_table;
 pub use verdict::{Rivals, Scale, plans_all, push_headline, push_horizon, push_promise};

@@ -3,18 +3,20 @@ ghost use Rattle.std.specs.Prelude.{◌≡◌, ◌++◌, flat_map, OnOk};
 ghost use Rattle.std.specs.List.{range_with_len};
 ghost use Rattle.html_text.specs.Pages.{own};
 ghost use Rattle.page_text.specs.Lines.{cell, column, link, first_card, row_start, row, trade_offs};
-ghost use Rattle.page_text.specs.Lines.{opening, line_start, line_pieces, lines_pieces};
+ghost use Rattle.page_text.specs.Lines.{opening, line_start, line_words, line_pieces, lines_pieces};
 
 use crate::markup::{
-    COLUMN, FIRST_CARD, LINE, LINES, LINK, ROW, ROWS, ROWS_END, SECTION_END, SUMMARY, TRADE_OFFS,
-    WEIGHT, WORDS, WORDS_END,
+    COLUMN, DECIDED, FIRST_CARD, LINE, LINES, LINK, ROW, ROWS, ROWS_END, SECTION_END, SUMMARY,
+    TRADE_OFFS, WEIGHT, WORDS, WORDS_END,
 };
+use crate::reasons::push_decided;
 use crate::signs::push_card;
 use crate::steps::push_steps;
 use crate::verdict::{Scale, push_share};
 use byte_text::Text;
-use card_sets::Card;
+use card_sets::{Card, Compass};
 use html_text::Page;
+use layout_facts::Reason;
 use std::alloc::AllocError;
 use win_vectors::WinVector;
 
@@ -29,6 +31,8 @@ pub struct Line {
     pub weight: u32,
     /// Its first card; `None` if it stops at once.
     pub begins: Option<Card>,
+    /// What decides which layouts it makes, if a fact or two do.
+    pub reason: Option<Reason>,
     /// The line in words.
     pub words: Text,
 }
@@ -157,34 +161,59 @@ fn push_line_start(page: &mut Page, number: u64) -> Result<(), AllocError>
     page.number(number)
 }
 
-// Adds a line with what it makes, and its words as nested lists.
-#[tactic(auto, unfolding(crate::specs::Lines::line_pieces))]
-fn push_line(page: &mut Page, scale: Scale, line: &Line) -> Result<(), AllocError>
-    ensures { OnOk result (page.new ≡ page.old ++ line_pieces scale line.now) }
+// Adds what decides which layouts a line makes, and its words as nested lists.
+#[tactic(auto, unfolding(crate::specs::Lines::line_words))]
+fn push_words(page: &mut Page, declarer: Compass, line: &Line) -> Result<(), AllocError>
+    ensures { OnOk result (page.new ≡ page.old ++ line_words declarer line.now) }
 {
-    push_line_start(page, line.number)?;
-    page.own(b" makes ")?;
-    push_share(page, scale, line.weight)?;
     page.own(WORDS)?;
+    push_decided(page, DECIDED, declarer, &line.reason)?;
     push_steps(page, line.words.bytes())?;
     page.own(WORDS_END)
 }
 
-fn push_each_line(page: &mut Page, scale: Scale, lines: &[Line]) -> Result<(), AllocError>
-    ensures { OnOk result (page.new ≡ page.old ++ flat_map (line_pieces scale) lines.now) }
+// Adds a line with what it makes, and its words.
+#[tactic(auto, unfolding(crate::specs::Lines::line_pieces))]
+fn push_line(
+    page: &mut Page,
+    declarer: Compass,
+    scale: Scale,
+    line: &Line,
+) -> Result<(), AllocError>
+    ensures { OnOk result (page.new ≡ page.old ++ line_pieces declarer scale line.now) }
+{
+    push_line_start(page, line.number)?;
+    page.own(b" makes ")?;
+    push_share(page, scale, line.weight)?;
+    push_words(page, declarer, line)
+}
+
+fn push_each_line(
+    page: &mut Page,
+    declarer: Compass,
+    scale: Scale,
+    lines: &[Line],
+) -> Result<(), AllocError>
+    ensures { OnOk result (page.new
+        ≡ page.old ++ flat_map (line_pieces declarer scale) lines.now) }
 {
     for line in lines {
-        push_line(page, scale, line)?;
+        push_line(page, declarer, scale, line)?;
     }
     Ok(())
 }
 
 /// Adds the lines in words, each folding, the first open.
 #[tactic(auto, unfolding(crate::specs::Lines::lines_pieces))]
-pub fn push_lines(page: &mut Page, scale: Scale, lines: &[Line]) -> Result<(), AllocError>
-    ensures { OnOk result (page.new ≡ page.old ++ lines_pieces scale lines.now) }
+pub fn push_lines(
+    page: &mut Page,
+    declarer: Compass,
+    scale: Scale,
+    lines: &[Line],
+) -> Result<(), AllocError>
+    ensures { OnOk result (page.new ≡ page.old ++ lines_pieces declarer scale lines.now) }
 {
     page.own(LINES)?;
-    push_each_line(page, scale, lines)?;
+    push_each_line(page, declarer, scale, lines)?;
     page.own(SECTION_END)
 }

@@ -143,6 +143,18 @@ pub const NAMED: &[u8] = b" <b>to play</b></th><td>";
 pub const SETTLED: &[u8] = b"</td><td>yes</td></tr>\n";
 
 pub const OPEN: &[u8] = b"</td><td>no</td></tr>\n";
+// ---- what decides
+
+pub const KEPT_DECIDED: &[u8] =
+    b"<p>Among these layouts, the line that it keeps makes exactly those in which ";
+
+pub const DECIDED: &[u8] = b"<p>Among these layouts it makes exactly those in which ";
+
+pub const DECIDED_END: &[u8] = b".</p>\n";
+
+pub const HAS_EXACTLY: &[u8] = b" has exactly ";
+
+pub const HAS_AT_LEAST: &[u8] = b" has at least ";
 
 // ---- the table
 

@@ -1,0 +1,4 @@
+pub mod Growing
+pub mod Splitting
+pub mod Finding
+pub mod Listing
