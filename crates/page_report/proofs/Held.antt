@@ -9,6 +9,7 @@ use Rattle.html_text.specs.declared.page.Piece.{Piece}
 use Rattle.html_text.specs.Escapes.{escape}
 use Rattle.html_text.specs.Pages.{own, piece_text, written}
 use Rattle.page_text.specs.declared.lines.Line.{Line}
+use Rattle.page_text.specs.declared.plays.PlayedLine.{PlayedLine}
 use Rattle.page_text.specs.declared.markup.TheConstants.{END, REPORT, REPORT_END}
 use Rattle.page_text.specs.Frames.{report}
 use Rattle.page_report.specs.ReportPages.{top, middle, page, HoldsReport, HoldsItsReport}
@@ -26,13 +27,14 @@ holds front back bytes =
     joined (front ++ report bytes) back ∙ ap (λ t. t ++ written back) (joined front (report bytes)) ∙ append_assoc (written front) (written (report bytes)) (written back)
     ∙ ap (λ t. written front ++ t) (three REPORT.now (escape bytes) REPORT_END.now (written back))
 
-text_holds : (game : GameValue) (board : BoardValue) (kept : KeptValue) (read : ReadReportValue) (bytes : List ℕ) (lines : List Line) (text : List ℕ) → text ≡ written (page game board kept read bytes lines) → HoldsReport bytes text
+text_holds : (game : GameValue) (board : BoardValue) (kept : KeptValue) (read : ReadReportValue) (bytes : List ℕ) (lines : List Line) (played : List PlayedLine) (text : List ℕ)
+    → text ≡ written (page game board kept read bytes lines played) → HoldsReport bytes text
 unfolding page
-text_holds game board kept read bytes lines text is = record {
-  before = written (top game board kept read lines ++ middle board kept read lines);
+text_holds game board kept read bytes lines played text is = record {
+  before = written (top game board kept read lines ++ middle board kept read lines played);
   after = written (own END.now);
-  is_text = is ∙ holds (top game board kept read lines ++ middle board kept read lines) (own END.now) bytes;
+  is_text = is ∙ holds (top game board kept read lines ++ middle board kept read lines played) (own END.now) bytes;
 }
 
 pub page_holds : HoldsItsReport
-page_holds game board kept read bytes text is = text_holds game board kept read bytes is.lines text is.is_text
+page_holds game board kept read bytes text is = text_holds game board kept read bytes is.lines is.played text is.is_text

@@ -1,3 +1,4 @@
 pub mod MoreLines
 pub mod Held
 pub mod Believed
+pub mod Zipped

@@ -36,7 +36,9 @@ use Rattle.page_text.specs.Verdicts.{headline, promise, horizon}
 use Rattle.page_text.specs.Tables.{table}
 use Rattle.page_text.specs.Lines.{trade_offs, lines_pieces}
 use Rattle.page_text.specs.Beliefs.{sampling}
-use Rattle.page_text.specs.Layouts.{layouts, file_numbers}
+use Rattle.page_text.specs.declared.plays.PlayedLine.{PlayedLine}
+use Rattle.page_text.specs.Layouts.{LayoutsShown, layouts, file_numbers}
+use Rattle.page_report.specs.Played.{ArePlayed}
 use Rattle.page_report.specs.declared.markup.TheConstants.{DROPPED, AT_CARD, DROPPED_END}
 
 -- ---- what a page shows
@@ -117,7 +119,7 @@ verdict kept read lines =
 -- the top of the page
 unfoldable pub top : GameValue → BoardValue → KeptValue → ReadReportValue → List Line → List Piece
 top game board kept read lines =
-    start read.card ++ facts (tags_of game) (compass_of board.declarer (to_play kept.node.position)) ++ verdict kept read lines ++ own NAVIGATION.now
+    start read.card (length kept.node.lefts) ++ facts (tags_of game) (compass_of board.declarer (to_play kept.node.position)) ++ verdict kept read lines ++ own NAVIGATION.now
 
 -- the lines side by side, with what plain sampling believes, and in words
 unfoldable pub play : KeptValue → ReadReportValue → List Line → List Piece
@@ -125,24 +127,37 @@ play kept read lines =
     trade_offs (length kept.node.lefts) lines ++ sampling (scale_of kept read.version) (length kept.node.lefts) (beliefs_of kept) lines
     ++ lines_pieces (scale_of kept read.version) lines
 
--- the layouts that are kept, and those that are left out
-unfoldable pub all_layouts : BoardValue → KeptValue → ReadReportValue → List Line → List Piece
-all_layouts board kept read lines =
-    layouts board.declarer kept.node (is_weighed read.version) kept.weights lines ++ file_numbers kept.numbers ++ left_out kept.dropped
+-- what the page shows of the layouts that are kept
+abbrev pub layouts_shown : BoardValue → KeptValue → ReadReportValue → List Line → List PlayedLine → LayoutsShown
+layouts_shown board kept read lines played = record {
+  declarer = board.declarer;
+  node = kept.node;
+  by_weight = is_weighed read.version;
+  weights = kept.weights;
+  lines = lines;
+  played = played;
+}
+
+-- these layouts, and those that are left out
+unfoldable pub all_layouts : BoardValue → KeptValue → ReadReportValue → List Line → List PlayedLine → List Piece
+all_layouts board kept read lines played =
+    layouts (layouts_shown board kept read lines played) ++ file_numbers kept.numbers ++ left_out kept.dropped
 
 -- the table, the lines and the layouts
-unfoldable pub middle : BoardValue → KeptValue → ReadReportValue → List Line → List Piece
-middle board kept read lines = table board.declarer kept.node ++ play kept read lines ++ all_layouts board kept read lines
+unfoldable pub middle : BoardValue → KeptValue → ReadReportValue → List Line → List PlayedLine → List Piece
+middle board kept read lines played = table board.declarer kept.node ++ play kept read lines ++ all_layouts board kept read lines played
 
 -- the page, which ends with the report
-unfoldable pub page : GameValue → BoardValue → KeptValue → ReadReportValue → List ℕ → List Line → List Piece
-page game board kept read bytes lines = top game board kept read lines ++ middle board kept read lines ++ report bytes ++ own END.now
+unfoldable pub page : GameValue → BoardValue → KeptValue → ReadReportValue → List ℕ → List Line → List PlayedLine → List Piece
+page game board kept read bytes lines played = top game board kept read lines ++ middle board kept read lines played ++ report bytes ++ own END.now
 
--- a page of a report
+-- a page of a report, with its strategies in words and the first of them played out
 pub record IsReportPage (game : GameValue) (board : BoardValue) (kept : KeptValue) (read : ReadReportValue) (bytes text : List ℕ) : Type 0 where
   pub lines : List Line
   pub are_lines : AreLines board.declarer kept.node read.entries lines
-  pub is_text : text ≡ written (page game board kept read bytes lines)
+  pub played : List PlayedLine
+  pub are_played : ArePlayed kept.node read.entries played
+  pub is_text : text ≡ written (page game board kept read bytes lines played)
 
 -- a text has these bytes, escaped and nothing else, in the element that the report stands in
 pub record HoldsReport (bytes text : List ℕ) : Type 0 where

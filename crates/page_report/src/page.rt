@@ -16,14 +16,15 @@ ghost use Rattle.page_report.specs.ReportPages.{all_layouts, middle, page as pag
 use crate::beliefs::beliefs_of;
 use crate::dropped::push_left_out;
 use crate::lines::lines_of;
+use crate::plays::played_lines;
 use am_report::{ReadReport, Version};
 use byte_text::Text;
 use html_text::Page;
 use layout_list::Kept;
 use page_text::{
-    Belief, Line, Scale, Tags, push_end, push_facts, push_headline, push_horizon, push_layouts,
-    push_lines, push_navigation, push_numbers, push_promise, push_report, push_sampling,
-    push_start, push_table, push_trade_offs,
+    Belief, Layouts, Line, PlayedLine, Scale, Tags, push_end, push_facts, push_headline,
+    push_horizon, push_layouts, push_lines, push_navigation, push_numbers, push_promise,
+    push_report, push_sampling, push_start, push_table, push_trade_offs,
 };
 use pbn_deal::Board;
 use pbn_text::{Game, Tag};
@@ -117,7 +118,7 @@ fn push_top(page: &mut Page, alloc: Global, shown: &Shown, lines: &[Line]) -> Re
     let board = shown.board;
     let kept = shown.kept;
     let report = shown.report;
-    push_start(page, report.card)?;
+    push_start(page, report.card, kept.node.width())?;
     push_facts(
         page,
         alloc,
@@ -128,11 +129,12 @@ fn push_top(page: &mut Page, alloc: Global, shown: &Shown, lines: &[Line]) -> Re
     push_navigation(page)
 }
 
-// The lines of a report, and what plain sampling believes.
+// The lines of a report, what plain sampling believes, and the first lines played out.
 #[derive(Drop)]
 struct Found {
     lines: Vec<Line>,
     beliefs: Vec<Belief>,
+    played: Vec<PlayedLine>,
 }
 
 #[tactic(auto, unfolding(crate::specs::ReportPages::play))]
@@ -154,15 +156,22 @@ fn push_play(
 }
 
 #[tactic(auto, unfolding(crate::specs::ReportPages::all_layouts))]
-fn push_all_layouts(page: &mut Page, shown: &Shown, lines: &[Line]) -> Result<(), AllocError>
+fn push_all_layouts(page: &mut Page, shown: &Shown, found: &Found) -> Result<(), AllocError>
     requires { length shown.now.kept.now.weights ≡ length shown.now.kept.now.node.lefts }
     ensures { OnOk result (page.new ≡ page.old ++ all_layouts shown.now.board.now
-        shown.now.kept.now (report_of shown.now.report.now) lines.now) }
+        shown.now.kept.now (report_of shown.now.report.now) found.now.lines.items
+        found.now.played.items) }
 {
-    let declarer = shown.board.declarer();
     let kept = shown.kept;
-    let by_weight = is_weighed(shown.report.version);
-    push_layouts(page, declarer, &kept.node, by_weight, &kept.weights, lines)?;
+    let layouts = Layouts {
+        declarer: shown.board.declarer(),
+        node: &kept.node,
+        by_weight: is_weighed(shown.report.version),
+        weights: &kept.weights,
+        lines: &found.lines,
+        played: &found.played,
+    };
+    push_layouts(page, &layouts)?;
     push_numbers(page, &kept.numbers)?;
     push_left_out(page, &kept.dropped)
 }
@@ -172,12 +181,13 @@ fn push_middle(page: &mut Page, shown: &Shown, found: &Found) -> Result<(), Allo
     requires weighed { length shown.now.kept.now.weights ≡ length shown.now.kept.now.node.lefts }
     requires beliefs { found.now.beliefs.items ≡ beliefs_at shown.now.kept.now }
     ensures { OnOk result (page.new ≡ page.old ++ middle shown.now.board.now
-        shown.now.kept.now (report_of shown.now.report.now) found.now.lines.items) }
+        shown.now.kept.now (report_of shown.now.report.now) found.now.lines.items
+        found.now.played.items) }
 {
     let kept = shown.kept;
     push_table(page, shown.board.declarer(), &kept.node)?;
     push_play(page, kept, shown.report, found)?;
-    push_all_layouts(page, shown, &found.lines)
+    push_all_layouts(page, shown, found)
 }
 
 #[tactic(auto, unfolding(crate::specs::ReportPages::page))]
@@ -186,7 +196,7 @@ fn page_of(alloc: Global, shown: &Shown, found: &Found) -> Result<Page, AllocErr
     requires beliefs { found.now.beliefs.items ≡ beliefs_at shown.now.kept.now }
     ensures { IfOk result (λ page. page ≡ page_of shown.now.game.now shown.now.board.now
         shown.now.kept.now (report_of shown.now.report.now) shown.now.bytes.now
-        found.now.lines.items) }
+        found.now.lines.items found.now.played.items) }
 {
     let bytes = shown.bytes;
     let mut page = Page::new(alloc);
@@ -200,6 +210,7 @@ fn page_of(alloc: Global, shown: &Shown, found: &Found) -> Result<Page, AllocErr
 /// The page of a report at a root, where declarer's side is to play.
 ///
 /// Each strategy is told in words, and each told plan, cut down at the node, is the report's plan.
+/// The first four are played out in each layout, against a defence that beats them if there is one.
 /// The report itself stands at the end of the page, byte for byte.
 pub fn report_page(alloc: Global, shown: &Shown) -> Result<Text, AllocError>
     requires ours { is_declarers (to_play shown.now.kept.now.node.position) ≡ true }
@@ -217,6 +228,7 @@ pub fn report_page(alloc: Global, shown: &Shown) -> Result<Text, AllocError>
     let found = Found {
         lines: lines_of(alloc, board.declarer(), &kept.node, &report.entries)?,
         beliefs: beliefs_of(alloc, kept)?,
+        played: played_lines(alloc, &kept.node, &report.entries)?,
     };
     let page = page_of(alloc, shown, &found)?;
     page.written()

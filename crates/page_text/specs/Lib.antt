@@ -1,8 +1,10 @@
 pub mod Signs
 pub mod Verdicts
+pub mod Picking
 pub mod Tables
 pub mod Lines
 pub mod Steps
 pub mod Beliefs
+pub mod Plays
 pub mod Layouts
 pub mod Frames

@@ -9,6 +9,8 @@ mod frame;
 mod layouts;
 mod lines;
 mod markup;
+mod picking;
+mod plays;
 mod signs;
 mod steps;
 mod table;
@@ -16,7 +18,8 @@ mod verdict;
 
 pub use beliefs::{Belief, push_sampling};
 pub use frame::{Tags, push_end, push_facts, push_navigation, push_report, push_start};
-pub use layouts::{push_layouts, push_numbers};
+pub use layouts::{Layouts, push_layouts, push_numbers};
 pub use lines::{Line, push_lines, push_trade_offs};
+pub use plays::{PlayedLine, PlayedOut};
 pub use table::push_table;
 pub use verdict::{Scale, push_headline, push_horizon, push_promise};
