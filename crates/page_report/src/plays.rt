@@ -79,7 +79,8 @@ pub fn played_lines(
 {
     let mut solver = Solver::new(alloc);
     let mut played = Vec::new(alloc);
-    for place in 0..MOST_PLAYED.min(entries.len()) {
+    let count = MOST_PLAYED.min(entries.len());
+    for place in 0..count {
         let line = played_line(alloc, &mut solver, node, place as u64 + 1, &entries[place])?;
         played.push(line)?;
     }

@@ -12,7 +12,7 @@ use Rattle.page_report.proofs.plays.played_lines.Goals as goal
 
 pub played_line-requires : goal.played_line-requires
 played_line-requires c =
-    let inside : c.loop-place.place < length c.args.entries.now = omega arith in
+    let inside : c.loop-place.place < length c.args.entries.now = omega (arith, c.min-count.ensures, c.loop-place-test.true) in
     record {
       fits = subst (λ (read : ReadEntryValue). (moves : ℕ) × Fits bridge read.entry.plan c.args.node.now moves) (sym c.index-entries-place.is) (c.requires.fit c.loop-place.place c.index-entries-place.result inside);
     }
@@ -22,7 +22,7 @@ loop-place-preserved c =
     let entries = c.args.entries.now in
     let place = c.loop-place.place in
     let read = c.index-entries-place.result in
-    let inside : place < length entries = omega arith in
+    let inside : place < length entries = omega (arith, c.min-count.ensures, c.loop-place-test.true) in
     record {
       numbers = numbers_next c.loop-place.played.items c.push.new.self.items c.in_ok-line.line place c.loop-place.invariant.numbers c.in_ok-line.ensures.number c.in_ok-push.ensures.items;
       each =
@@ -36,8 +36,8 @@ returns c =
     let entries = c.args.entries.now in
     let place = c.loop-place.place in
     let lines = c.loop-place.played.items in
-    let ended : place ≡ min 4 (length entries) = omega arith in
-    let taken : min place (length entries) ≡ place = omega arith in
+    let ended : place ≡ min 4 (length entries) = omega (arith, c.min-count.ensures, c.loop-place-test.false) in
+    let taken : min place (length entries) ≡ place = omega (arith, c.min-count.ensures, ended) in
     let long : length lines ≡ place = AllZip-long (IsPlayedLine c.args.node.now) (take place entries) lines c.loop-place.invariant.each ∙ length-take place entries ∙ taken in
     record {
       numbers = c.loop-place.invariant.numbers ∙ ap (range_with_len 1) (sym long);
