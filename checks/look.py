@@ -4,7 +4,9 @@
 Opens pages in a headless Chromium, and says what is wrong with how they look. Without a PAGE it asks ./alphamu and ./study for
 one of each folder in EXAMPLES. A page must load nothing, run nothing and say nothing in the browser's log. At each of WIDTHS it may
 not be wider than the window, except for what scrolls by itself. The contrast of each text with what is behind it must be at least
-LEAST_CONTRAST, light and dark. On paper nothing may be cut off. With --pictures it leaves pictures of each page in a folder.
+LEAST_CONTRAST, light and dark, of what is folded too. On paper nothing may be cut off. Each control must be reached by Tab, in the
+order of the page. With no script and by keys alone a layout is picked: its hands must be at the table, its columns marked and its
+item framed, on a small phone and on paper too. With --pictures it leaves pictures of each page in a folder.
 
 If there is no Chromium (Debian: `apt-get install chromium`), or it can't be driven here, it says so, and the status is 0."""
 import argparse
@@ -55,6 +57,21 @@ LOOK = """(() => {
     if (style.overflowX !== 'visible' && it.scrollWidth > it.clientWidth + 1) wrong.push('cut off: ' + it.textContent.slice(0, 30));
   }
   return [...new Set(wrong)].slice(0, 5);
+})()"""
+# The controls that can be seen, in order, and the one that has the focus.
+CONTROLS = "[...document.querySelectorAll('a[href],summary,select,[tabindex]')].filter(it => it.checkVisibility())"
+NAMED = "(it => it.tagName + ' ' + it.textContent.trim().split('\\n')[0].slice(0, 30))"
+# What is shown of the layout of a number: the hands at the table and in the list, the heads of the columns that are framed, and whether
+# its item is, alone, and each row as its head.
+SHOWN = """(() => {
+  const words = it => it.innerText.split(/\\s+/).join(' ').trim(), all = it => [...document.querySelectorAll(it)];
+  const framed = it => all(it).filter(it => getComputedStyle(it).outlineStyle === 'solid'), items = framed('.layouts>li');
+  const hand = it => it.querySelector('b,h3').textContent + ' ' + words([...it.querySelectorAll('ul')].find(it => it.checkVisibility()));
+  const item = all('.layouts>li')[NUMBER - 1], hands = it => it.map(hand).sort();
+  return {
+    told: hands([...item.querySelectorAll('.side')]), dealt: hands(all('.table>div:has(.one)')), heads: framed('thead th').map(words),
+    framed: items.length === 1 && items[0] === item && framed('tr>*').length === all('#trade-offs tr,#sampling tr').length,
+  };
 })()"""
 
 
@@ -109,9 +126,15 @@ class Browser:
         self.ask("Emulation.setDeviceMetricsOverride", width=width, height=844, deviceScaleFactor=1, mobile=width < 500)
         self.ask("Emulation.setEmulatedMedia", media=media, features=[{"name": "prefers-color-scheme", "value": "dark" if dark else "light"}])
 
+    def value(self, expression):
+        return self.ask("Runtime.evaluate", expression=expression, returnByValue=True)["result"].get("value")
+
     def look(self, media=""):
-        asked = LOOK.replace("LEAST", str(LEAST_CONTRAST)).replace("PRINTED", "true" if media else "false")
-        return self.ask("Runtime.evaluate", expression=asked, returnByValue=True)["result"]["value"]
+        return self.value(LOOK.replace("LEAST", str(LEAST_CONTRAST)).replace("PRINTED", "true" if media else "false"))
+
+    def press(self, key, code):
+        for kind in ("rawKeyDown", "keyUp"):
+            self.ask("Input.dispatchKeyEvent", type=kind, key=key, code=key, windowsVirtualKeyCode=code)
 
     def picture(self, path):
         with open(path, "wb") as file:
@@ -136,6 +159,44 @@ def events_at_fault(browser, address):
             yield f"the browser says: {told['entry']['text']}"
 
 
+def faults_of_tabs(browser):
+    """What is wrong with the order in which Tab comes to the controls, from the head of the page on."""
+    wanted, met = browser.value(f"{CONTROLS}.map({NAMED})"), []
+    for _ in wanted:
+        browser.press("Tab", 9)
+        met.append(browser.value(f"{NAMED}(document.activeElement)"))
+    return [f"Tab comes to {it}, and not to {other}" for it, other in zip(met, wanted) if it != other][:1]
+
+
+def faults_of_picking(browser, address):
+    """What is wrong with a layout that is picked by keys alone, the last one, where no script runs."""
+    browser.ask("Emulation.setScriptExecutionDisabled", value=True)
+    browser.show(WIDTHS[0])
+    browser.open(address)
+    before, number = browser.value("document.body.innerText"), browser.value("document.querySelectorAll('.layouts>li').length")
+    for _ in browser.value(f"{CONTROLS}.map({NAMED})"):
+        browser.press("Tab", 9)
+        if browser.value("document.activeElement.id") == "pick":
+            break
+    for _ in range(number):
+        browser.press("ArrowDown", 40)
+    wrong = []
+    for name, width, media in (("picked", WIDTHS[0], ""), ("picked on paper", PAPER, "print")):
+        browser.show(width, media=media)
+        shown = browser.value(SHOWN.replace("NUMBER", str(number)))
+        wrong += [f"{name}: {it}" for it in browser.look(media)]
+        wrong += [f"{name}: the table has {shown['dealt']}, and the list {shown['told']}"] * (shown["dealt"] != shown["told"])
+        if shown["heads"] != [str(number)] * 2 or not shown["framed"]:
+            wrong.append(f"{name}: the frames aren't round it, but round the columns {shown['heads']}")
+    browser.show(WIDTHS[0])
+    for _ in range(number):
+        browser.press("ArrowUp", 38)
+    if browser.value("document.body.innerText") != before:
+        wrong.append("with nothing picked the page isn't as before")
+    browser.ask("Emulation.setScriptExecutionDisabled", value=False)
+    return wrong
+
+
 def faults_of(browser, page, pictures):
     """What is wrong with a page."""
     address, name = "file://" + os.path.abspath(page), os.path.splitext(os.path.basename(page))[0]
@@ -147,6 +208,11 @@ def faults_of(browser, page, pictures):
         wrong += [f"{tag}{' dark' * dark}: {it}" for it in browser.look(media)]
         if pictures:
             browser.picture(os.path.join(pictures, f"{name}-{tag}{'-dark' * dark}.png"))
+        if not media:
+            wrong += faults_of_tabs(browser)
+        browser.value("document.querySelectorAll('details').forEach(it => { it.open = true; })")
+        wrong += [f"{tag}{' dark' * dark} unfolded: {it}" for it in browser.look(media)]
+    wrong += faults_of_picking(browser, address)
     return [f"{name}: {it}" for it in dict.fromkeys(wrong)]
 
 

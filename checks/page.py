@@ -10,6 +10,8 @@ is said to decide a vector must be the first fact, or the first two, that by the
 Where the lines part must be where the report's plans, walked through level by level, first play different cards.
 If the study searches for the report of a case, its page must be the same but for two things: it promises that no line makes more,
 and it has a table of all cards, which must say what the job `cards` says.
+Each layout can be picked, has its rule of style, and has at the table the hands of the list; and the lines that are played out
+in it end and go, trick by trick, as the games of the job `lines` do.
 A report that `check` refuses must be refused with the same line and status. The exit status is 0 only if nothing is wrong, and if
 at least LEAST pages were made.
 
@@ -35,6 +37,8 @@ REPORT, LINES = b"report.of.the.case", b"words.of.the.case"
 # Reports with more lines are left out: telling them takes long.
 MOST_LINES, LEAST = 20000, 100
 EXAMPLES, MOVES = ("restricted-choice", "slam", "squeeze-or-finesse", "two-way-finesse"), "4"
+# How many lines are played out.
+PLAYED = 4
 SIGNS = {"1": "\u2713", "0": "\u2717"}
 PLACES = ("North", "East", "South", "West")
 LETTERS = {"\u2660": "S", "\u2665": "H", "\u2666": "D", "\u2663": "C"}
@@ -218,8 +222,60 @@ def faults_of_reasons(page, entries):
     return []
 
 
-def faults_of(text, deal, report, words, fusion):
-    """What is wrong with a page of this report, whose strategies in words are these, and its cards by the job fusion."""
+def hands_of(lists):
+    """What these lists show: a hand each, suit by suit."""
+    return [[" ".join(text_of(suit).split()) for suit in it] for it in lists]
+
+
+def faults_of_picker(page, width):
+    """What is wrong with the picker of a layout, its rules, and the hands that it shows."""
+    wrong = []
+    choices = [it.text for it in page.find(".//select[@id='pick']")]
+    if choices != ["any", *map(str, range(1, width + 1))]:
+        wrong.append(f"the choices are {choices}")
+    rules = re.findall(r"^#table:has\(>p>select>option:nth-child\(.*", page.find(".//style").text, re.M)
+    numbers = [list(map(int, re.findall(r"\((\d+)\)", it))) for it in rules]
+    if numbers != [[at + 1, at + 1, at + 1, at + 3, at + 1, at + 3, at + 1, at] for at in range(1, width + 1)]:
+        wrong.append("the rules don't show the layouts")
+    items = next(it for it in page.iter("ol") if it.get("class") == "layouts")
+    listed = [dict(zip((side.find("b").text for side in item.iterfind("div")), hands_of(side.find("ul") for side in item.iterfind("div")))) for item in items]
+    part = next(it for it in page.iter("div") if it.get("class") == "table")
+    for seat in part:
+        place, shown = (seat.findtext("h3") or "").split(",")[0], hands_of(it for it in seat.iterfind("ul") if it.get("class") == "one")
+        if seat.get("class") != "m" and shown != [it[place] for it in listed if place in it]:
+            wrong.append(f"the hands of {place} differ from those of the list")
+    return wrong
+
+
+def games_in(text):
+    """Of each game of the job lines whether it is made, and the cards of its tricks."""
+    for game in text.decode().split("\n\n")[:-1]:
+        rows = re.search(r'^\[Play "."\]\n(.*)^\*', game, re.M | re.S)[1].splitlines()
+        yield re.search(r'^\[Event ".*: (made|down)"\]', game, re.M)[1], [set(it.split()) - {"-"} for it in rows]
+
+
+def faults_of_plays(page, head, lines, games):
+    """What is wrong with so many lines of a report with this head, played out, by the text of the job lines."""
+    wrong, games = [], list(games_in(games))
+    begun = len(re.search(r"^trick .(.*)$", head.decode(), re.M)[1].replace("-", "").split())
+    items = next(it for it in page.iter("ol") if it.get("class") == "layouts")
+    for place, item in enumerate(items):
+        shown = [text_of(it).translate({ord(sign): letter for sign, letter in LETTERS.items()}).strip() for it in item.iterfind("details/p")]
+        wanted = [(f"Line {line + 1}", *games[line * len(items) + place]) for line in range(min(lines, PLAYED))]
+        for text, (line, ending, tricks) in zip(shown, wanted):
+            cards = [it.split("\xa0") for it in text.split(": ", 1)[1].split(" | ")]
+            first, *others = tricks[-len(cards):]
+            if not text.startswith(f"{line} {ending}: ") or [set(it) for it in cards[1:]] != others or not set(cards[0]) <= first:
+                wrong.append(f"layout {place + 1}: {text} differs from the game")
+            if [len(it) for it in cards] != [4 - begun, *[4] * len(others)]:
+                wrong.append(f"layout {place + 1}: {text} has too few cards")
+        if len(shown) != len(wanted):
+            wrong.append(f"layout {place + 1}: {len(shown)} lines are played out")
+    return wrong
+
+
+def faults_of(text, deal, report, words, fusion, games):
+    """What is wrong with a page of this report for this deal, by the texts of the jobs words, fusion and lines."""
     reader = Reader()
     text = text.decode()
     reader.feed(text)
@@ -232,7 +288,7 @@ def faults_of(text, deal, report, words, fusion):
         return [*wrong, f"no XML: {error}"]
     if reader.texts.get(("pre", "text"), "").encode() != report:
         wrong.append("the report on the page differs")
-    entries = reading.report_of(report)[2]
+    head, _, entries = reading.report_of(report)
     if [row[3:] for row in rows_of(page, "trade-offs")] != [[SIGNS[bit] for bit in bits.decode()] for bits, _, _ in entries]:
         wrong.append("the signs differ from the vectors")
     told = [[line for line in it.split("\n") if line] for it in re.split(r"^vector .*\n", words.decode(), flags=re.M)[1:]]
@@ -241,6 +297,7 @@ def faults_of(text, deal, report, words, fusion):
         wrong.append("the steps of the lines differ from those of the job words")
     wrong += faults_of_beliefs(page, entries, fusion) + faults_of_layouts(page, entries) + faults_of_reasons(page, entries)
     wrong += faults_of_partings(page, entries, reading.board_of(reading.games_of(deal)[0]))
+    wrong += faults_of_picker(page, len(entries[0][0])) + faults_of_plays(page, head, len(entries), games)
     best = max(weight for _, weight, _ in entries)
     promised = re.search(r"<strong>(\d+) of", text)
     if int(promised[1]) == best and "No line of this report makes more." not in text:
@@ -290,7 +347,7 @@ def judge(case, program, seconds):
         return [f"{case}: no page: {said!r}"], 0
     fusion = run(program, case, seconds, words=[b"--job", b"fusion", b"--deal", deal, b"--layouts", layouts])[0]
     text = bytes_of(case, os.fsdecode(deal))
-    wrong = faults_of(page, text, report, told(b"words")[0], fusion) + judge_search(case, page, seconds)
+    wrong = faults_of(page, text, report, told(b"words")[0], fusion, told(b"lines")[0]) + judge_search(case, page, seconds)
     tags = b"".join(b'[%s "%s"]\n' % (name, HOSTILE) for name in (b"Event", b"Board"))
     hostile, _, status = told(b"page", {deal: tags + text}.items())
     reader = Reader()
@@ -311,9 +368,9 @@ def judge_example(program, name, seconds):
     with tempfile.NamedTemporaryFile() as file:
         file.write(report)
         file.flush()
-        page, words = (ask(STUDY, job, "--report", file.name) for job in ("page", "words"))
+        page, words, games = (ask(STUDY, job, "--report", file.name) for job in ("page", "words", "lines"))
     with open(os.path.join(room, "deal.pbn"), "rb") as file:
-        return [f"examples/{name}: {it}" for it in faults_of(page, file.read(), report, words, fusion)]
+        return [f"examples/{name}: {it}" for it in faults_of(page, file.read(), report, words, fusion, games)]
 
 
 def refusals(seconds):

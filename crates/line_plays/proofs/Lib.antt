@@ -1,2 +1,3 @@
 pub mod OneDefence
 pub mod Shown
+pub mod Placed

@@ -7,7 +7,9 @@
 
 mod defending;
 pub mod laws;
+mod layout;
 mod playing;
 
 pub use am_match::PlayOut;
+pub use layout::play_in_layout;
 pub use playing::play_against_best_defence;

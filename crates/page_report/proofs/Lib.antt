@@ -2,3 +2,4 @@ pub mod MoreLines
 pub mod MoreBesides
 pub mod Held
 pub mod Believed
+pub mod Zipped

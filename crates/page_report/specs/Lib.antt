@@ -1,2 +1,3 @@
 pub mod BesideLines
+pub mod Played
 pub mod ReportPages

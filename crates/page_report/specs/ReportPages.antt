@@ -44,7 +44,9 @@ use Rattle.page_text.specs.Lines.{trade_offs, lines_pieces}
 use Rattle.page_text.specs.declared.partings.Beside.{Beside}
 use Rattle.page_text.specs.Partings.{partings}
 use Rattle.page_text.specs.Beliefs.{sampling}
-use Rattle.page_text.specs.Layouts.{layouts, file_numbers}
+use Rattle.page_text.specs.declared.plays.PlayedLine.{PlayedLine}
+use Rattle.page_text.specs.Layouts.{LayoutsShown, layouts, file_numbers}
+use Rattle.page_report.specs.Played.{ArePlayed}
 use Rattle.page_report.specs.BesideLines.{AreBeside}
 use Rattle.page_report.specs.declared.markup.TheConstants.{DROPPED, AT_CARD, DROPPED_END}
 
@@ -133,7 +135,7 @@ verdict is_best declarer kept read lines =
 -- the top of the page
 unfoldable pub top : GameValue → BoardValue → KeptValue → ReadReportValue → Bool → List Line → List Piece
 top game board kept read is_best lines =
-    start read.card ++ facts (tags_of game) (compass_of board.declarer (to_play kept.node.position))
+    start read.card (length kept.node.lefts) ++ facts (tags_of game) (compass_of board.declarer (to_play kept.node.position))
     ++ verdict is_best board.declarer kept read lines ++ own NAVIGATION.now
 
 -- the lines side by side, with what plain sampling believes, and in words
@@ -142,29 +144,44 @@ play declarer kept read lines =
     trade_offs (length kept.node.lefts) lines ++ sampling (scale_of kept read.version) (length kept.node.lefts) (beliefs_of kept) lines
     ++ lines_pieces declarer (scale_of kept read.version) lines
 
--- the layouts that are kept, and those that are left out
-unfoldable pub all_layouts : BoardValue → KeptValue → ReadReportValue → List Line → List Piece
-all_layouts board kept read lines =
-    layouts board.declarer kept.node (is_weighed read.version) kept.weights lines ++ file_numbers kept.numbers ++ left_out kept.dropped
+-- what the page shows of the layouts that are kept
+abbrev pub layouts_shown : BoardValue → KeptValue → ReadReportValue → List Line → List PlayedLine → LayoutsShown
+layouts_shown board kept read lines played = record {
+  declarer = board.declarer;
+  node = kept.node;
+  by_weight = is_weighed read.version;
+  weights = kept.weights;
+  lines = lines;
+  played = played;
+}
+
+-- these layouts, and those that are left out
+unfoldable pub all_layouts : BoardValue → KeptValue → ReadReportValue → List Line → List PlayedLine → List Piece
+all_layouts board kept read lines played =
+    layouts (layouts_shown board kept read lines played) ++ file_numbers kept.numbers ++ left_out kept.dropped
 
 -- the table, the lines and where they part, and the layouts
-unfoldable pub middle : BoardValue → KeptValue → ReadReportValue → List Line → List Beside → List Piece
-middle board kept read lines besides =
+unfoldable pub middle : BoardValue → KeptValue → ReadReportValue → List Line → List Beside → List PlayedLine → List Piece
+middle board kept read lines besides played =
     table board.declarer kept.node ++ play board.declarer kept read lines ++ partings board.declarer kept.node.position (length lines) besides
-    ++ all_layouts board kept read lines
+    ++ all_layouts board kept read lines played
 
 -- the page, which ends with the report: with every legal card, if the report was searched for
-unfoldable pub page : GameValue → BoardValue → KeptValue → ReadReportValue → List ℕ → Option CardTable → List Line → List Beside → List Piece
-page game board kept read bytes known lines besides =
-    top game board kept read (is_some known) lines ++ cards (scale_of kept read.version) known ++ middle board kept read lines besides ++ report bytes ++ own END.now
+unfoldable pub page : GameValue → BoardValue → KeptValue → ReadReportValue → List ℕ → Option CardTable → List Line → List Beside → List PlayedLine → List Piece
+page game board kept read bytes known lines besides played =
+    top game board kept read (is_some known) lines ++ cards (scale_of kept read.version) known ++ middle board kept read lines besides played
+    ++ report bytes ++ own END.now
 
--- a page of a report, with every legal card if it was searched for
+-- a page of a report, with its strategies in words, where they part, and the first of them played out; and with every legal card
+-- if the report was searched for
 pub record IsReportPage (game : GameValue) (board : BoardValue) (kept : KeptValue) (read : ReadReportValue) (bytes : List ℕ) (known : Option CardTable) (text : List ℕ) : Type 0 where
   pub lines : List Line
   pub besides : List Beside
   pub are_lines : AreLines board.declarer kept.node read.entries lines
   pub are_beside : AreBeside read.entries besides
-  pub is_text : text ≡ written (page game board kept read bytes known lines besides)
+  pub played : List PlayedLine
+  pub are_played : ArePlayed kept.node read.entries played
+  pub is_text : text ≡ written (page game board kept read bytes known lines besides played)
 
 -- a text has these bytes, escaped and nothing else, in the element that the report stands in
 pub record HoldsReport (bytes text : List ℕ) : Type 0 where

@@ -10,5 +10,6 @@ pub mod laws;
 mod lines;
 mod markup;
 mod page;
+mod plays;
 
 pub use page::{Shown, report_page};

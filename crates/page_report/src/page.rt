@@ -18,6 +18,7 @@ use crate::beliefs::beliefs_of;
 use crate::besides::besides_of;
 use crate::dropped::push_left_out;
 use crate::lines::lines_of;
+use crate::plays::played_lines;
 use am_report::{ReadReport, Version};
 use byte_text::Text;
 use card_brackets::CardTable;
@@ -25,10 +26,10 @@ use card_sets::Compass;
 use html_text::Page;
 use layout_list::Kept;
 use page_text::{
-    Belief, Beside, Line, Rivals, Scale, Tags, plans_all, push_cards, push_end, push_facts,
-    push_headline, push_horizon, push_kept_reason, push_layouts, push_lines, push_navigation,
-    push_numbers, push_partings, push_promise, push_report, push_sampling, push_start, push_table,
-    push_trade_offs,
+    Belief, Beside, Layouts, Line, PlayedLine, Rivals, Scale, Tags, plans_all, push_cards,
+    push_end, push_facts, push_headline, push_horizon, push_kept_reason, push_layouts, push_lines,
+    push_navigation, push_numbers, push_partings, push_promise, push_report, push_sampling,
+    push_start, push_table, push_trade_offs,
 };
 use pbn_deal::Board;
 use pbn_text::{Game, Tag};
@@ -152,7 +153,7 @@ fn push_top(page: &mut Page, alloc: Global, shown: &Shown, lines: &[Line]) -> Re
     let board = shown.board;
     let kept = shown.kept;
     let report = shown.report;
-    push_start(page, report.card)?;
+    push_start(page, report.card, kept.node.width())?;
     push_facts(
         page,
         alloc,
@@ -163,12 +164,14 @@ fn push_top(page: &mut Page, alloc: Global, shown: &Shown, lines: &[Line]) -> Re
     push_navigation(page)
 }
 
-// The lines of a report, where they part, and what plain sampling believes.
+// The lines of a report, where they part, what plain sampling believes, and the first lines played
+// out.
 #[derive(Drop)]
 struct Found {
     lines: Vec<Line>,
     besides: Vec<Beside>,
     beliefs: Vec<Belief>,
+    played: Vec<PlayedLine>,
 }
 
 #[tactic(auto, unfolding(crate::specs::ReportPages::play))]
@@ -191,15 +194,22 @@ fn push_play(
 }
 
 #[tactic(auto, unfolding(crate::specs::ReportPages::all_layouts))]
-fn push_all_layouts(page: &mut Page, shown: &Shown, lines: &[Line]) -> Result<(), AllocError>
+fn push_all_layouts(page: &mut Page, shown: &Shown, found: &Found) -> Result<(), AllocError>
     requires { length shown.now.kept.now.weights ≡ length shown.now.kept.now.node.lefts }
     ensures { OnOk result (page.new ≡ page.old ++ all_layouts shown.now.board.now
-        shown.now.kept.now (report_of shown.now.report.now) lines.now) }
+        shown.now.kept.now (report_of shown.now.report.now) found.now.lines.items
+        found.now.played.items) }
 {
-    let declarer = shown.board.declarer();
     let kept = shown.kept;
-    let by_weight = is_weighed(shown.report.version);
-    push_layouts(page, declarer, &kept.node, by_weight, &kept.weights, lines)?;
+    let layouts = Layouts {
+        declarer: shown.board.declarer(),
+        node: &kept.node,
+        by_weight: is_weighed(shown.report.version),
+        weights: &kept.weights,
+        lines: &found.lines,
+        played: &found.played,
+    };
+    push_layouts(page, &layouts)?;
     push_numbers(page, &kept.numbers)?;
     push_left_out(page, &kept.dropped)
 }
@@ -210,7 +220,7 @@ fn push_middle(page: &mut Page, shown: &Shown, found: &Found) -> Result<(), Allo
     requires beliefs { found.now.beliefs.items ≡ beliefs_at shown.now.kept.now }
     ensures { OnOk result (page.new ≡ page.old ++ middle shown.now.board.now
         shown.now.kept.now (report_of shown.now.report.now) found.now.lines.items
-        found.now.besides.items) }
+        found.now.besides.items found.now.played.items) }
 {
     let kept = shown.kept;
     let declarer = shown.board.declarer();
@@ -223,7 +233,7 @@ fn push_middle(page: &mut Page, shown: &Shown, found: &Found) -> Result<(), Allo
         found.lines.len(),
         &found.besides,
     )?;
-    push_all_layouts(page, shown, &found.lines)
+    push_all_layouts(page, shown, found)
 }
 
 #[tactic(auto, unfolding(crate::specs::ReportPages::page))]
@@ -232,7 +242,8 @@ fn page_of(alloc: Global, shown: &Shown, found: &Found) -> Result<Page, AllocErr
     requires beliefs { found.now.beliefs.items ≡ beliefs_at shown.now.kept.now }
     ensures { IfOk result (λ page. page ≡ page_of shown.now.game.now shown.now.board.now
         shown.now.kept.now (report_of shown.now.report.now) shown.now.bytes.now
-        (option_copied shown.now.cards) found.now.lines.items found.now.besides.items) }
+        (option_copied shown.now.cards) found.now.lines.items found.now.besides.items
+        found.now.played.items) }
 {
     let bytes = shown.bytes;
     let scale = scale_of(shown.kept, shown.report.version);
@@ -248,7 +259,8 @@ fn page_of(alloc: Global, shown: &Shown, found: &Found) -> Result<Page, AllocErr
 /// The page of a report at a root, where declarer's side is to play.
 ///
 /// Each strategy is told in words, and each told plan, cut down at the node, is the report's plan.
-/// The first strategy and each of the next five are compared.
+/// The first strategy and each of the next five are compared, and the first four are played out in
+/// each layout, against a defence that beats them if there is one.
 /// The report itself stands at the end of the page, byte for byte.
 pub fn report_page(alloc: Global, shown: &Shown) -> Result<Text, AllocError>
     requires ours { is_declarers (to_play shown.now.kept.now.node.position) ≡ true }
@@ -268,6 +280,7 @@ pub fn report_page(alloc: Global, shown: &Shown) -> Result<Text, AllocError>
         lines: lines_of(alloc, board.declarer(), &kept.node, &report.entries)?,
         besides: besides_of(alloc, &report.entries)?,
         beliefs: beliefs_of(alloc, kept)?,
+        played: played_lines(alloc, &kept.node, &report.entries)?,
     };
     let page = page_of(alloc, shown, &found)?;
     page.written()

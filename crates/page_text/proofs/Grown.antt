@@ -8,7 +8,7 @@ use Rattle.card_sets.specs.declared.card.Suit.{Suit}
 use Rattle.card_sets.specs.Cards.{card_of}
 use Rattle.html_text.specs.declared.page.Piece.{Piece}
 use Rattle.page_text.specs.Signs.{rank_mark}
-use Rattle.page_text.specs.Lines.{cell, column}
+use Rattle.page_text.specs.Lines.{cell}
 use Rattle.page_text.specs.Verdicts.{greatest}
 
 -- the pieces of one thing more
@@ -26,18 +26,18 @@ cell_more start now next vector k bit here so_far grew =
     let is = get_or_from_slice_get vector k bit bit here in
     piece_more cell start now next (take k vector) (take (k + 1) vector) bit (take_more vector k bit inside ∙ ap (λ b. take k vector ++ b ∷ []) is) so_far grew
 
-range_more : (a n : ℕ) → range_with_len a (suc n) ≡ range_with_len a n ++ (a + n) ∷ []
+pub range_more : (a n : ℕ) → range_with_len a (suc n) ≡ range_with_len a n ++ (a + n) ∷ []
 range_more a zero = let none : a ≡ a + 0 = omega arith in ap (λ (x : ℕ). x ∷ []) none
 range_more a (suc n) =
     let last : a + 1 + n ≡ a + suc n = omega arith in
     ap (λ (xs : List ℕ). a ∷ xs) (range_more (a + 1) n ∙ ap (λ (x : ℕ). range_with_len (a + 1) n ++ x ∷ []) last)
 
--- one column more
-pub column_more : (start now next : List Piece) (k : ℕ) → now ≡ start ++ flat_map column (range_with_len 1 k) → next ≡ now ++ column (k + 1) → next ≡ start ++ flat_map column (range_with_len 1 (k + 1))
-column_more start now next k so_far grew =
+-- the pieces of one number more, counted from 1
+pub number_more : (f : ℕ → List Piece) (start now next : List Piece) (k : ℕ) → now ≡ start ++ flat_map f (range_with_len 1 k) → next ≡ now ++ f (k + 1) → next ≡ start ++ flat_map f (range_with_len 1 (k + 1))
+number_more f start now next k so_far grew =
     let one : k + 1 ≡ suc k = omega arith in
     let at : 1 + k ≡ k + 1 = omega arith in
-    piece_more column start now next (range_with_len 1 k) (range_with_len 1 (k + 1)) (k + 1)
+    piece_more f start now next (range_with_len 1 k) (range_with_len 1 (k + 1)) (k + 1)
     (ap (range_with_len 1) one ∙ range_more 1 k ∙ ap (λ (x : ℕ). range_with_len 1 k ++ x ∷ []) at) so_far grew
 
 -- the pieces of one place more, counted from 0

@@ -9,10 +9,11 @@ use Rattle.html_text.specs.Pages.{own, told}
 use Rattle.page_text.specs.declared.markup.TheConstants.{HEAD, STYLE, TITLE_END, HEAD_END, FACTS, EVENT, BOARD, CONTRACT, FACTS_END, REPORT, REPORT_END}
 use Rattle.page_text.specs.declared.frame.Tags.{Tags}
 use Rattle.page_text.specs.Signs.{compass_word}
+use Rattle.page_text.specs.Picking.{rules}
 
--- the head, with the card to play as its title
-unfoldable pub start : ℕ → List Piece
-start card = own HEAD.now ++ told (letters_of card) ++ own TITLE_END.now ++ own STYLE.now ++ own HEAD_END.now
+-- the head, with the card to play as its title, and the style for a page of this many layouts
+unfoldable pub start : ℕ → ℕ → List Piece
+start card width = own HEAD.now ++ told (letters_of card) ++ own TITLE_END.now ++ own STYLE.now ++ rules width ++ own HEAD_END.now
 
 -- what a tag of the deal file says, if it is there
 unfoldable pub fact : List ℕ → Option (List ℕ) → List Piece

@@ -10,10 +10,13 @@ use Rattle.trick_rules.specs.Play.{hand_of}
 use Rattle.trick_rules.specs.Nodes.{NodeValue}
 use Rattle.html_text.specs.declared.page.Piece.{Piece}
 use Rattle.html_text.specs.Pages.{own, told}
-use Rattle.page_text.specs.declared.markup.TheConstants.{HAND_END, LAYOUTS, SIDE, SIDE_HAND, WEIGHS, NUMBERS, NUMBERS_END}
+use Rattle.page_text.specs.declared.markup.TheConstants.{HAND_END, LAYOUTS, ITEM, SIDE, SIDE_HAND, WEIGHS, NUMBERS, NUMBERS_END}
 use Rattle.page_text.specs.declared.lines.Line.{Line}
+use Rattle.page_text.specs.declared.plays.PlayedLine.{PlayedLine}
+use Rattle.page_text.specs.declared.layouts.Layouts.{Layouts}
 use Rattle.page_text.specs.Signs.{hand_pieces, compass_word}
 use Rattle.page_text.specs.Lines.{link}
+use Rattle.page_text.specs.Plays.{plays_at}
 
 -- a defender with this hand
 unfoldable pub side : Compass → List ℕ → List Piece
@@ -22,7 +25,7 @@ side place hand = own SIDE.now ++ own (compass_word place) ++ own SIDE_HAND.now 
 -- the hands of the defenders, if Left has this one
 unfoldable pub hands : Compass → PositionValue → List ℕ → List Piece
 hands declarer position left =
-    own (codes "<li>") ++ side (next_compass declarer) left
+    own ITEM.now ++ side (next_compass declarer) left
     ++ side (next_compass (next_compass (next_compass declarer))) (hand_of (record { position = position; left = left }) Right)
 
 unfoldable pub weight_note : ℕ → List Piece
@@ -46,17 +49,36 @@ made_by is_made = if is_made then codes "Made by line" else codes "No line makes
 
 -- the lines that make the layout
 unfoldable pub makers : ℕ → List Line → List Piece
-makers place lines = own (made_by (list_any (makes_at place) lines)) ++ flat_map (maker place) lines ++ own (codes ".</p></li>\n")
+makers place lines = own (made_by (list_any (makes_at place) lines)) ++ flat_map (maker place) lines ++ own (codes ".</p>\n")
 
--- the layout at a place: the hands, what it weighs, and the lines that make it
-abbrev pub layout_at : Compass → NodeValue → Bool → List ℕ → List Line → ℕ → List Piece
-layout_at declarer n by_weight weights lines place =
-    hands declarer n.position (get_or n.lefts place []) ++ worth by_weight (get_or weights place 0) ++ makers place lines
+-- what a page shows of the layouts of a node: their weights, if they are weighed, the lines, and those that are played out
+pub record LayoutsShown : Type 0 where
+  pub declarer : Compass
+  pub node : NodeValue
+  pub by_weight : Bool
+  pub weights : List ℕ
+  pub lines : List Line
+  pub played : List PlayedLine
+
+abbrev pub shown_by : Layouts → LayoutsShown
+shown_by shown = record {
+  declarer = shown.declarer;
+  node = shown.node.now;
+  by_weight = shown.by_weight;
+  weights = shown.weights.now;
+  lines = shown.lines.now;
+  played = shown.played.now;
+}
+
+-- the layout at a place: the hands, what it weighs, the lines that make it, and lines played out there
+unfoldable pub layout_at : LayoutsShown → ℕ → List Piece
+layout_at shown place =
+    hands shown.declarer shown.node.position (get_or shown.node.lefts place []) ++ worth shown.by_weight (get_or shown.weights place 0)
+    ++ makers place shown.lines ++ plays_at (length shown.node.position.trick.cards) place shown.played
 
 -- the layouts in order
-unfoldable pub layouts : Compass → NodeValue → Bool → List ℕ → List Line → List Piece
-layouts declarer n by_weight weights lines =
-    own LAYOUTS.now ++ flat_map (layout_at declarer n by_weight weights lines) (range_with_len 0 (length n.lefts))
+unfoldable pub layouts : LayoutsShown → List Piece
+layouts shown = own LAYOUTS.now ++ flat_map (layout_at shown) (range_with_len 0 (length shown.node.lefts))
 
 -- a number after a blank
 abbrev pub number_item : ℕ → List Piece

@@ -1,11 +1,13 @@
 pub mod Signs
 pub mod Verdicts
 pub mod Cards
+pub mod Picking
 pub mod Tables
 pub mod Reasons
 pub mod Lines
 pub mod Steps
 pub mod Beliefs
+pub mod Plays
 pub mod Layouts
 pub mod Partings
 pub mod Frames

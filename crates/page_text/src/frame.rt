@@ -8,21 +8,23 @@ use crate::markup::{
     BOARD, CONTRACT, END, EVENT, FACTS, FACTS_END, HEAD, HEAD_END, NAVIGATION, REPORT, REPORT_END,
     STYLE, TITLE_END,
 };
+use crate::picking::push_rules;
 use crate::signs::compass_word;
 use card_letters::letters_of;
 use card_sets::{Card, Compass};
 use html_text::Page;
 use std::alloc::{AllocError, Global};
 
-/// Adds the head, with the card to play as its title.
+/// Adds the head, with the card to play as its title, and the style for a page of this many layouts.
 #[tactic(auto, unfolding(crate::specs::Frames::start))]
-pub fn push_start(page: &mut Page, card: Card) -> Result<(), AllocError>
-    ensures { OnOk result (page.new ≡ page.old ++ start card) }
+pub fn push_start(page: &mut Page, card: Card, width: u16) -> Result<(), AllocError>
+    ensures { OnOk result (page.new ≡ page.old ++ start card width) }
 {
     page.own(HEAD)?;
     page.told(&letters_of(card))?;
     page.own(TITLE_END)?;
     page.own(STYLE)?;
+    push_rules(page, width)?;
     page.own(HEAD_END)
 }
 

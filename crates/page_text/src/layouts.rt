@@ -1,13 +1,13 @@
 //! The layouts of a node.
-ghost use Rattle.std.specs.Prelude.{◌≡◌, ◌++◌, [], length, flat_map, OnOk};
+ghost use Rattle.std.specs.Prelude.{◌≡◌, ◌<◌, ◌++◌, [], length, flat_map, OnOk};
 ghost use Rattle.std.specs.List.{list_any, range_with_len};
 ghost use Rattle.page_text.specs.Layouts.{side, hands, weight_note, worth, makes_at, maker};
-ghost use Rattle.page_text.specs.Layouts.{made_by, makers};
-ghost use Rattle.page_text.specs.Layouts.{layout_at, layouts, number_item};
-ghost use Rattle.page_text.specs.Layouts.{file_numbers};
+ghost use Rattle.page_text.specs.Layouts.{made_by, makers, shown_by, layout_at, layouts};
+ghost use Rattle.page_text.specs.Layouts.{number_item, file_numbers};
 
 use crate::lines::{Line, push_link};
-use crate::markup::{HAND_END, LAYOUTS, NUMBERS, NUMBERS_END, SIDE, SIDE_HAND, WEIGHS};
+use crate::markup::{HAND_END, ITEM, LAYOUTS, NUMBERS, NUMBERS_END, SIDE, SIDE_HAND, WEIGHS};
+use crate::plays::{PlayedLine, push_plays};
 use crate::signs::{compass_word, push_hand};
 use card_sets::{CardSet, Compass, Seat};
 use html_text::Page;
@@ -38,7 +38,7 @@ fn push_hands(
     ensures { OnOk result (page.new ≡ page.old ++ hands declarer position.now left) }
 {
     let right = position.hand(Seat::Right, left);
-    page.own(b"<li>")?;
+    page.own(ITEM)?;
     push_side(page, declarer.next(), left)?;
     push_side(page, declarer.next().next().next(), right)
 }
@@ -115,30 +115,46 @@ fn push_makers(page: &mut Page, place: u16, lines: &[Line]) -> Result<(), AllocE
 {
     page.own(made_by(is_made(place, lines)))?;
     push_each_maker(page, place, lines)?;
-    page.own(b".</p></li>\n")
+    page.own(b".</p>\n")
+}
+
+/// What a page shows of the layouts of a node.
+#[derive(Drop)]
+pub struct Layouts<'a> {
+    pub declarer: Compass,
+    pub node: &'a Node,
+    /// Whether the layouts are weighed, and not counted.
+    pub by_weight: bool,
+    pub weights: &'a Weights,
+    pub lines: &'a [Line],
+    /// Some of the lines, played out.
+    pub played: &'a [PlayedLine],
+}
+
+// Adds the layout at a place.
+#[tactic(auto, unfolding(crate::specs::Layouts::layout_at))]
+fn push_layout(page: &mut Page, shown: &Layouts, place: u16) -> Result<(), AllocError>
+    requires weighed { length shown.now.weights.now ≡ length shown.now.node.now.lefts }
+    requires place { place < length shown.now.node.now.lefts }
+    ensures { OnOk result (page.new ≡ page.old ++ layout_at (shown_by shown.now) place) }
+{
+    let position = shown.node.position();
+    push_hands(page, shown.declarer, position, shown.node.left(place))?;
+    push_worth(page, shown.by_weight, shown.weights.get(place))?;
+    push_makers(page, place, shown.lines)?;
+    push_plays(page, position, place, shown.played)
 }
 
 /// Adds the layouts of a node in order: the defenders' hands, the weight of each if layouts are
-/// weighed, and the lines that make it.
+/// weighed, the lines that make it, and those that are played out there.
 #[tactic(auto, unfolding(crate::specs::Layouts::layouts))]
-pub fn push_layouts(
-    page: &mut Page,
-    declarer: Compass,
-    node: &Node,
-    by_weight: bool,
-    weights: &Weights,
-    lines: &[Line],
-) -> Result<(), AllocError>
-    requires { length weights.now ≡ length node.now.lefts }
-    ensures { OnOk result (page.new ≡ page.old
-        ++ layouts declarer node.now by_weight weights.now lines.now) }
+pub fn push_layouts(page: &mut Page, shown: &Layouts) -> Result<(), AllocError>
+    requires { length shown.now.weights.now ≡ length shown.now.node.now.lefts }
+    ensures { OnOk result (page.new ≡ page.old ++ layouts (shown_by shown.now)) }
 {
     page.own(LAYOUTS)?;
-    let lefts = node.lefts();
-    for place in 0..node.width() {
-        push_hands(page, declarer, node.position(), lefts[usize::from(place)])?;
-        push_worth(page, by_weight, weights.get(place))?;
-        push_makers(page, place, lines)?;
+    for place in 0..shown.node.width() {
+        push_layout(page, shown, place)?;
     }
     Ok(())
 }

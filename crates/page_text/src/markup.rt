@@ -32,8 +32,8 @@ p{margin:.4rem 0;max-width:46rem}
 color:var(--soft);overflow-wrap:anywhere}
 a{color:var(--green)}
 nav a{display:inline-block;margin-right:1rem}
-a:focus-visible,summary:focus-visible,[tabindex]:focus-visible{outline:3px solid var(--orange);
-outline-offset:2px}
+a:focus-visible,summary:focus-visible,select:focus-visible,[tabindex]:focus-visible{
+outline:3px solid var(--orange);outline-offset:2px}
 .h{color:var(--red)}.d{color:var(--orange)}.c{color:var(--green)}
 .table{display:grid;grid-template-areas:'. n .' 'w m e' '. f .';grid-template-columns:1fr auto 1fr;
 gap:.6rem;width:max-content;max-width:100%;background:var(--card);border:1px solid var(--edge);
@@ -48,7 +48,14 @@ text-align:center;font-size:.9rem}
 .side ul{display:inline}
 .side li{display:inline-block;margin-left:.6rem;white-space:nowrap}
 .layouts>li{margin-bottom:.6rem}
+.layouts details{padding:.2rem .6rem;margin:.2rem 0}.layouts summary{font-weight:400}
 .wide{overflow-x:auto;position:relative}
+.one,.pick{display:none}
+.one,.layout{outline-offset:.2rem}tr>*{outline-offset:-2px}
+@supports selector(:has(a)){.pick{display:block}}
+#table:has(option:nth-child(n+2):checked) .any{display:none}
+select{font:inherit;color:inherit;background:var(--card);border:1px solid var(--soft);
+border-radius:.4rem;padding:.3rem .5rem;min-height:2.4rem}
 table{border-collapse:collapse;font-variant-numeric:tabular-nums}
 th,td{border-bottom:1px solid var(--edge);padding:.25rem .55rem;text-align:center}
 .y{background:var(--yes);color:var(--green)}.x{background:var(--no);color:var(--red)}
@@ -64,6 +71,7 @@ font:.85rem/1.5 ui-monospace,monospace}
 @media (max-width:34rem){.table{gap:.3rem;padding:.5rem;font-size:.9rem}h1{font-size:1.6rem}
 .side{min-width:0;display:block}.words ul{padding-left:.5rem}.words>ul{padding:0}}
 @media print{body{background:#fff}header{background:none}nav,footer{display:none}
+.pick:has(option:first-child:checked){display:none}
 .m{background:none;color:#000;border:1px solid}.wide{overflow:visible}
 .wide table,.wide thead,.wide tbody{display:block}.wide tr{display:flex;flex-wrap:wrap}
 .wide th,.wide td{width:1.6rem;padding:.1rem 0}
@@ -160,12 +168,11 @@ pub const HAS_AT_LEAST: &[u8] = b" has at least ";
 
 pub const TABLE_START: &[u8] = b"<section id='table'>
 <h2>The table</h2>
-<div class='table'>
 ";
 
 pub const TABLE_END: &[u8] = b"</div>
-<p class='note'>A defender&#8217;s hand has every card that may be in it. Bold: held in every
-layout.</p>
+<p class='note'><span class='any'>A defender&#8217;s hand has every card that may be in it. </span>Bold:
+held in every layout.</p>
 </section>
 ";
 
@@ -179,6 +186,39 @@ pub const NEEDED: &[u8] = b" tricks needed</p>\n<p>";
 
 pub const CENTRE_END: &[u8] = b"</p></div>\n";
 
+pub const HAND_IN: &[u8] = b"</ul>
+<ul class='one'>
+";
+
+// ---- the picker of a layout
+
+pub const PICKER: &[u8] =
+    b"<p class='pick'><label for='pick'>Show the defenders&#8217; hands in layout</label>
+<select id='pick'>
+<option>any</option>
+";
+
+pub const CHOICE: &[u8] = b"<option>";
+
+pub const CHOICE_END: &[u8] = b"</option>\n";
+
+pub const PICKER_END: &[u8] = b"</select></p>\n<div class='table'>\n";
+
+// What a layout's rule of style is for. A browser looks for the picked choice only where it can be, so
+// that a page of many layouts doesn't become slow.
+
+pub const PICKED: &[u8] = b"#table:has(>p>select>option:nth-child(";
+
+pub const HANDS: &[u8] = b"):checked) .one:nth-of-type(";
+
+pub const CELLS: &[u8] = b"):checked)~:is(#trade-offs,#sampling) td:nth-child(";
+
+pub const HEADS: &[u8] = b"):checked)~:is(#trade-offs,#sampling) th:nth-child(";
+
+pub const ITEMS: &[u8] = b"):checked)~#layouts .layout:nth-child(";
+
+pub const SHOWN: &[u8] = b"{display:revert;outline:2px solid var(--orange)}\n";
+
 // ---- the lines
 
 pub const TRADE_OFFS: &[u8] = b"<section id='trade-offs'>
@@ -186,7 +226,7 @@ pub const TRADE_OFFS: &[u8] = b"<section id='trade-offs'>
 <p class='note'>A line is a way to play that needs no sight of the defenders&#8217; cards. A column
 is one of the <a href='#layouts'>layouts</a>: &#10003; the line makes it against any defence,
 &#10007; some defence beats the line.</p>
-<div class='wide' tabindex='0'><table>
+<div class='wide' tabindex='0' role='region' aria-label='The lines side by side'><table>
 <thead><tr><th scope='col'>Line</th><th scope='col'>begins</th><th scope='col'>makes</th>";
 
 // ---- what sampling believes
@@ -205,7 +245,7 @@ pub const BELIEVED: &[u8] = b"with <strong>";
 pub const NO_LINE_MAKES: &[u8] = b"</strong>. No line of this report makes more than <strong>";
 
 pub const BELIEFS: &[u8] = b"</strong>.</p>
-<div class='wide' tabindex='0'><table>
+<div class='wide' tabindex='0' role='region' aria-label='What sampling believes'><table>
 <thead><tr><th scope='col'>Card</th><th scope='col'>believed</th><th scope='col'>best line</th>";
 
 pub const LINES: &[u8] = b"<section id='lines'>
@@ -276,15 +316,27 @@ pub const ONLY_SIX: &[u8] = b"<p class='note'>Only the first six lines are compa
 
 pub const LAYOUTS: &[u8] = b"<section id='layouts'>
 <h2>The layouts</h2>
-<p class='note'>The defenders&#8217; hands now, numbered as the columns and the words are.</p>
+<p class='note'>The defenders&#8217; hands now, numbered as the columns and the words are. A line is
+played out against defenders who see all hands, know the line and beat it if they can; bars divide
+the tricks.</p>
 <ol class='layouts'>
 ";
+
+pub const ITEM: &[u8] = b"<li class='layout'>";
 
 pub const SIDE: &[u8] = b"<div class='side'><b>";
 
 pub const SIDE_HAND: &[u8] = b"</b>\n<ul>\n";
 
 pub const WEIGHS: &[u8] = b"<p>Weight ";
+
+pub const PLAYS: &[u8] = b"<details><summary>Played out</summary>\n";
+
+pub const PLAY: &[u8] = b"<p>Line ";
+
+pub const PLAY_END: &[u8] = b"</p>\n";
+
+pub const PLAYS_END: &[u8] = b"</details></li>\n";
 
 pub const NUMBERS: &[u8] = b"</ol>
 <p class='note'>Their numbers in the layout file:";

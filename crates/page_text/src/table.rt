@@ -1,9 +1,13 @@
 //! The four hands round the table.
 ghost use Rattle.std.specs.Prelude.{◌≡◌, ◌++◌, flat_map, OnOk};
-ghost use Rattle.page_text.specs.Tables.{may_hold, must_hold, box_start, role, seat_pieces, seats};
+ghost use Rattle.page_text.specs.Tables.{may_hold, must_hold, box_start, role, hand_in, hands_in};
+ghost use Rattle.page_text.specs.Tables.{seat_hands, seat_pieces, seats};
 ghost use Rattle.page_text.specs.Tables.{trump_word, contract, trick_card, centre, table};
 
-use crate::markup::{CENTRE, CENTRE_END, HAND_END, NEEDED, TABLE_END, TABLE_START, TRUMPS};
+use crate::markup::{
+    CENTRE, CENTRE_END, HAND_END, HAND_IN, NEEDED, TABLE_END, TABLE_START, TRUMPS,
+};
+use crate::picking::push_picker;
 use crate::signs::{compass_word, push_card, push_hand, suit_sign};
 use card_sets::{Card, CardSet, Compass, Seat};
 use html_text::Page;
@@ -49,8 +53,51 @@ fn role(seat: Seat) -> &'static [u8]
     match seat {
         Seat::Declarer => b", declarer</h3>\n<ul>\n",
         Seat::Dummy => b", dummy</h3>\n<ul>\n",
-        Seat::Left | Seat::Right => b"</h3>\n<ul>\n",
+        Seat::Left | Seat::Right => b"</h3>\n<ul class='any'>\n",
     }
+}
+
+#[tactic(auto, unfolding(crate::specs::Tables::hand_in))]
+fn push_hand_in(
+    page: &mut Page,
+    position: &Position,
+    seat: Seat,
+    sure: CardSet,
+    left: CardSet,
+) -> Result<(), AllocError>
+    ensures { OnOk result (page.new ≡ page.old ++ hand_in position.now seat sure left) }
+{
+    page.own(HAND_IN)?;
+    push_hand(page, position.hand(seat, left), sure)
+}
+
+// Adds the hand of a defender in each layout, in bold the cards that he holds in every layout.
+fn push_each_hand(page: &mut Page, seat: Seat, node: &Node) -> Result<(), AllocError>
+    ensures { OnOk result (page.new ≡ page.old
+        ++ flat_map (hand_in node.now.position seat (must_hold node.now seat)) node.now.lefts) }
+{
+    let sure = must_hold(node, seat);
+    for left in node.lefts() {
+        push_hand_in(page, node.position(), seat, sure, *left)?;
+    }
+    Ok(())
+}
+
+fn push_hands_in(page: &mut Page, seat: Seat, node: &Node) -> Result<(), AllocError>
+    ensures { OnOk result (page.new ≡ page.old ++ hands_in node.now seat) }
+{
+    match seat {
+        Seat::Declarer | Seat::Dummy => Ok(()),
+        Seat::Left | Seat::Right => push_each_hand(page, seat, node),
+    }
+}
+
+#[tactic(auto, unfolding(crate::specs::Tables::seat_hands))]
+fn push_seat_hands(page: &mut Page, seat: Seat, node: &Node) -> Result<(), AllocError>
+    ensures { OnOk result (page.new ≡ page.old ++ seat_hands seat node.now) }
+{
+    push_hand(page, may_hold(node, seat), must_hold(node, seat))?;
+    push_hands_in(page, seat, node)
 }
 
 // Adds a seat with its hand.
@@ -61,7 +108,7 @@ fn push_seat(page: &mut Page, place: Compass, seat: Seat, node: &Node) -> Result
     page.own(box_start(place))?;
     page.own(compass_word(place))?;
     page.own(role(seat))?;
-    push_hand(page, may_hold(node, seat), must_hold(node, seat))?;
+    push_seat_hands(page, seat, node)?;
     page.own(HAND_END)
 }
 
@@ -120,12 +167,14 @@ fn push_centre(page: &mut Page, position: &Position) -> Result<(), AllocError>
 }
 
 /// Adds the table: declarer's place and the hands of the four seats, a defender's by all layouts of
-/// the node; the contract, and the present trick.
+/// the node and in each, with a picker of the layout that is shown; the contract, and the present
+/// trick.
 #[tactic(auto, unfolding(crate::specs::Tables::table))]
 pub fn push_table(page: &mut Page, declarer: Compass, node: &Node) -> Result<(), AllocError>
     ensures { OnOk result (page.new ≡ page.old ++ table declarer node.now) }
 {
     page.own(TABLE_START)?;
+    push_picker(page, node.width())?;
     push_seats(page, declarer, node)?;
     push_centre(page, node.position())?;
     page.own(TABLE_END)
