@@ -1,5 +1,5 @@
 -- What is assured after the cards of a defender, one after another.
-use Rattle.std.proofs.Common.{◌≡◌, ◌∙◌, ◌+◌, ℕ, false, List, [], ◌∷◌, ◌++◌, Contains, append-nil, append_assoc, sum_by, sym, ap, subst}
+use Rattle.std.proofs.Common.{◌≡◌, ◌∙◌, ◌+◌, ℕ, List, [], ◌∷◌, ◌++◌, Contains, append-nil, append_assoc, sum_by, sym, ap, subst}
 use Rattle.std.specs.List.{AllZip}
 use Rattle.trick_rules.specs.Nodes.{NodeValue, IsNode, choices, child, child_mask}
 use Rattle.strategy_games.specs.Plans.{tree_size}

@@ -1,7 +1,5 @@
-use Rattle.std.proofs.Common.{◌≡◌, ◌∙◌, ◌++◌, ◌∷◌, [], List, refl, sym, subst, rules, arith}
+use Rattle.std.proofs.Common.{List, sym, subst}
 use Rattle.trick_rules.specs.Nodes.{choices}
-use Rattle.strategy_games.specs.Plans.{tree_size}
-use Rattle.strategy_tree.specs.Bridge.{bridge}
 use Rattle.strategy_tree.proofs.CardLists.{has_card-from_Contains}
 use Rattle.alphamu_core.proofs.Paid.{paid_none, paid_more, paid_memory, paid_all, paid_below}
 use Rattle.alphamu_core.proofs.Taken.{taken_first}
