@@ -1,5 +1,5 @@
 -- The assured front of a node, card by card.
-use Rattle.std.proofs.Common.{◌≡◌, ℕ, zero, suc, sum_by, ◌+◌, ◌-◌, ◌<◌, ◌↔◌, true, false, List, [], ◌∷◌, ◌++◌, replicate, length, Contains, All, refl, sym, ap, subst, ◌∙◌, arith, append-nil, append_assoc, inl, inr, ⊎_elim, Result, IsErrAnd}
+use Rattle.std.proofs.Common.{◌≡◌, ◌⊎◌, ℕ, zero, suc, sum_by, ◌+◌, ◌-◌, ◌<◌, ◌↔◌, true, false, List, [], ◌∷◌, ◌++◌, replicate, length, Contains, All, refl, sym, ap, subst, ◌∙◌, arith, inl, inr, ⊎_elim, Result, IsErrAnd}
 use Rattle.std.proofs.lemmas.Bool.{cases_Bool}
 use Rattle.card_sets.specs.SetWords.{has_card}
 use Rattle.win_vectors.specs.Vectors.{ones_of, restrict_of}
@@ -17,7 +17,7 @@ use Rattle.strategy_tree.proofs.BridgeNodes.{length-states, length-child_mask, l
 use Rattle.strategy_tree.proofs.CardLists.{has_card-from_Contains, Contains-from_has_card}
 use Rattle.strategy_games.proofs.Lists.{Contains-here, Contains-nil, Contains-cons, Contains-single, Contains-append, Contains-append_first, Contains-append_second, All-at}
 use Rattle.strategy_games.proofs.Vectors.{Dominates-refl, Dominates-trans}
-use Rattle.strategy_games.proofs.Fronts.{front_level, cases_Covers}
+use Rattle.strategy_games.proofs.Fronts.{front_level, front_same, cases_Covers}
 use Rattle.alphamu_core.proofs.Judging.{ones_above}
 use Rattle.alphamu_core.proofs.OpenNodes.{size_ours, size_theirs, length-our_child}
 use Rattle.alphamu_core.specs.declared.answers.SearchFault.{SearchFault}
@@ -27,7 +27,6 @@ use Rattle.equal_cards.specs.Equals.{IsLowest}
 use Rattle.alphamu_core.specs.Kept.{AreEnough, IsTaken}
 use Rattle.alphamu_core.proofs.Paid.{HasPaid, size_after, costs_memory}
 use Rattle.alphamu_core.proofs.Parts.{length-restrict}
-use Rattle.plain_fronts.proofs.CardByCard.{member}
 use Rattle.assured_games.specs.Assured.{Secures, IsAssured, IsAssuredFront}
 use Rattle.assured_games.proofs.Zips.{length_zip}
 use Rattle.assured_games.specs.Steps.{AssuredByCard, AssuredByReply}
@@ -67,15 +66,31 @@ pub record CardsLeft (n : NodeValue) (m : ℕ) (cards : List ℕ) (front : Front
   pub tried : List ℕ
   pub are_tried : AreTried n tried
   pub earlier : List ℕ
-  pub are : tried ≡ earlier ++ cards
+  pub each : (c : ℕ) → Contains tried c → Contains earlier c ⊎ Contains cards c
+  pub were : (c : ℕ) → Contains earlier c → Contains tried c
+  pub among : (c : ℕ) → Contains cards c → Contains tried c
   pub width : front.width ≡ length n.lefts
   pub so_far : IsFrontOver n m earlier front.vectors
 
-next_is : {n : NodeValue} {m card : ℕ} {cards rest : List ℕ} {front : FrontValue} (left : CardsLeft n m cards front) → cards ≡ card ∷ rest → left.tried ≡ left.earlier ++ card ∷ rest
-next_is left next = left.are ∙ ap (λ cards. left.earlier ++ cards) next
+pub next_choice : {n : NodeValue} {m card : ℕ} {cards rest : List ℕ} {front : FrontValue} (left : CardsLeft n m cards front) → IsTaken cards card rest → Contains (choices n) card
+next_choice {n} {m} {card} left next = left.are_tried.enough.within card (left.among card next.among)
 
-pub next_choice : {n : NodeValue} {m card : ℕ} {cards rest : List ℕ} {front : FrontValue} (left : CardsLeft n m cards front) → cards ≡ card ∷ rest → Contains (choices n) card
-next_choice {n} {m} {card} {cards} {rest} left next = left.are_tried.enough.within card (member left.tried left.earlier rest card (next_is left next))
+-- a card more is tried
+module _ {n : NodeValue} {m card : ℕ} {cards rest : List ℕ} {front : FrontValue} (left : CardsLeft n m cards front) (next : IsTaken cards card rest) where
+  each_now : (c : ℕ) → Contains left.tried c → Contains (left.earlier ++ card ∷ []) c ⊎ Contains rest c
+  each_now c k = ⊎_elim
+      (λ (was : Contains left.earlier c). inl (Contains-append_first left.earlier (card ∷ []) c was))
+      (λ (open_card : Contains cards c). ⊎_elim
+      (λ (same : c ≡ card). inl (Contains-append_second left.earlier (card ∷ []) c (subst (λ (x : ℕ). Contains (x ∷ []) c) same (Contains-here c []))))
+      (λ (later : Contains rest c). inr later)
+      (next.others c open_card))
+      (left.each c k)
+
+  were_now : (c : ℕ) → Contains (left.earlier ++ card ∷ []) c → Contains left.tried c
+  were_now c k = ⊎_elim
+      (λ (was : Contains left.earlier c). left.were c was)
+      (λ (last : Contains (card ∷ []) c). subst (λ (x : ℕ). Contains left.tried x) (Contains-single card c last) (left.among card next.among))
+      (Contains-append left.earlier (card ∷ []) c k)
 
 -- the cards before a member of a list, and those after it
 pub parted : (xs : List ℕ) (x : ℕ) → Contains xs x → (ys : List ℕ) × (zs : List ℕ) × (xs ≡ ys ++ x ∷ zs)
@@ -130,36 +145,41 @@ module _ (n : NodeValue) (m : ℕ) (tried : List ℕ) (front : List Vector) (sou
     ordered = so.ordered;
   }
 
-pub over_all : (n : NodeValue) (moves m : ℕ) (tried earlier rest : List ℕ) (front : List Vector) → AreTried n tried → IsNode n → claims n ≡ false → 0 < moves
+pub over_all : (n : NodeValue) (moves m : ℕ) (tried earlier : List ℕ) (front : List Vector) → AreTried n tried → IsNode n → claims n ≡ false → 0 < moves
     → (is_declarers (to_play n.position) ≡ true → m ≡ moves - 1) → (is_declarers (to_play n.position) ≡ false → m ≡ moves)
-    → tried ≡ earlier ++ rest → rest ≡ [] → IsFrontOver n m earlier front → IsAssuredFront bridge is_sure_node n moves front
-over_all n moves m tried earlier rest front is sound off some less same are none so_far =
+    → ((c : ℕ) → Contains tried c → Contains earlier c) → ((c : ℕ) → Contains earlier c → Contains tried c) → IsFrontOver n m earlier front → IsAssuredFront bridge is_sure_node n moves front
+over_all n moves m tried earlier front is sound off some less same all were so_far =
     let going = goes_on n off in
     let more = more_moves moves some in
-    let all : earlier ≡ tried = sym (are ∙ ap (λ cards. earlier ++ cards) none ∙ append-nil earlier) in
     elim (cases_Bool (is_declarers (to_play n.position))) as (λ _. IsAssuredFront bridge is_sure_node n moves front) [
-      | inl o ↦ subst (λ k. IsAssuredFront bridge is_sure_node n k front) more
+      | inl o ↦
+          let so = front_same (AssuredByCard bridge is_sure_node n m earlier) (AssuredByCard bridge is_sure_node n m tried) front
+          (λ v a. (a.0, were a.0 a.1, a.2)) (λ v a. (a.0, all a.0 a.1, a.2)) (so_far.ours o) in
+          subst (λ k. IsAssuredFront bridge is_sure_node n k front) more
           (steps.all_cards n (moves - 1) front sound going.0 going.1 o
-          (subst (λ k. IsFrontOf (AssuredByCard bridge is_sure_node n k (choices n)) front) (less o)
-          (over_lowest n m tried front sound is o (subst (λ cards. IsFrontOf (AssuredByCard bridge is_sure_node n m cards) front) all (so_far.ours o)))))
-      | inr t ↦ subst (λ k. IsAssuredFront bridge is_sure_node n k front) more
+          (subst (λ k. IsFrontOf (AssuredByCard bridge is_sure_node n k (choices n)) front) (less o) (over_lowest n m tried front sound is o so)))
+      | inr t ↦
+          let so = front_same (AssuredByReply bridge is_sure_node n m earlier) (AssuredByReply bridge is_sure_node n m tried) front
+          (λ v a. (a.0, λ c k. a.1 c (all c k))) (λ v a. (a.0, λ c k. a.1 c (were c k))) (so_far.theirs t) in
+          subst (λ k. IsAssuredFront bridge is_sure_node n k front) more
           (steps.all_replies n (moves - 1) front sound going.0 going.1 t
           (subst (λ k. IsFrontOf (AssuredByReply bridge is_sure_node n k (choices n)) front) (same t ∙ sym more)
-          (subst (λ cards. IsFrontOf (AssuredByReply bridge is_sure_node n m cards) front) (all ∙ is.theirs t) (so_far.theirs t))))
+          (subst (λ cards. IsFrontOf (AssuredByReply bridge is_sure_node n m cards) front) (is.theirs t) so)))
     ]
 
 -- a card more, with the front after it
-pub left_one_more : {n : NodeValue} {m card : ℕ} {cards rest : List ℕ} {front : FrontValue} (left : CardsLeft n m cards front) → cards ≡ card ∷ rest → (kept : NodeValue) (mask : Vector) (won next : FrontValue)
+pub left_one_more : {n : NodeValue} {m card : ℕ} {cards rest : List ℕ} {front : FrontValue} (left : CardsLeft n m cards front) → IsTaken cards card rest → (kept : NodeValue) (mask : Vector) (won next : FrontValue)
     → IsNode n → kept ≡ child n card → mask ≡ child_mask n card → IsAssuredFront bridge is_sure_node kept m won.vectors → next.width ≡ front.width
     → (is_declarers (to_play n.position) ≡ true → IsReduced (front.vectors ++ won.vectors) next.vectors) → (is_declarers (to_play n.position) ≡ false → IsReduced (meets front.vectors (spreads mask won.vectors)) next.vectors)
     → CardsLeft n m rest next
 left_one_more {n} {m} {card} {cards} {rest} {front} left first kept mask won next sound is mask_is kept_front width union join =
-    let are = next_is left first in
     record {
       tried = left.tried;
       are_tried = left.are_tried;
       earlier = left.earlier ++ card ∷ [];
-      are = are ∙ sym (append_assoc left.earlier (card ∷ []) rest);
+      each = each_now left first;
+      were = were_now left first;
+      among = λ c k. left.among c (first.part c k);
       width = width ∙ left.width;
       so_far = over_one_more n kept m left.earlier card mask front.vectors won.vectors next.vectors sound (next_choice left first) left.so_far is mask_is kept_front union join;
     }
@@ -168,20 +188,19 @@ left_one_more {n} {m} {card} {cards} {rest} {front} left first kept mask won nex
 pub left_all : {n : NodeValue} {m : ℕ} {cards : List ℕ} {front : FrontValue} (left : CardsLeft n m cards front) → (moves : ℕ) → IsNode n → claims n ≡ false → 0 < moves
     → (is_declarers (to_play n.position) ≡ true → m ≡ moves - 1) → (is_declarers (to_play n.position) ≡ false → m ≡ moves) → cards ≡ [] → IsAssuredAt n moves front
 left_all {n} {m} {cards} {front} left moves sound off some less same none = record {
-  front = over_all n moves m left.tried left.earlier cards front.vectors left.are_tried sound off some less same left.are none left.so_far;
+  front = over_all n moves m left.tried left.earlier front.vectors left.are_tried sound off some less same
+      (λ c k. ⊎_elim (λ (was : Contains left.earlier c). was) (λ (open_card : Contains cards c). absurd (Contains-nil c (subst (λ (l : List ℕ). Contains l c) none open_card))) (left.each c k))
+      left.were left.so_far;
   width = left.width;
 }
 
 -- a card that changes nothing
-module _ {n : NodeValue} {m card : ℕ} {cards rest : List ℕ} {front : FrontValue} (left : CardsLeft n m cards front) (first : cards ≡ card ∷ rest) (sound : IsNode n) (off : claims n ≡ false) (made : AllMade n) where
+module _ {n : NodeValue} {m card : ℕ} {cards rest : List ℕ} {front : FrontValue} (left : CardsLeft n m cards front) (first : IsTaken cards card rest) (sound : IsNode n) (off : claims n ≡ false) (made : AllMade n) where
   abbrev with_card : List ℕ
   with_card = left.earlier ++ card ∷ []
 
-  are_with : left.tried ≡ with_card ++ rest
-  are_with = next_is left first ∙ sym (append_assoc left.earlier (card ∷ []) rest)
-
   among : (c : ℕ) → Contains with_card c → Contains (choices n) c
-  among c k = left.are_tried.enough.within c (subst (λ (xs : List ℕ). Contains xs c) (sym are_with) (Contains-append_first with_card rest c k))
+  among c k = left.are_tried.enough.within c (were_now left first c k)
 
   -- where declarer's side wins every layout already,
   same_ours : is_declarers (to_play n.position) ≡ true → Covers front.vectors (replicate (length n.lefts) true) → IsFrontOf (AssuredByCard bridge is_sure_node n m with_card) front.vectors
@@ -228,7 +247,9 @@ module _ {n : NodeValue} {m card : ℕ} {cards rest : List ℕ} {front : FrontVa
     tried = left.tried;
     are_tried = left.are_tried;
     earlier = with_card;
-    are = are_with;
+    each = each_now left first;
+    were = were_now left first;
+    among = λ c k. left.among c (first.part c k);
     width = left.width;
     so_far = record {
       ours = λ o. same_ours o (ours o);

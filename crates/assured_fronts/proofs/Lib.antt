@@ -6,3 +6,4 @@ pub mod SameSearch
 pub mod LastMove
 pub mod EqualSure
 pub mod EqualFronts
+pub mod ReplyByReply

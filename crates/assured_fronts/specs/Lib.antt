@@ -1,2 +1,3 @@
 pub mod AssuredAt
 pub mod AssuredSearches
+pub mod AfterReplies

@@ -8,8 +8,10 @@ mod ends;
 mod enough;
 mod last;
 mod memo;
+mod replies;
 mod search;
 mod tried;
 mod walk;
 
-pub use walk::assured_front;
+pub use replies::{AfterReply, waits};
+pub use walk::{assured_front, assured_replies};

@@ -10,7 +10,7 @@ use crate::ends::{is_settled, open_stop, results, settled};
 use crate::enough::changes_nothing;
 use crate::last::last_move;
 use crate::memo::AssuredMemo;
-use crate::tried::cards_of;
+use crate::tried::{cards_of, next_card};
 use alphamu_core::{Budget, SearchFault, filled, part_of};
 use dd_solver::Solver;
 use pareto_fronts::Front;
@@ -101,7 +101,7 @@ impl AssuredSearch<'_> {
         let left = moves_after(node, moves);
         let mut front = front_of_no_card(self.alloc, node)?;
         let mut cards = cards_of(node);
-        'cards: while let Some(card) = cards.pop_first() {
+        'cards: while let Some(card) = next_card(node, &mut cards) {
             let (child, mask) = node.child(self.alloc, card)?;
             if changes_nothing(node, &front, mask) {
                 continue;

@@ -3,8 +3,10 @@ ghost use Rattle.std.specs.Prelude.{◌≡◌, ◌+◌, ◌<◌, ◌≤◌, IfOk
 ghost use Rattle.strategy_games.specs.Plans.{tree_size};
 ghost use Rattle.strategy_tree.specs.Bridge.{bridge};
 ghost use Rattle.assured_fronts.specs.AssuredAt.{IsAssuredAt};
+ghost use Rattle.assured_fronts.specs.AfterReplies.{Waits, AreAfterReplies};
 
 use crate::memo::AssuredMemo;
+use crate::replies::AfterReply;
 use crate::search::AssuredSearch;
 use alphamu_core::{Budget, SearchFault};
 use dd_solver::Solver;
@@ -40,4 +42,31 @@ pub fn assured_front(
         memo: &mut memo,
     };
     search.visit(node, moves, false)
+}
+
+/// What is assured after each card of a defender, in card order, at a node where one is to play and
+/// play goes on. The budget pays for the node and for each that is entered below it.
+///
+/// Errors: as of `assured_front`.
+pub fn assured_replies(
+    alloc: Global,
+    solver: &mut Solver,
+    budget: &mut Budget,
+    node: &Node,
+    moves: u8,
+) -> Result<Vec<AfterReply>, SearchFault>
+    requires { Waits node.now moves }
+    ensures replies { IfOk result (λ found. AreAfterReplies node.now moves found.items) }
+    ensures spent { IsErrOf result SearchFault.Spent
+        → budget.old.left < tree_size bridge node.now moves }
+    ensures nodes { budget.new.nodes ≡ budget.old.nodes }
+{
+    let mut memo = AssuredMemo::new(alloc);
+    let mut search = AssuredSearch {
+        alloc,
+        solver,
+        budget,
+        memo: &mut memo,
+    };
+    search.replies(node, moves)
 }

@@ -16,15 +16,9 @@ use Rattle.strategy_tree.specs.Bridge.{bridge}
 use Rattle.strategy_tree.proofs.Rules.{lawful}
 use Rattle.strategy_tree.proofs.BridgeLaws.{leaders}
 use Rattle.root_workers.specs.Leaders.{leader}
+use Rattle.assured_fronts.proofs.ReplyByReply.{zip_more}
 use Rattle.card_brackets.specs.declared.rows.CardRow.{CardRow}
 use Rattle.card_brackets.specs.Rows.{IsRow, is_final, are_final}
-
--- a card and its row more
-zip_more : (R : ℕ → CardRow → Type 0) (cards : List ℕ) (rows : List CardRow) (card : ℕ) (row : CardRow) → AllZip R cards rows → R card row → AllZip R (cards ++ card ∷ []) (rows ++ row ∷ [])
-zip_more R [] [] card row none is = (is, tt)
-zip_more R (c ∷ cards) (r ∷ rows) card row both is = (both.0, zip_more R cards rows card row both.1 is)
-zip_more R [] (r ∷ rows) card row none is = absurd none
-zip_more R (c ∷ cards) [] card row none is = absurd none
 
 -- a row that doesn't end a round of which only a final table is wanted
 pub final_if_not_open : (final only : Bool) → (only && not final) ≡ false → only ≡ true → final ≡ true

@@ -3,3 +3,4 @@ pub mod Sampled
 pub mod Leading
 pub mod Tables
 pub mod Bounded
+pub mod HeavyVectors

@@ -9,8 +9,9 @@ ghost use Rattle.sure_nodes.specs.SureNodes.{is_sure_node};
 ghost use Rattle.shared_table.specs.Passes.{IsPassOf};
 ghost use Rattle.root_workers.specs.Questions.{IsQuestion};
 
+use crate::heaviest::heaviest;
 use alphamu_core::{Budget, Found, SearchFault, search};
-use assured_fronts::assured_front;
+use assured_fronts::{assured_front, assured_replies, waits};
 use cut_rules::{CutRules, Stop, greatest_weight};
 use dd_solver::Solver;
 use front_table::{FrontStore, NoStore};
@@ -90,7 +91,8 @@ fn front_after(
     }
 }
 
-// The greatest weight that is assured after a root card. `child` is the node after it.
+// The greatest weight that is assured after a root card. `child` is the node after it. If a defender
+// is to play there, what is assured after each of its cards is enough.
 fn least_after(question: &Question, solver: &mut Solver, child: &Node) -> Result<u32, SearchFault>
     requires question { IsQuestion question.now }
     requires width { length question.now.weights.now ≡ length child.now.lefts }
@@ -100,9 +102,14 @@ fn least_after(question: &Question, solver: &mut Solver, child: &Node) -> Result
         < tree_size bridge child.now (question.now.moves - 1) }
 {
     let _width = child.width();
+    let alloc = question.alloc;
     let moves = question.moves - 1;
     let mut budget = Budget::new(question.options.nodes);
-    let front = assured_front(question.alloc, solver, &mut budget, child, moves)?;
+    if waits(child, moves) {
+        let replies = assured_replies(alloc, solver, &mut budget, child, moves)?;
+        return Ok(heaviest(alloc, child, moves, &replies, question.weights)?);
+    }
+    let front = assured_front(alloc, solver, &mut budget, child, moves)?;
     match greatest_weight(&front, question.weights) {
         Some(weight) => Ok(weight),
         None => unreachable!(),

@@ -7,6 +7,7 @@
 #![tactic(auto)]
 
 mod bounds;
+mod heaviest;
 pub mod laws;
 mod rounds;
 mod rows;

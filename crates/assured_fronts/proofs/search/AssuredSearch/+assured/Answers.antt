@@ -1,4 +1,4 @@
-use Rattle.std.proofs.Common.{◌≡◌, ◌+◌, [], length, refl, sym, ap, ◌∙◌, arith, rules}
+use Rattle.std.proofs.Common.{◌≡◌, ◌+◌, [], length, refl, sym, ap, ◌∙◌, arith, rules, inr}
 use Rattle.std.proofs.lemmas.Bool.{not-true}
 use Rattle.win_vectors.specs.Vectors.{ones_of}
 use Rattle.trick_rules.specs.Play.{cards_left}
@@ -8,7 +8,7 @@ use Rattle.strategy_tree.specs.Bridge.{bridge}
 use Rattle.strategy_tree.proofs.BridgeNodes.{tree_size-positive}
 use Rattle.strategy_tree.proofs.CardLists.{has_card-from_Contains}
 use Rattle.alphamu_core.proofs.Paid.{costs_memory, paid_none, costs_one, costs_none, costs_by_part, costs_of_part, paid_more, paid_memory, paid_all, paid_below}
-use Rattle.alphamu_core.proofs.Taken.{taken_first}
+use Rattle.strategy_games.proofs.Lists.{Contains-nil}
 use Rattle.plain_fronts.proofs.CardByCard.{falls, child_fits}
 use Rattle.assured_fronts.proofs.CardByCard.{stops_off, size_below, next_choice, parted, over_no_card, left_one_more, left_same, left_all, paid_less, memory_once}
 use Rattle.alphamu_core.proofs.Inherited.{known_whole}
@@ -28,7 +28,9 @@ by_cards-cards-init t c = record {
     tried = c.cards_of-cards.result;
     are_tried = record { enough = c.cards_of-cards.ensures.enough; ours = c.cards_of-cards.ensures.ours; theirs = c.cards_of-cards.ensures.theirs };
     earlier = [];
-    are = refl;
+    each = λ card k. inr k;
+    were = λ card k. absurd (Contains-nil card k);
+    among = λ card k. k;
     width = c.in_ok-front.ensures.width;
     so_far = over_no_card c.args.node.now c.moves_after-left.result c.in_ok-front.front.vectors c.in_ok-front.ensures.ours c.in_ok-front.ensures.theirs;
   };
@@ -37,12 +39,12 @@ by_cards-cards-init t c = record {
 }
 
 pub by_cards-child-requires : goal.by_cards-child-requires
-by_cards-child-requires t c = has_card-from_Contains (choices c.args.node.now) c.in-Some.card (next_choice c.cards.invariant.left c.in-Some.ensures.value)
+by_cards-child-requires t c = has_card-from_Contains (choices c.args.node.now) c.in-Some.card (next_choice c.cards.invariant.left c.in-Some.ensures.taken)
 
 pub by_cards-visit-requires : goal.by_cards-visit-requires
 by_cards-visit-requires t c =
     let left = c.cards.invariant.left in
-    let at = parted (choices c.args.node.now) c.in-Some.card (next_choice left c.in-Some.ensures.value) in
+    let at = parted (choices c.args.node.now) c.in-Some.card (next_choice left c.in-Some.ensures.taken) in
     let fewer = falls c.args.node.now c.in_ok-child.child at.0 at.1 c.in-Some.card c.front_of_no_card.ensures.a_node at.2 c.in_ok-child.ensures.node in (
       omega (arith, fewer),
       λ known. made_after c.args.node.now c.in-Some.card c.front_of_no_card.ensures.a_node (goes_on c.args.node.now c.requires.goes_on).0 (sym c.is_ours.ensures ∙ not-true c.is_ours.result known) c.in_ok-child.child c.in_ok-child.ensures.node c.requires.made,
@@ -51,30 +53,30 @@ by_cards-visit-requires t c =
 pub by_cards-with_child-requires : goal.by_cards-with_child-requires
 by_cards-with_child-requires t c =
     let left = c.cards.invariant.left in
-    let at = parted (choices c.args.node.now) c.in-Some.card (next_choice left c.in-Some.ensures.value) in
+    let at = parted (choices c.args.node.now) c.in-Some.card (next_choice left c.in-Some.ensures.taken) in
     let fits = child_fits c.args.node.now c.in_ok-child.child at.0 at.1 c.in-Some.card c.in_ok-child.mask c.cards.front.width c.in_ok-won.won.width
     at.2 c.in_ok-child.ensures.node c.in_ok-child.ensures.mask left.width c.in_ok-won.ensures.front.width in
     record { mask_width = fits.mask_width; child_width = fits.child_width; ours = fits.ours }
 
 pub by_cards-cards-preserved : goal.by_cards-cards-preserved
 by_cards-cards-preserved t c = record {
-  left = left_one_more c.cards.invariant.left c.in-Some.ensures.value c.in_ok-child.child c.in_ok-child.mask c.in_ok-won.won c.in_ok-front-2.front
+  left = left_one_more c.cards.invariant.left c.in-Some.ensures.taken c.in_ok-child.child c.in_ok-child.mask c.in_ok-won.won c.in_ok-front-2.front
       c.front_of_no_card.ensures.a_node c.in_ok-child.ensures.node c.in_ok-child.ensures.mask c.in_ok-won.ensures.front.front c.in_ok-front-2.ensures.width c.in_ok-front-2.ensures.ours c.in_ok-front-2.ensures.theirs;
-  paid = paid_more ⊥ c.args.node.now c.moves_after-left.result c.cards.invariant.paid (taken_first _ _ _ c.in-Some.ensures.value) c.in_ok-child.ensures.node c.in_ok-won.won c.in_ok-won.ensures.costs;
+  paid = paid_more ⊥ c.args.node.now c.moves_after-left.result c.cards.invariant.paid c.in-Some.ensures.taken c.in_ok-child.ensures.node c.in_ok-won.won c.in_ok-won.ensures.costs;
   same = same_more c.cards.invariant.same c.in_ok-won.ensures.same;
 }
 
 pub by_cards-cards-preserved-then-changes_nothing : goal.by_cards-cards-preserved-then-changes_nothing
 by_cards-cards-preserved-then-changes_nothing t c = record {
-  left = left_same c.cards.invariant.left c.in-Some.ensures.value c.front_of_no_card.ensures.a_node c.requires.goes_on c.requires.made c.in_ok-child.mask c.in_ok-child.ensures.mask
+  left = left_same c.cards.invariant.left c.in-Some.ensures.taken c.front_of_no_card.ensures.a_node c.requires.goes_on c.requires.made c.in_ok-child.mask c.in_ok-child.ensures.mask
       (c.changes_nothing.ensures.ours c.if-changes_nothing.true) (c.changes_nothing.ensures.theirs c.if-changes_nothing.true);
-  paid = paid_less c.cards.invariant.paid (taken_first _ _ _ c.in-Some.ensures.value);
+  paid = paid_less c.cards.invariant.paid c.in-Some.ensures.taken;
   same = c.cards.invariant.same;
 }
 
 pub by_cards-returns-clause-front : goal.by_cards-returns-clause-front
 by_cards-returns-clause-front t c =
-    left_all c.cards.invariant.left c.args.moves c.front_of_no_card.ensures.a_node c.requires.goes_on c.requires.some c.moves_after-left.ensures.ours c.moves_after-left.ensures.theirs c.in_default.ensures.value.0
+    left_all c.cards.invariant.left c.args.moves c.front_of_no_card.ensures.a_node c.requires.goes_on c.requires.some c.moves_after-left.ensures.ours c.moves_after-left.ensures.theirs c.in_default.ensures.none
 
 -- ---- what they cost
 
@@ -91,13 +93,13 @@ by_cards-returns-in_err-child-clause-costs t c =
 pub by_cards-returns-in_err-won-clause-costs : goal.by_cards-returns-in_err-won-clause-costs
 by_cards-returns-in_err-won-clause-costs t c =
     let size = size_below c.args.node.now c.args.moves c.moves_after-left.result c.front_of_no_card.ensures.a_node c.requires.goes_on c.requires.some c.moves_after-left.ensures.ours c.moves_after-left.ensures.theirs in
-    paid_below ⊥ c.args.node.now c.moves_after-left.result c.cards.invariant.paid c.args.moves size (taken_first _ _ _ c.in-Some.ensures.value) c.in_ok-child.ensures.node
+    paid_below ⊥ c.args.node.now c.moves_after-left.result c.cards.invariant.paid c.args.moves size c.in-Some.ensures.taken c.in_ok-child.ensures.node
     c.from_residual-in_err-won.result c.in_err-won.field-0.0 c.in_err-won.ensures.costs c.from_residual-in_err-won.ensures.1
 
 pub by_cards-returns-in_err-front-2-clause-costs : goal.by_cards-returns-in_err-front-2-clause-costs
 by_cards-returns-in_err-front-2-clause-costs t c =
     let size = size_below c.args.node.now c.args.moves c.moves_after-left.result c.front_of_no_card.ensures.a_node c.requires.goes_on c.requires.some c.moves_after-left.ensures.ours c.moves_after-left.ensures.theirs in
-    let paid = paid_more ⊥ c.args.node.now c.moves_after-left.result c.cards.invariant.paid (taken_first _ _ _ c.in-Some.ensures.value) c.in_ok-child.ensures.node c.in_ok-won.won c.in_ok-won.ensures.costs in
+    let paid = paid_more ⊥ c.args.node.now c.moves_after-left.result c.cards.invariant.paid c.in-Some.ensures.taken c.in_ok-child.ensures.node c.in_ok-won.won c.in_ok-won.ensures.costs in
     paid_memory ⊥ c.args.node.now c.moves_after-left.result paid c.args.moves size c.from_residual-in_err-front-2.result c.from_residual-in_err-front-2.ensures.1
 
 pub by_cards-returns-in_err-front-2-clause-same : goal.by_cards-returns-in_err-front-2-clause-same
