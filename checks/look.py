@@ -1,8 +1,8 @@
 #!/usr/bin/env python3
 """look.py [--pictures FOLDER] [PAGE ..]
 
-Opens pages in a headless Chromium, and says what is wrong with how they look. Without a PAGE it asks ./alphamu and ./study for
-one of each folder in EXAMPLES. A page must load nothing, run nothing and say nothing in the browser's log. At each of WIDTHS it may
+Opens pages in a headless Chromium, and says what is wrong with how they look. Without a PAGE it asks ./study for one of each
+folder in EXAMPLES, by a search of MOVES moves. A page must load nothing, run nothing and say nothing in the browser's log. At each of WIDTHS it may
 not be wider than the window, except for what scrolls by itself. The contrast of each text with what is behind it must be at least
 LEAST_CONTRAST, light and dark, of what is folded too. On paper nothing may be cut off. Each control must be reached by Tab, in the
 order of the page. With no script and by keys alone a layout is picked: its hands must be at the table, its columns marked and its
@@ -236,14 +236,10 @@ def is_silent(number, frame):
 def make_pages(room):
     """A page of each example, by its file."""
     for name in EXAMPLES:
-        def ask(caller, *words):
-            words = [caller, *words, "--deal", "deal.pbn", "--layouts", "layouts.lay"]
-            return subprocess.run(words, cwd=os.path.join(TOP, "examples", name), capture_output=True, check=True).stdout
-        report, page = os.path.join(room, "report"), os.path.join(room, f"{name}.html")
-        with open(report, "wb") as file:
-            file.write(ask(LAUNCHER, "--job", "solve", "--moves", MOVES))
+        page = os.path.join(room, f"{name}.html")
+        words = [STUDY, "--job", "page", "--deal", "deal.pbn", "--layouts", "layouts.lay", "--moves", MOVES]
         with open(page, "wb") as file:
-            file.write(ask(STUDY, "--job", "page", "--report", report))
+            subprocess.run(words, cwd=os.path.join(TOP, "examples", name), stdout=file, check=True)
         yield page
 
 

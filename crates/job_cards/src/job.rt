@@ -19,12 +19,7 @@ use text_forms::Form;
 /// of declarer's side: the least number of moves with which each card is final, or else that one.
 /// One worker does all the work. Errors: `Spent` at a root card whose tree has more nodes than a
 /// search may enter; `Memory`.
-pub fn cards_of(
-    alloc: Global,
-    root: &Root,
-    moves: u8,
-    search: &Search,
-) -> Result<CardTable, Status>
+pub fn cards_of(alloc: Global, root: &Root, moves: u8, search: &Search) -> Result<CardTable, Status>
     requires turn { has_choice root.now.kept.node ≡ true }
     requires weighed { length root.now.kept.weights ≡ length root.now.kept.node.lefts }
     requires moves { IsMoves moves }

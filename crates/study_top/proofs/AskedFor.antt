@@ -1,5 +1,5 @@
 -- The text of a study and its refusal, from what its words ask for.
-use Rattle.std.proofs.Common.{◌≡◌, ◌∙◌, ℕ, List, Option, None, Some, Ok, Result, IfSome, subst, inr}
+use Rattle.std.proofs.Common.{◌≡◌, ◌∙◌, ℕ, List, Option, None, Some, Ok, IfSome, subst, inr}
 use Rattle.am_outside.specs.Shelf.{Files}
 use Rattle.am_answer.specs.declared.status.Status.{Status}
 use Rattle.am_answer.specs.Files.{InputsValue, inputs_read}

@@ -1,13 +1,11 @@
 -- A report that is searched for, in place of one that is read from a file.
 use Rattle.std.specs.Prelude.{◌≡◌, ◌⊎◌, ◌≤◌, ℕ, List, length, Some, Ok, Err}
 use Rattle.job_words.specs.declared.asks.Search.{Search}
-use Rattle.job_words.specs.declared.asks.LayoutsJob.TheVariants as jobs
 use Rattle.am_answer.specs.declared.root.Root.{Root}
 use Rattle.am_answer.specs.declared.status.FileWord.TheVariants.{Report}
 use Rattle.am_answer.specs.declared.status.Status.{Status}
-use Rattle.am_answer.specs.Answers.{task_at}
 use Rattle.am_answer.specs.Files.{limit_of, within_limit}
-use Rattle.am_answer.specs.Stages.{IsFileRefusal, IsTaskRefusal, IsTextFor}
+use Rattle.am_answer.specs.Stages.{IsTaskRefusal, IsTextFor}
 use Rattle.am_answer.specs.Tasks.{Solve}
 
 -- a report that `solve` gives at a root, no longer than the file of a report may be

@@ -1,7 +1,5 @@
 use Rattle.std.proofs.Common.{◌≡◌, ◌≢◌, ◌∙◌, ◌++◌, ℕ, List, Option, None, Some, MatchOption, Bor, ap, sym}
-use Rattle.std.specs.Option.{option_copied}
 use Rattle.std.specs.Str.Pattern.{FindsTextPrefix, StripsPrefix}
-use Rattle.byte_text.specs.Lines.{text_after}
 use Rattle.byte_text.proofs.ReadLines.{text_after-is}
 use Rattle.study_top.proofs.apart.text_after.Goals as goal
 
