@@ -69,7 +69,8 @@ font:.85rem/1.5 ui-monospace,monospace}
 .words>ul{padding:0;border:0}
 .words li{margin:.35rem 0}
 @media (max-width:34rem){.table{gap:.3rem;padding:.5rem;font-size:.9rem}h1{font-size:1.6rem}
-.side{min-width:0;display:block}.words ul{padding-left:.5rem}.words>ul{padding:0}}
+.side{min-width:0;display:block}.words ul{padding-left:.5rem}.words>ul{padding:0}
+.few th,.few td{padding:.25rem .3rem}}
 @media print{body{background:#fff}header{background:none}nav,footer{display:none}
 .pick:has(option:first-child:checked){display:none}
 .m{background:none;color:#000;border:1px solid}.wide{overflow:visible}
