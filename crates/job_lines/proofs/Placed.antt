@@ -6,6 +6,9 @@ use Rattle.trick_rules.specs.Positions.{PositionValue, State}
 use Rattle.trick_rules.specs.Nodes.{NodeValue, IsNode, states}
 use Rattle.strategy_games.specs.Plans.{Plan, Fits, wins}
 use Rattle.strategy_tree.specs.Bridge.{bridge}
+use Rattle.strategy_check.specs.Following.{CanFollow}
+use Rattle.strategy_check.proofs.Compared.{follow_from}
+use Rattle.am_match.proofs.UnderWay.{state_at_place}
 use Rattle.line_plays.specs.Defended.{PlaysOut}
 use Rattle.pbn_text.specs.Games.{GameValue}
 use Rattle.pbn_deal.specs.declared.board.Played.{Played}
@@ -14,6 +17,21 @@ use Rattle.pbn_games.specs.GameText.{game_text}
 use Rattle.am_report.specs.Answers.{ReadEntryValue}
 use Rattle.am_answer.specs.declared.root.Root.{Root}
 use Rattle.job_lines.specs.LinesJob.{shown_at, IsGameAt}
+
+module _ (plan opened : Plan ℕ) (n : NodeValue) (place : ℕ) (position : PositionValue) (left : List ℕ) (is_plan : opened ≡ plan) (is_position : position ≡ n.position)
+    (is_left : slice_get n.lefts place ≡ Some left) where
+  -- it can be followed there
+  pub followed_at : IsNode n → ((moves : ℕ) × Fits bridge plan n moves) → CanFollow opened (record { position = position; left = left })
+  followed_at sound fits =
+      subst (λ (p : Plan ℕ). CanFollow p (record { position = position; left = left })) (sym is_plan)
+      (subst (λ (t : PositionValue). CanFollow plan (record { position = t; left = left })) (sym is_position) (follow_from plan n fits.0 place left sound fits.1 is_left))
+
+  -- what is so of it there is so in that layout
+  pub so_at : (Is : Plan ℕ → State → Type 0) (s : State) → slice_get (states n) place ≡ Some s → Is opened (record { position = position; left = left }) → Is plan s
+  so_at Is s at_layout is =
+      subst (λ (t : State). Is plan t) (state_at_place n place left s is_left at_layout)
+      (subst (λ (t : PositionValue). Is plan (record { position = t; left = left })) is_position
+      (subst (λ (p : Plan ℕ). Is p (record { position = position; left = left })) is_plan is))
 
 some_at : {X : Type 0} (xs : List X) (k : ℕ) → k < length xs → (x : X) × (slice_get xs k ≡ Some x)
 some_at [] k inside = absurd (omega (arith, inside))

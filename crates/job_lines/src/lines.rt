@@ -18,7 +18,7 @@ use byte_text::Text;
 use card_sets::Seat;
 use dd_solver::Solver;
 use job_told::good_report;
-use line_plays::{PlayOut, play_in_layout};
+use line_plays::{PlayOut, play_against_best_defence};
 use pbn_games::{Shown, all_cards, dealt_hand, game_text};
 use pbn_text::{Game, games};
 use std::alloc::{AllocError, Global};
@@ -33,7 +33,7 @@ fn play_at(solver: &mut Solver, read: &ReadEntry, node: &Node, place: u16) -> Pl
     ensures made { (s : State) → slice_get (states node.now) place ≡ Some s
         → result.made ≡ wins bridge read.now.entry.plan s }
 {
-    play_in_layout(solver, &read.entry.plan, node, place)
+    play_against_best_defence(solver, &read.entry.plan, node.position(), node.left(place))
 }
 
 // The strategies of a report at a root, to be written as games with the tags of a game.
