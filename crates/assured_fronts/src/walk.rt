@@ -63,10 +63,10 @@ pub fn assured_replies(
 {
     let mut memo = AssuredMemo::new(alloc);
     let mut search = AssuredSearch {
+        memo: &mut memo,
         alloc,
         solver,
         budget,
-        memo: &mut memo,
     };
     search.replies(node, moves)
 }

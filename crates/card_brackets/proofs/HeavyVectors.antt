@@ -35,6 +35,10 @@ use Rattle.card_brackets.proofs.Leasts.{assured_filled}
 pub width_at : (width : ℕ) (items : List Vector) (place : ℕ) (item : Vector) → HaveWidth width items → place < length items → item ≡ get_or items place item → length item ≡ width
 width_at width items place item all inside is = All-at (λ v. length v ≡ width) items all item (subst (λ (v : Vector). Contains items v) (sym is) (Contains-get_or items place item inside))
 
+-- the vectors up to a place, with the one there
+pub taken_more : (items : List Vector) (place : ℕ) (item : Vector) → place < length items → item ≡ get_or items place item → take place items ++ item ∷ [] ≡ take (place + 1) items
+taken_more items place item inside is = sym (take_more items place item inside ∙ ap (λ (v : Vector). take place items ++ v ∷ []) (sym is))
+
 covers_more : (f g : List Vector) (v : Vector) → CoversAll g f → Covers f v → Covers g v
 covers_more f g v all above = let u = all above.0 above.1 in (u.0, u.1, Dominates-trans u.0 above.0 v u.2 above.2)
 

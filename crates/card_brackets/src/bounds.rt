@@ -107,7 +107,7 @@ fn least_after(question: &Question, solver: &mut Solver, child: &Node) -> Result
     let mut budget = Budget::new(question.options.nodes);
     if waits(child, moves) {
         let replies = assured_replies(alloc, solver, &mut budget, child, moves)?;
-        return Ok(heaviest(alloc, child, moves, &replies, question.weights)?);
+        return Ok(heaviest(alloc, child, moves, question.weights, &replies)?);
     }
     let front = assured_front(alloc, solver, &mut budget, child, moves)?;
     match greatest_weight(&front, question.weights) {

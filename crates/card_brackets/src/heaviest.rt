@@ -155,8 +155,8 @@ pub fn heaviest(
     alloc: Global,
     node: &Node,
     moves: u8,
-    replies: &[AfterReply],
     weights: &Weights,
+    replies: &[AfterReply],
 ) -> Result<u32, AllocError>
     requires waits { Waits node.now moves }
     requires replies { AreAfterReplies node.now moves replies.now }

@@ -1,9 +1,8 @@
 use Rattle.std.proofs.Common.{◌≡◌, ◌≤◌, ◌∙◌, ◌+◌, ◌++◌, ◌∷◌, [], List, length, take, take_all, refl, sym, ap, subst, rules, arith}
-use Rattle.std.proofs.lemmas.List.{take_more}
 use Rattle.win_vectors.specs.Fronts.{Vector, HaveWidth}
 use Rattle.win_vectors.proofs.Orders.{length-spread_of}
 use Rattle.card_brackets.specs.Heaviest.{AreHeavyMeets}
-use Rattle.card_brackets.proofs.HeavyVectors.{width_at, meets_none, meets_more}
+use Rattle.card_brackets.proofs.HeavyVectors.{width_at, taken_more, meets_none, meets_more}
 use Rattle.card_brackets.proofs.heaviest.heavy_meets.Goals as goal
 
 pub loop-vector-init : goal.loop-vector-init
@@ -18,8 +17,7 @@ loop-vector-preserved c =
     let items : List Vector = c.as_slice-vector-items.result.now in
     let place = c.loop-vector.vector-index in
     let item : Vector = c.vector-item.result in
-    let more : take place items ++ item ∷ [] ≡ take (place + 1) items =
-    sym (take_more items place item c.loop-vector-test.true ∙ ap (λ (v : Vector). take place items ++ v ∷ []) (sym c.vector-item.is)) in
+    let more = taken_more items place item c.loop-vector-test.true c.vector-item.is in
     record {
       width = c.in_ok-take_heavier.ensures.width ∙ c.loop-vector.invariant.width;
       so_far = subst (λ (xs : List Vector). AreHeavyMeets c.args.weights.now c.args.floor c.args.front.now.vectors c.args.after.now.mask xs c.take_heavier.new.best.vectors) more

@@ -1,11 +1,10 @@
 use Rattle.std.proofs.Common.{◌≡◌, ◌≤◌, ◌∙◌, ◌+◌, ◌++◌, ◌∷◌, [], List, length, take, take_all, refl, sym, ap, subst, rules, arith}
-use Rattle.std.proofs.lemmas.List.{take_more}
 use Rattle.win_vectors.specs.Vectors.{meet_of}
 use Rattle.win_vectors.specs.Fronts.{Vector, IsReduced}
 use Rattle.win_vectors.specs.Weights.{weight_of}
 use Rattle.win_vectors.proofs.VectorLemmas.{length-meet_of}
 use Rattle.card_brackets.specs.Heaviest.{TakesHeavier}
-use Rattle.card_brackets.proofs.HeavyVectors.{width_at, takes_none, takes_more, takes_less}
+use Rattle.card_brackets.proofs.HeavyVectors.{width_at, taken_more, takes_none, takes_more, takes_less}
 use Rattle.card_brackets.proofs.heaviest.take_heavier.Goals as goal
 
 pub loop-mine-init : goal.loop-mine-init
@@ -31,8 +30,7 @@ loop-mine-preserved-then-total-floor c =
     let place = c.loop-mine.mine-index in
     let item : Vector = c.mine-item.result in
     let ws = c.args.weights.now in
-    let more : take place items ++ item ∷ [] ≡ take (place + 1) items =
-    sym (take_more items place item c.loop-mine-test.true ∙ ap (λ (v : Vector). take place items ++ v ∷ []) (sym c.mine-item.is)) in
+    let more = taken_more items place item c.loop-mine-test.true c.mine-item.is in
     let weight : c.total.result ≡ weight_of ws (meet_of item c.args.vector) = c.total.ensures.value ∙ ap (weight_of ws) c.meet-met.ensures in
     let test = c.if-total-floor.true in
     record {
@@ -47,8 +45,7 @@ loop-mine-preserved c =
     let place = c.loop-mine.mine-index in
     let item : Vector = c.mine-item.result in
     let ws = c.args.weights.now in
-    let more : take place items ++ item ∷ [] ≡ take (place + 1) items =
-    sym (take_more items place item c.loop-mine-test.true ∙ ap (λ (v : Vector). take place items ++ v ∷ []) (sym c.mine-item.is)) in
+    let more = taken_more items place item c.loop-mine-test.true c.mine-item.is in
     record {
       width = c.in_ok-insert.ensures.width ∙ c.loop-mine.invariant.width;
       so_far = subst (λ (xs : List Vector). TakesHeavier ws c.args.floor xs c.args.vector c.args.best.now.vectors c.insert.new.self.vectors) more
