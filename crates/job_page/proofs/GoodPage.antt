@@ -1,5 +1,5 @@
 -- The page of a report that was judged good.
-use Rattle.std.proofs.Common.{◌≡◌, ◌≤◌, ℕ, zero, suc, Result, Ok, Option, List, [], ◌∷◌, length, get_or, All, subst, le_of_suc-le-suc, arith}
+use Rattle.std.proofs.Common.{◌≡◌, ◌≤◌, ℕ, zero, suc, Ok, Option, List, [], ◌∷◌, length, get_or, All, subst, le_of_suc-le-suc, arith}
 use Rattle.trick_rules.specs.Nodes.{NodeValue}
 use Rattle.strategy_games.specs.Plans.{Fits}
 use Rattle.strategy_tree.specs.Bridge.{bridge}

@@ -1,4 +1,3 @@
-use Rattle.std.proofs.Common.{◌≡◌, ◌∷◌}
 use Rattle.page_report.proofs.MoreBesides.{each_fits, first_five}
 use Rattle.page_report.proofs.besides.besides_of.Goals as goal
 

@@ -1,4 +1,4 @@
-use Rattle.std.proofs.Common.{ℕ, sym, subst}
+use Rattle.std.proofs.Common.{sym, subst}
 use Rattle.am_report.specs.Answers.{ReadEntryValue}
 use Rattle.line_partings.specs.Partings.{FitOneNode}
 use Rattle.page_report.proofs.MoreBesides.{beside_more}
