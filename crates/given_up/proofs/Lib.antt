@@ -1,3 +1,4 @@
 pub mod FirstPlace
 pub mod OnTheWay
 pub mod Given
+mod Card

@@ -1,5 +1,6 @@
 -- The card of a play-out that gives its layout up.
-use Rattle.std.specs.Prelude.{◌≡◌, ℕ, ◌+◌, Bool, true, not, ⊤, Option, List, [], ◌∷◌, length, take, find}
+use Rattle.std.specs.Prelude.{◌≡◌, ℕ, ◌+◌, Bool, true, not, ⊤, Option, None, List, [], ◌∷◌, length, take, get_or, find, if◌then◌else◌}
+use Rattle.std.specs.Option.{option_map}
 use Rattle.std.specs.List.{range_with_len}
 use Rattle.card_sets.specs.SetWords.{has_card}
 use Rattle.trick_rules.specs.Positions.{State}
@@ -18,3 +19,7 @@ makes_after s cards played = makes (state_after s (take played cards))
 -- the place, counted from 0, of the first card after which double dummy no longer makes
 unfoldable pub giving_place : State → List ℕ → Option ℕ
 giving_place s cards = find (λ place. not (makes_after s cards (place + 1))) (range_with_len 0 (length cards))
+
+-- the card of that place, if double dummy makes at first
+unfoldable pub giving_card : State → List ℕ → Option ℕ
+giving_card s cards = if makes s then option_map (λ place. get_or cards place 0) (giving_place s cards) else None

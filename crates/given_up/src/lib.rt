@@ -7,4 +7,4 @@
 mod giving;
 pub mod laws;
 
-pub use giving::giving_place;
+pub use giving::{card_that_gives_up, giving_place};

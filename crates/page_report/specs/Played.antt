@@ -6,6 +6,7 @@ use Rattle.trick_rules.specs.Nodes.{NodeValue, states}
 use Rattle.strategy_games.specs.Plans.{wins}
 use Rattle.strategy_tree.specs.Bridge.{bridge}
 use Rattle.line_plays.specs.Defended.{PlaysOut}
+use Rattle.given_up.specs.GivenUp.{giving_card}
 use Rattle.am_report.specs.Answers.{ReadEntryValue}
 use Rattle.page_text.specs.declared.plays.PlayedOut.{PlayedOut}
 use Rattle.page_text.specs.declared.plays.PlayedLine.{PlayedLine}
@@ -14,10 +15,12 @@ use Rattle.page_text.specs.declared.plays.PlayedLine.{PlayedLine}
 abbrev pub most_played : ℕ
 most_played = 4
 
--- a line played out in a layout: it is followed, the defenders beat it if they can, and the mark says whether it makes the layout
+-- a line played out in a layout: it is followed, the defenders beat it if they can, the mark says whether it makes the layout,
+-- and the card named is the one that gives the layout up
 pub record IsPlayedOut (read : ReadEntryValue) (s : State) (play : PlayedOut) : Type 0 where
   pub cards : PlaysOut read.entry.plan s play.cards
   pub made : play.made ≡ wins bridge read.entry.plan s
+  pub given_up : play.given_up ≡ giving_card s play.cards
 
 -- a line so played out in each layout of a node
 abbrev pub IsPlayedLine : NodeValue → ReadEntryValue → PlayedLine → Type 0

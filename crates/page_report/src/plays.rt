@@ -9,6 +9,7 @@ ghost use Rattle.page_report.specs.Played.{IsPlayedOut, IsPlayedLine, ArePlayed}
 
 use am_report::ReadEntry;
 use dd_solver::Solver;
+use given_up::card_that_gives_up;
 use line_plays::play_in_layout;
 use page_text::{PlayedLine, PlayedOut};
 use std::alloc::{AllocError, Global};
@@ -25,9 +26,11 @@ fn play_at(solver: &mut Solver, node: &Node, place: u16, read: &ReadEntry) -> Pl
         → IsPlayedOut read.now s result }
 {
     let play = play_in_layout(solver, &read.entry.plan, node, place);
+    let given_up = card_that_gives_up(solver, node, place, &play.cards);
     PlayedOut {
         cards: play.cards,
         made: play.made,
+        given_up,
     }
 }
 

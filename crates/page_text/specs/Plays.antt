@@ -1,5 +1,5 @@
 -- Lines played out in a layout, trick by trick.
-use Rattle.std.specs.Prelude.{ℕ, ◌+◌, ◌%◌, ◌==◌, Bool, List, [], ◌∷◌, ◌++◌, length, get_or, slice_get, flat_map, codes, if◌then◌else◌}
+use Rattle.std.specs.Prelude.{ℕ, ◌+◌, ◌%◌, ◌==◌, Bool, Option, None, Some, List, [], ◌∷◌, ◌++◌, length, get_or, slice_get, flat_map, codes, if◌then◌else◌}
 use Rattle.std.specs.List.{range_with_len}
 use Rattle.std.specs.Option.{option_map_or}
 use Rattle.card_sets.specs.declared.card.Suit.{Suit}
@@ -8,7 +8,7 @@ use Rattle.card_sets.specs.Cards.{suit_of, rank_of}
 use Rattle.card_letters.specs.Letters.{rank_letter}
 use Rattle.html_text.specs.declared.page.Piece.{Piece}
 use Rattle.html_text.specs.Pages.{own, told}
-use Rattle.page_text.specs.declared.markup.TheConstants.{PLAYS, PLAY, PLAY_END, PLAYS_END}
+use Rattle.page_text.specs.declared.markup.TheConstants.{PLAYS, PLAY, GIVEN_UP, PLAY_END, PLAYS_END}
 use Rattle.page_text.specs.declared.plays.PlayedOut.{PlayedOut}
 use Rattle.page_text.specs.declared.plays.PlayedLine.{PlayedLine}
 use Rattle.page_text.specs.Lines.{link}
@@ -38,10 +38,16 @@ played_card begun cards place = own (before_card begun place) ++ bare_card (get_
 abbrev pub ending : Bool → List ℕ
 ending made = if made then codes " <b class='y'>made</b>: " else codes " <b class='x'>down</b>: "
 
--- the line of a number played out: whether the contract is made, and all cards
+-- the card that gives the layout up, if one does
+abbrev pub given_up : Option ℕ → List Piece
+given_up None = []
+given_up (Some card) = own GIVEN_UP.now ++ bare_card card ++ own (codes ")")
+
+-- the line of a number played out: whether the contract is made, all cards, and the one that gives the layout up
 unfoldable pub play_pieces : ℕ → ℕ → PlayedOut → List Piece
 play_pieces begun number play =
-    own PLAY.now ++ link number ++ own (ending play.made) ++ flat_map (played_card begun play.cards) (range_with_len 0 (length play.cards)) ++ own PLAY_END.now
+    own PLAY.now ++ link number ++ own (ending play.made) ++ flat_map (played_card begun play.cards) (range_with_len 0 (length play.cards))
+    ++ given_up play.given_up ++ own PLAY_END.now
 
 -- the same in the layout of a place, if the line is played out there
 abbrev pub play_at : ℕ → ℕ → PlayedLine → List Piece

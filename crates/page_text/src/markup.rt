@@ -335,6 +335,8 @@ pub const PLAYS: &[u8] = b"<details><summary>Played out</summary>\n";
 
 pub const PLAY: &[u8] = b"<p>Line ";
 
+pub const GIVEN_UP: &[u8] = b" (given up with ";
+
 pub const PLAY_END: &[u8] = b"</p>\n";
 
 pub const PLAYS_END: &[u8] = b"</details></li>\n";

@@ -2,10 +2,10 @@
 ghost use Rattle.std.specs.Prelude.{◌≡◌, ◌≤◌, ◌<◌, ◌++◌, length, flat_map, OnOk};
 ghost use Rattle.std.specs.List.{range_with_len};
 ghost use Rattle.page_text.specs.Plays.{bare_sign, before_card, bare_card, played_card, ending};
-ghost use Rattle.page_text.specs.Plays.{play_pieces, play_at, plays_at};
+ghost use Rattle.page_text.specs.Plays.{given_up as given_pieces, play_pieces, play_at, plays_at};
 
 use crate::lines::push_link;
-use crate::markup::{PLAY, PLAY_END, PLAYS, PLAYS_END};
+use crate::markup::{GIVEN_UP, PLAY, PLAY_END, PLAYS, PLAYS_END};
 use card_letters::rank_letter;
 use card_sets::{Card, Suit};
 use html_text::Page;
@@ -18,6 +18,8 @@ pub struct PlayedOut {
     /// The cards in the order of play.
     pub cards: CardLine,
     pub made: bool,
+    /// The card that gives the layout up: the first after which double dummy no longer makes it.
+    pub given_up: Option<Card>,
 }
 
 /// A line of a report, played out in each layout.
@@ -85,6 +87,18 @@ fn ending(made: bool) -> &'static [u8]
     }
 }
 
+// Adds the card that gives the layout up, if one does.
+fn push_given_up(page: &mut Page, given_up: Option<Card>) -> Result<(), AllocError>
+    ensures { OnOk result (page.new ≡ page.old ++ given_pieces given_up) }
+{
+    let Some(card) = given_up else {
+        return Ok(());
+    };
+    page.own(GIVEN_UP)?;
+    push_bare_card(page, card)?;
+    page.own(b")")
+}
+
 #[tactic(auto, unfolding(crate::specs::Plays::play_pieces))]
 fn push_play(page: &mut Page, begun: usize, number: u64, play: &PlayedOut) -> Result<(), AllocError>
     requires { begun ≤ 4 }
@@ -94,6 +108,7 @@ fn push_play(page: &mut Page, begun: usize, number: u64, play: &PlayedOut) -> Re
     push_link(page, number)?;
     page.own(ending(play.made))?;
     push_cards(page, begun, &play.cards)?;
+    push_given_up(page, play.given_up)?;
     page.own(PLAY_END)
 }
 
