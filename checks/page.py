@@ -30,7 +30,7 @@ sys.dont_write_bytecode = True
 import reading
 from cases import TOP, bytes_of, expected, is_ready, names_of_cases, parser_of, run, words_of
 from options import job_of, with_job
-from playing import card_named
+from playing import card_named, name_of
 
 STUDY = os.path.join(TOP, "study")
 REPORT, LINES = b"report.of.the.case", b"words.of.the.case"
@@ -254,15 +254,19 @@ def games_in(text):
         yield re.search(r'^\[Event ".*: (made|down)"\]', game, re.M)[1], [set(it.split()) - {"-"} for it in rows]
 
 
-def faults_of_plays(page, head, lines, games):
-    """What is wrong with so many lines of a report with this head, played out, by the text of the job lines."""
+def faults_of_plays(page, head, lines, games, fusion):
+    """What is wrong with so many lines of a report with this head, played out, by the texts of the jobs lines and fusion."""
     wrong, games = [], list(games_in(games))
+    made = ["1" in bits for bits in zip(*re.findall(r"^card .. vector ([01]+) ", fusion.decode(), re.M))]
     begun = len(re.search(r"^trick .(.*)$", head.decode(), re.M)[1].replace("-", "").split())
     items = next(it for it in page.iter("ol") if it.get("class") == "layouts")
     for place, item in enumerate(items):
         shown = [text_of(it).translate({ord(sign): letter for sign, letter in LETTERS.items()}).strip() for it in item.iterfind("details/p")]
         wanted = [(f"Line {line + 1}", *games[line * len(items) + place]) for line in range(min(lines, PLAYED))]
         for text, (line, ending, tricks) in zip(shown, wanted):
+            text, _, card = text.partition(" (given up with ")
+            if bool(card) != (made[place] and ending == "down") or card and not any(card.rstrip(")") in it for it in tricks):
+                wrong.append(f"layout {place + 1}: {text} is given up with {card}")
             cards = [it.split("\xa0") for it in text.split(": ", 1)[1].split(" | ")]
             first, *others = tricks[-len(cards):]
             if not text.startswith(f"{line} {ending}: ") or [set(it) for it in cards[1:]] != others or not set(cards[0]) <= first:
@@ -297,7 +301,7 @@ def faults_of(text, deal, report, words, fusion, games):
         wrong.append("the steps of the lines differ from those of the job words")
     wrong += faults_of_beliefs(page, entries, fusion) + faults_of_layouts(page, entries) + faults_of_reasons(page, entries)
     wrong += faults_of_partings(page, entries, reading.board_of(reading.games_of(deal)[0]))
-    wrong += faults_of_picker(page, len(entries[0][0])) + faults_of_plays(page, head, len(entries), games)
+    wrong += faults_of_picker(page, len(entries[0][0])) + faults_of_plays(page, head, len(entries), games, fusion)
     best = max(weight for _, weight, _ in entries)
     promised = re.search(r"<strong>(\d+) of", text)
     if int(promised[1]) == best and "No line of this report makes more." not in text:
