@@ -4,13 +4,12 @@ use Rattle.std.proofs.lemmas.List.{get_or_default}
 use Rattle.strategy_games.specs.Plans.{Play, Hear}
 use Rattle.strategy_tree.specs.declared.plan.Reply.{Reply}
 use Rattle.strategy_tree.specs.PlanMeaning.{plan_of, replies_of}
-use Rattle.strategy_tree.specs.PlanText.{levels_of, levels_below}
 use Rattle.strategy_tree.proofs.Meanings.{plan_of-Play}
 use Rattle.line_partings.specs.Partings.{FitOneNode, IsWhereTheyPart}
 use Rattle.line_partings.specs.Nearest.{with_card, nearer}
 use Rattle.line_partings.proofs.Apart.{same_card}
 use Rattle.line_partings.proofs.Alike.{fit_after}
-use Rattle.line_partings.proofs.Placed.{as_many, none_from, level_at, fit_at, nearest_from}
+use Rattle.line_partings.proofs.Placed.{as_many, none_from, level_there, fit_there, nearest_from}
 use Rattle.line_partings.proofs.walk.+walk.Goals as goal
 
 cards_same : (c d : ℕ) → not (c == d) ≡ false → c ≡ d
@@ -54,16 +53,9 @@ pub parting_replies-first_parting-requires : goal.parting_replies-first_parting-
 parting_replies-first_parting-requires t c =
     let xs = c.args.replies.now in
     let ys = c.args.others.now in
-    let i = c.replies.place - 1 in
-    let x = c.index-replies-place.result in
-    let y = c.index-others-place.result in
-    let low : i < length xs = omega (arith, c.replies.invariant.within, c.replies-test.true) in
-    let level : levels_of (plan_of (get_or xs i x).plan) ≤ levels_below (replies_of xs) =
-    subst (λ (r : Reply). levels_of (plan_of r.plan) ≤ levels_below (replies_of xs)) c.index-replies-place.is (level_at xs i x low c.index-replies-place.is) in (
-      omega (arith, level, c.decreases),
-      subst (λ (r : Reply). FitOneNode (plan_of r.plan) (plan_of (get_or ys i y).plan)) c.index-replies-place.is
-          (subst (λ (r : Reply). FitOneNode (plan_of x.plan) (plan_of r.plan)) c.index-others-place.is (fit_at xs ys c.requires i x y low c.index-replies-place.is c.index-others-place.is)),
-    )
+    let low : c.replies.place - 1 < length xs = omega (arith, c.replies.invariant.within, c.replies-test.true) in
+    let level = level_there xs ys c.requires _ _ _ low c.index-replies-place.is c.index-others-place.is in
+    (omega (arith, level, c.decreases), fit_there xs ys c.requires _ _ _ low c.index-replies-place.is c.index-others-place.is)
 
 pub parting_replies-replies-preserved : goal.parting_replies-replies-preserved
 parting_replies-replies-preserved t c =
