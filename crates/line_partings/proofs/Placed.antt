@@ -25,7 +25,7 @@ none_from xs ys fit =
     ap (λ (zs : List Reply). Hear (replies_of zs)) (drop_all (length xs) xs past ∙ sym (drop_all (length xs) ys also))
 
 -- the level of a reply
-pub level_at : (xs : List Reply) (i : ℕ) (r : Reply) → i < length xs → r ≡ get_or xs i r → levels_of (plan_of r.plan) ≤ levels_below (replies_of xs)
+level_at : (xs : List Reply) (i : ℕ) (r : Reply) → i < length xs → r ≡ get_or xs i r → levels_of (plan_of r.plan) ≤ levels_below (replies_of xs)
 level_at [] i r low is = absurd (omega (arith, low))
 level_at (x ∷ xs) zero r low is = let same : levels_of (plan_of r.plan) ≡ levels_of (plan_of x.plan) = ap (λ (r : Reply). levels_of (plan_of r.plan)) is in omega arith
 level_at (x ∷ xs) (suc i) r low is = let below = level_at xs i r (le_of_suc-le-suc low) is in omega (arith, below)
@@ -50,9 +50,15 @@ module _ (xs ys : List Reply) (fit : FitOneNode (Hear (replies_of xs)) (Hear (re
       first_alike x.card y.card (plan_of x.plan) (plan_of y.plan) (replies_of (drop (i + 1) xs)) (replies_of (drop (i + 1) ys))
       (subst (λ ss. ReplyAlike (games.Reply x.card (plan_of x.plan) (replies_of (drop (i + 1) xs))) ss) next_y (subst (λ rs. ReplyAlike rs (replies_of (drop i ys))) next_x alike))
 
+  -- the level of the reply at a place
+  pub level_there : levels_of (plan_of (get_or xs i x).plan) ≤ levels_below (replies_of xs)
+  level_there = subst (λ (r : Reply). levels_of (plan_of r.plan) ≤ levels_below (replies_of xs)) is_x (level_at xs i x low is_x)
+
   -- the plans of the two replies at a place fit one node
-  pub fit_at : FitOneNode (plan_of x.plan) (plan_of y.plan)
-  fit_at = first_here.fit
+  pub fit_there : FitOneNode (plan_of (get_or xs i x).plan) (plan_of (get_or ys i y).plan)
+  fit_there =
+      subst (λ (r : Reply). FitOneNode (plan_of r.plan) (plan_of (get_or ys i y).plan)) is_x
+      (subst (λ (r : Reply). FitOneNode (plan_of x.plan) (plan_of r.plan)) is_y first_here.fit)
 
   -- one reply more
   pub nearest_from : (below found : Option PartingValue) → IsWhereTheyPart (plan_of x.plan) (plan_of y.plan) below

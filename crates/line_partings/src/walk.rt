@@ -1,6 +1,6 @@
 //! Two plans side by side.
 ghost use Rattle.std.specs.Prelude.{IfOk};
-ghost use Rattle.strategy_games.specs.Plans.{Play, Hear};
+ghost use Rattle.strategy_games.specs.Plans.{Hear};
 ghost use Rattle.strategy_tree.specs.PlanMeaning.{plan_of, replies_of};
 ghost use Rattle.line_partings.specs.Partings.{FitOneNode, IsWhereTheyPart};
 
@@ -47,57 +47,30 @@ pub fn first_parting(
 {
     match plan {
         Plan::Stop => Ok(None),
-        Plan::Play(card, rest) => parting_play(alloc, *card, rest, other),
-        Plan::Hear(replies) => parting_hear(alloc, replies, other),
-    }
-}
-
-// The same, if the first plan plays a card.
-#[cycle(walk)]
-fn parting_play(
-    alloc: Global,
-    card: Card,
-    rest: &Plan,
-    other: &Plan,
-) -> Result<Option<Parting>, AllocError>
-    requires { FitOneNode (Play card (plan_of rest.now)) (plan_of other.now) }
-    ensures { IfOk result (IsWhereTheyPart (Play card (plan_of rest.now)) (plan_of other.now)) }
-{
-    match other {
-        Plan::Stop => unreachable!(),
-        Plan::Play(other_card, other_rest) => {
-            if card != *other_card {
+        Plan::Play(card, rest) => {
+            let Plan::Play(other_card, other_rest) = other else {
+                unreachable!()
+            };
+            if card != other_card {
                 return Ok(Some(Parting {
                     history: Vec::new(alloc),
-                    card,
+                    card: *card,
                     other: *other_card,
                 }));
             }
             let found = first_parting(alloc, rest, other_rest)?;
-            after_card(card, found)
+            after_card(*card, found)
         }
-        Plan::Hear(_) => unreachable!(),
+        Plan::Hear(replies) => {
+            let Plan::Hear(others) = other else {
+                unreachable!()
+            };
+            parting_replies(alloc, replies, others)
+        }
     }
 }
 
-// The same, if the first plan hears a defender's card.
-#[cycle(walk)]
-fn parting_hear(
-    alloc: Global,
-    replies: &[Reply],
-    other: &Plan,
-) -> Result<Option<Parting>, AllocError>
-    requires { FitOneNode (Hear (replies_of replies.now)) (plan_of other.now) }
-    ensures { IfOk result (IsWhereTheyPart (Hear (replies_of replies.now)) (plan_of other.now)) }
-{
-    match other {
-        Plan::Stop => unreachable!(),
-        Plan::Play(_, _) => unreachable!(),
-        Plan::Hear(others) => parting_replies(alloc, replies, others),
-    }
-}
-
-// The same, if both hear it: they reply to the same cards.
+// The same, if both hear a defender's card: they reply to the same cards.
 #[cycle(walk)]
 fn parting_replies(
     alloc: Global,

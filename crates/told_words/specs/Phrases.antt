@@ -37,19 +37,20 @@ abbrev pub cards_text : List ℕ → List ℕ
 cards_text [] = []
 cards_text (card ∷ cards) = letters_of card ++ more_cards cards
 
+-- the words for a manner: those of an order to declarer, and those of what a defender does
+abbrev pub words : Manner → List ℕ × List ℕ
+words Lead = (codes "lead ", codes " leads ")
+words Follow = (codes "play ", codes " plays ")
+words Ruff = (codes "ruff with ", codes " ruffs with ")
+words Throw = (codes "throw ", codes " throws ")
+
 -- what declarer is to do
 abbrev pub order_word : Manner → List ℕ
-order_word Lead = codes "lead "
-order_word Follow = codes "play "
-order_word Ruff = codes "ruff with "
-order_word Throw = codes "throw "
+order_word manner = (words manner).0
 
 -- what a defender does
 abbrev pub verb : Manner → List ℕ
-verb Lead = codes " leads "
-verb Follow = codes " plays "
-verb Ruff = codes " ruffs with "
-verb Throw = codes " throws "
+verb manner = (words manner).1
 
 -- a seat and what it plays: `play DA from hand`, `West plays D2 or D6`
 abbrev pub phrase : Compass → Seat → Manner → List ℕ → List ℕ

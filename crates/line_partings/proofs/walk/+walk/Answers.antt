@@ -4,13 +4,13 @@ use Rattle.std.proofs.lemmas.List.{get_or_default}
 use Rattle.strategy_games.specs.Plans.{Play, Hear}
 use Rattle.strategy_tree.specs.declared.plan.Reply.{Reply}
 use Rattle.strategy_tree.specs.PlanMeaning.{plan_of, replies_of}
-use Rattle.strategy_tree.specs.PlanText.{levels_of, levels_below}
-use Rattle.strategy_tree.proofs.Meanings.{plan_of-Play}
+use Rattle.strategy_tree.specs.PlanText.{levels_of}
+use Rattle.strategy_tree.proofs.Meanings.{plan_of-Play, plan_of-Hear}
 use Rattle.line_partings.specs.Partings.{FitOneNode, IsWhereTheyPart}
 use Rattle.line_partings.specs.Nearest.{with_card, nearer}
 use Rattle.line_partings.proofs.Apart.{same_card}
 use Rattle.line_partings.proofs.Alike.{fit_after}
-use Rattle.line_partings.proofs.Placed.{as_many, none_from, level_at, fit_at, nearest_from}
+use Rattle.line_partings.proofs.Placed.{as_many, none_from, level_there, fit_there, nearest_from}
 use Rattle.line_partings.proofs.walk.+walk.Goals as goal
 
 cards_same : (c d : ℕ) → not (c == d) ≡ false → c ≡ d
@@ -23,23 +23,33 @@ of_value (Err e) x P is holds = tt
 
 -- ---- both play the same card
 
-pub parting_play-first_parting-requires : goal.parting_play-first_parting-requires
-parting_play-first_parting-requires t c =
-    let same = cards_same c.args.card c.in-Play.other_card (sym c.ne.ensures ∙ c.if-ne.false) in
-    let is = ap plan_of c.in-Play.is ∙ plan_of-Play c.in-Play.other_card c.in-Play.other_rest ∙ ap (λ p. Play c.in-Play.other_card (plan_of p)) (sym c.deref.ensures) ∙ ap (λ d. Play d (plan_of c.deref.result.now)) (sym same) in
-    (omega (arith, c.decreases), fit_after c.args.card (plan_of c.args.rest.now) (plan_of c.deref.result.now) (subst (λ p. FitOneNode (Play c.args.card (plan_of c.args.rest.now)) p) is c.requires))
+pub first_parting-first_parting-requires : goal.first_parting-first_parting-requires
+first_parting-first_parting-requires t c =
+    let same = cards_same c.in-Play.card c.in-Play-other.other_card (sym c.ne.ensures ∙ c.if-ne.false) in
+    let mine = ap plan_of c.in-Play.is ∙ plan_of-Play c.in-Play.card c.in-Play.rest ∙ ap (λ p. Play c.in-Play.card (plan_of p)) (sym c.deref.ensures) in
+    let theirs = ap plan_of c.in-Play-other.is ∙ plan_of-Play c.in-Play-other.other_card c.in-Play-other.other_rest ∙ ap (λ p. Play c.in-Play-other.other_card (plan_of p)) (sym c.deref-in-Play.ensures) ∙ ap (λ d. Play d (plan_of c.deref-in-Play.result.now)) (sym same) in
+    let fewer : levels_of (plan_of c.args.plan.now) ≡ 1 + levels_of (plan_of c.deref.result.now) = ap levels_of mine in
+    (omega (arith, c.decreases, fewer), fit_after _ _ _ (subst (λ p. FitOneNode p (Play c.in-Play.card (plan_of c.deref-in-Play.result.now))) mine (subst (λ p. FitOneNode (plan_of c.args.plan.now) p) theirs c.requires)))
 
-pub parting_play-returns : goal.parting_play-returns
-parting_play-returns t c =
-    let mine = Play c.args.card (plan_of c.args.rest.now) in
+pub first_parting-returns-in_ok-found-in-Play : goal.first_parting-returns-in_ok-found-in-Play
+first_parting-returns-in_ok-found-in-Play t c =
     let found = c.in_ok-found-in-Play.found in
-    let same = cards_same c.args.card c.in-Play.other_card (sym c.ne.ensures ∙ c.if-ne.false) in
-    let is = ap plan_of c.in-Play.is ∙ plan_of-Play c.in-Play.other_card c.in-Play.other_rest ∙ ap (λ p. Play c.in-Play.other_card (plan_of p)) (sym c.deref.ensures) ∙ ap (λ d. Play d (plan_of c.deref.result.now)) (sym same) in
-    subst (λ p. IfOk c.after_card.result (IsWhereTheyPart mine p)) (sym is)
-    (of_value c.after_card.result (option_map (with_card c.args.card) found) (IsWhereTheyPart mine (Play c.args.card (plan_of c.deref.result.now))) c.after_card.ensures
-    (same_card c.args.card (plan_of c.args.rest.now) (plan_of c.deref.result.now) found c.in_ok-found-in-Play.ensures))
+    let same = cards_same c.in-Play.card c.in-Play-other.other_card (sym c.ne.ensures ∙ c.if-ne.false) in
+    let mine = ap plan_of c.in-Play.is ∙ plan_of-Play c.in-Play.card c.in-Play.rest ∙ ap (λ p. Play c.in-Play.card (plan_of p)) (sym c.deref.ensures) in
+    let theirs = ap plan_of c.in-Play-other.is ∙ plan_of-Play c.in-Play-other.other_card c.in-Play-other.other_rest ∙ ap (λ p. Play c.in-Play-other.other_card (plan_of p)) (sym c.deref-in-Play.ensures) ∙ ap (λ d. Play d (plan_of c.deref-in-Play.result.now)) (sym same) in
+    subst (λ p. IfOk c.after_card.result (IsWhereTheyPart p (plan_of c.args.other.now))) (sym mine)
+    (subst (λ p. IfOk c.after_card.result (IsWhereTheyPart (Play c.in-Play.card (plan_of c.deref.result.now)) p)) (sym theirs)
+    (of_value c.after_card.result (option_map (with_card c.in-Play.card) found) (IsWhereTheyPart (Play c.in-Play.card (plan_of c.deref.result.now)) (Play c.in-Play.card (plan_of c.deref-in-Play.result.now))) c.after_card.ensures
+    (same_card c.in-Play.card (plan_of c.deref.result.now) (plan_of c.deref-in-Play.result.now) found c.in_ok-found-in-Play.ensures)))
 
 -- ---- both hear
+
+pub first_parting-returns-in-Hear-other : goal.first_parting-returns-in-Hear-other
+first_parting-returns-in-Hear-other t c =
+    let mine = ap plan_of c.in-Hear.is ∙ plan_of-Hear c.in-Hear.replies ∙ ap (λ rs. Hear (replies_of rs)) (sym c.deref-in-Hear.ensures.value) in
+    let theirs = ap plan_of c.in-Hear-other.is ∙ plan_of-Hear c.in-Hear-other.others ∙ ap (λ rs. Hear (replies_of rs)) (sym c.deref-in-Hear-2.ensures.value) in
+    subst (λ p. IfOk c.parting_replies.result (IsWhereTheyPart p (plan_of c.args.other.now))) (sym mine)
+    (subst (λ p. IfOk c.parting_replies.result (IsWhereTheyPart (Hear (replies_of c.deref-in-Hear.result.now)) p)) (sym theirs) c.parting_replies.ensures)
 
 pub parting_replies-replies-init : goal.parting_replies-replies-init
 parting_replies-replies-init t c = record {
@@ -54,16 +64,9 @@ pub parting_replies-first_parting-requires : goal.parting_replies-first_parting-
 parting_replies-first_parting-requires t c =
     let xs = c.args.replies.now in
     let ys = c.args.others.now in
-    let i = c.replies.place - 1 in
-    let x = c.index-replies-place.result in
-    let y = c.index-others-place.result in
-    let low : i < length xs = omega (arith, c.replies.invariant.within, c.replies-test.true) in
-    let level : levels_of (plan_of (get_or xs i x).plan) ≤ levels_below (replies_of xs) =
-    subst (λ (r : Reply). levels_of (plan_of r.plan) ≤ levels_below (replies_of xs)) c.index-replies-place.is (level_at xs i x low c.index-replies-place.is) in (
-      omega (arith, level, c.decreases),
-      subst (λ (r : Reply). FitOneNode (plan_of r.plan) (plan_of (get_or ys i y).plan)) c.index-replies-place.is
-          (subst (λ (r : Reply). FitOneNode (plan_of x.plan) (plan_of r.plan)) c.index-others-place.is (fit_at xs ys c.requires i x y low c.index-replies-place.is c.index-others-place.is)),
-    )
+    let low : c.replies.place - 1 < length xs = omega (arith, c.replies.invariant.within, c.replies-test.true) in
+    let level = level_there xs ys c.requires _ _ _ low c.index-replies-place.is c.index-others-place.is in
+    (omega (arith, level, c.decreases), fit_there xs ys c.requires _ _ _ low c.index-replies-place.is c.index-others-place.is)
 
 pub parting_replies-replies-preserved : goal.parting_replies-replies-preserved
 parting_replies-replies-preserved t c =

@@ -6,16 +6,10 @@ use Rattle.line_partings.specs.Partings.{IsWhereTheyPart}
 use Rattle.line_partings.proofs.walk.+walk.Given as goal
 
 abbrev pub decreases-first_parting : goal.decreases-first_parting
-decreases-first_parting l = 4 * levels_of (plan_of l.plan.now)
-
-abbrev pub decreases-parting_play : goal.decreases-parting_play
-decreases-parting_play l = 4 * levels_of (plan_of l.rest.now) + 1
-
-abbrev pub decreases-parting_hear : goal.decreases-parting_hear
-decreases-parting_hear l = 4 * levels_below (replies_of l.replies.now) + 3
+decreases-first_parting l = 2 * levels_of (plan_of l.plan.now)
 
 abbrev pub decreases-parting_replies : goal.decreases-parting_replies
-decreases-parting_replies l = 4 * levels_below (replies_of l.replies.now) + 2
+decreases-parting_replies l = 2 * levels_below (replies_of l.replies.now) + 1
 
 -- where the two part behind the replies from a place on
 abbrev pub invariant-parting_replies-replies : goal.invariant-parting_replies-replies

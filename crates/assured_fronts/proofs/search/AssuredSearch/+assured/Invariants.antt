@@ -1,21 +1,26 @@
-use Rattle.std.proofs.Common.{◌+◌, ◌*◌, length}
+use Rattle.std.proofs.Common.{ℕ, ◌+◌, ◌*◌, length}
+use Rattle.trick_rules.specs.Nodes.{NodeValue}
 use Rattle.trick_rules.specs.Play.{cards_left}
 use Rattle.alphamu_core.proofs.Paid.{HasPaid}
 use Rattle.assured_fronts.specs.AssuredSearches.{IsSameSearch}
 use Rattle.assured_fronts.proofs.CardByCard.{CardsLeft}
 use Rattle.assured_fronts.proofs.search.AssuredSearch.+assured.Given as goal
 
+-- what a search of a node has yet to do: its cards, and for the same cards this many calls
+abbrev pub yet_to_do : NodeValue → ℕ → ℕ
+yet_to_do n calls = 4 * cards_left n.position + calls
+
 abbrev pub decreases-visit : goal.decreases-visit
-decreases-visit l = 4 * cards_left l.node.now.position + 3
+decreases-visit l = yet_to_do l.node.now 3
 
 abbrev pub decreases-in_made : goal.decreases-in_made
-decreases-in_made l = 4 * cards_left l.node.now.position + 2
+decreases-in_made l = yet_to_do l.node.now 2
 
 abbrev pub decreases-recall : goal.decreases-recall
-decreases-recall l = 4 * cards_left l.node.now.position + 1
+decreases-recall l = yet_to_do l.node.now 1
 
 abbrev pub decreases-by_cards : goal.decreases-by_cards
-decreases-by_cards l = 4 * cards_left l.node.now.position
+decreases-by_cards l = yet_to_do l.node.now 0
 
 abbrev pub invariant-by_cards-cards : goal.invariant-by_cards-cards
 invariant-by_cards-cards l = record {

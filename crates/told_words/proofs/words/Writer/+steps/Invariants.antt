@@ -1,24 +1,24 @@
-use Rattle.std.proofs.Common.{◌≡◌, ◌≤◌, ◌++◌, ◌+◌, ◌*◌, drop}
+use Rattle.std.proofs.Common.{◌≡◌, ◌≤◌, ◌++◌, drop}
 use Rattle.told_plans.specs.ToldMeaning.{told_of, branches_of}
 use Rattle.told_words.specs.Strategies.{layouts_of}
 use Rattle.told_words.specs.Words.{branch_lines}
-use Rattle.told_words.proofs.Sizes.{size, sizes}
+use Rattle.told_words.proofs.Sizes.{sizes, plan_left, branches_left}
 use Rattle.told_words.proofs.words.Writer.+steps.Given as goal
 
 abbrev pub decreases-push_steps : goal.decreases-push_steps
-decreases-push_steps l = 4 * size (told_of l.told.now)
+decreases-push_steps l = plan_left (told_of l.told.now) 0
 
 abbrev pub decreases-push_play : goal.decreases-push_play
-decreases-push_play l = 4 * size (told_of l.rest.now) + 2
+decreases-push_play l = plan_left (told_of l.rest.now) 2
 
 abbrev pub decreases-push_next : goal.decreases-push_next
-decreases-push_next l = 4 * size (told_of l.told.now) + 1
+decreases-push_next l = plan_left (told_of l.told.now) 1
 
 abbrev pub decreases-push_hear : goal.decreases-push_hear
-decreases-push_hear l = 4 * sizes (branches_of l.branches.now) + 3
+decreases-push_hear l = branches_left (branches_of l.branches.now) 3
 
 abbrev pub decreases-push_branches : goal.decreases-push_branches
-decreases-push_branches l = 4 * sizes (branches_of l.branches.now) + 2
+decreases-push_branches l = branches_left (branches_of l.branches.now) 2
 
 abbrev pub invariant-push_branches-loop-branch : goal.invariant-push_branches-loop-branch
 invariant-push_branches-loop-branch l =
