@@ -7,6 +7,10 @@ use Rattle.am_report.specs.Answers.{ReadEntryValue}
 use Rattle.line_partings.specs.Partings.{IsWhereTheyPart}
 use Rattle.page_text.specs.declared.partings.Beside.{Beside}
 
+-- each strategy of a report fits a node, with as many moves as it may have
+abbrev pub FitNode : NodeValue → List ReadEntryValue → Type 0
+FitNode node entries = All (λ read. (moves : ℕ) × Fits bridge read.entry.plan node moves) entries
+
 -- the strategies of a report fit one node, with as many moves
 pub record FitTogether (entries : List ReadEntryValue) : Type 0 where
   pub node : NodeValue

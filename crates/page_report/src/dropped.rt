@@ -1,5 +1,5 @@
 //! The layouts that the play rules out.
-ghost use Rattle.std.specs.Prelude.{◌≡◌, ◌++◌, flat_map, OnOk};
+ghost use Rattle.std.specs.Prelude.{◌≡◌, ◌++◌, OnOk};
 ghost use Rattle.page_report.specs.ReportPages.{cause_words, dropped_pieces, left_out};
 
 use crate::markup::{AT_CARD, DROPPED, DROPPED_END};
@@ -27,20 +27,13 @@ fn push_dropped(page: &mut Page, layout: &Dropped) -> Result<(), AllocError>
     page.own(cause_words(layout.cause))
 }
 
-fn push_each_dropped(page: &mut Page, dropped: &[Dropped]) -> Result<(), AllocError>
-    ensures { OnOk result (page.new ≡ page.old ++ flat_map dropped_pieces dropped.now) }
-{
-    for layout in dropped {
-        push_dropped(page, layout)?;
-    }
-    Ok(())
-}
-
 /// Adds the layouts that are left out, and why.
 #[tactic(auto, unfolding(crate::specs::ReportPages::left_out))]
 pub fn push_left_out(page: &mut Page, dropped: &[Dropped]) -> Result<(), AllocError>
     ensures { OnOk result (page.new ≡ page.old ++ left_out dropped.now) }
 {
-    push_each_dropped(page, dropped)?;
+    for layout in dropped {
+        push_dropped(page, layout)?;
+    }
     page.own(DROPPED_END)
 }

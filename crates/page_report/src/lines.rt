@@ -1,5 +1,5 @@
 //! The strategies of a report as lines of a page.
-ghost use Rattle.std.specs.Prelude.{◌≡◌, ℕ, All, IfOk};
+ghost use Rattle.std.specs.Prelude.{◌≡◌, ℕ, IfOk};
 ghost use Rattle.strategy_games.specs.Plans.{Fits};
 ghost use Rattle.strategy_tree.specs.Bridge.{bridge};
 ghost use Rattle.strategy_tree.specs.PlanMeaning.{plan_of};
@@ -7,6 +7,7 @@ ghost use Rattle.told_plans.specs.Told.{Told};
 ghost use Rattle.told_layouts.specs.Looking.{step_layouts};
 ghost use Rattle.told_words.specs.Words.{told_text};
 ghost use Rattle.told_report.specs.ToldReport.{IsToldOf};
+ghost use Rattle.page_report.specs.BesideLines.{FitNode};
 ghost use Rattle.page_report.specs.ReportPages.{first_card as first_card_of, line_of, AreLines};
 
 use am_report::ReadEntry;
@@ -79,8 +80,7 @@ pub fn lines_of(
     node: &Node,
     entries: &[ReadEntry],
 ) -> Result<Vec<Line>, AllocError>
-    requires fit { All (λ read. (moves : ℕ) × Fits bridge read.entry.plan node.now moves)
-        entries.now }
+    requires fit { FitNode node.now entries.now }
     ensures { IfOk result (λ lines. AreLines declarer node.now entries.now lines.items) }
 {
     let mut lines = Vec::new(alloc);

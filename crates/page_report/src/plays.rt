@@ -1,10 +1,11 @@
 //! The first lines of a report, played out.
-ghost use Rattle.std.specs.Prelude.{◌≡◌, ◌<◌, ℕ, All, Some, length, slice_get, IfOk};
+ghost use Rattle.std.specs.Prelude.{◌≡◌, ◌<◌, ℕ, Some, length, slice_get, IfOk};
 ghost use Rattle.std.specs.List.{AllZip};
 ghost use Rattle.trick_rules.specs.Positions.{State};
 ghost use Rattle.trick_rules.specs.Nodes.{states};
 ghost use Rattle.strategy_games.specs.Plans.{Fits};
 ghost use Rattle.strategy_tree.specs.Bridge.{bridge};
+ghost use Rattle.page_report.specs.BesideLines.{FitNode};
 ghost use Rattle.page_report.specs.Played.{IsPlayedOut, IsPlayedLine, ArePlayed};
 
 use am_report::ReadEntry;
@@ -76,8 +77,7 @@ pub fn played_lines(
     node: &Node,
     entries: &[ReadEntry],
 ) -> Result<Vec<PlayedLine>, AllocError>
-    requires fit { All (λ read. (moves : ℕ) × Fits bridge read.entry.plan node.now moves)
-        entries.now }
+    requires fit { FitNode node.now entries.now }
     ensures { IfOk result (λ played. ArePlayed node.now entries.now played.items) }
 {
     let mut solver = Solver::new(alloc);

@@ -1,3 +1,4 @@
+pub mod Shared
 pub mod Signs
 pub mod Verdicts
 pub mod Cards

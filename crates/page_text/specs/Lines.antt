@@ -8,6 +8,7 @@ use Rattle.html_text.specs.Pages.{own, told}
 use Rattle.page_text.specs.declared.markup.TheConstants.{TRADE_OFFS, DECIDED, LINES, COLUMN, LINK, ROW, FIRST_CARD, WEIGHT, ROWS, ROWS_END, LINE, SUMMARY, WORDS, WORDS_END, SECTION_END}
 use Rattle.page_text.specs.declared.lines.Line.{Line}
 use Rattle.page_text.specs.declared.verdict.Scale.{Scale}
+use Rattle.page_text.specs.Shared.{numbered}
 use Rattle.page_text.specs.Signs.{card_pieces}
 use Rattle.page_text.specs.Verdicts.{share}
 use Rattle.page_text.specs.Steps.{steps}
@@ -20,8 +21,8 @@ abbrev pub cell : Bool → List Piece
 cell made = own (if made then codes "<td class='y'>&#10003;<i>made</i></td>" else codes "<td class='x'>&#10007;<i>fails</i></td>")
 
 -- the number of a layout above its column
-unfoldable pub column : ℕ → List Piece
-column number = own COLUMN.now ++ told (decimal number) ++ own (codes "</th>")
+abbrev pub column : ℕ → List Piece
+column = numbered COLUMN.now (codes "</th>")
 
 -- a line by its number, as a link to its words
 unfoldable pub link : ℕ → List Piece

@@ -71,15 +71,11 @@ other_line number = own AND_LINE.now ++ told (decimal number) ++ own (codes " ")
 unfoldable pub other_card : ℕ → ℕ → Seat → List Piece
 other_card number card seat = other_line number ++ card_pieces card ++ own (from_hand seat) ++ own (codes ".</li>\n")
 
--- the card that each of the two plays
-unfoldable pub cards_apart : ℕ → PartingValue → Seat → List Piece
-cards_apart number place seat = own PARTED.now ++ card_pieces place.card ++ other_card number place.other seat
-
 -- the cards after which they part, from a position on, and the card that each plays then
 unfoldable pub parting : Compass → PositionValue → ℕ → PartingValue → List Piece
 parting declarer t number place =
     own (opening place.history) ++ history declarer t.trump t.trick place.history
-    ++ cards_apart number place (turn_in (trick_after t.trump t.trick place.history))
+    ++ own PARTED.now ++ card_pieces place.card ++ other_card number place.other (turn_in (trick_after t.trump t.trick place.history))
 
 -- where the two part, or that they are the same
 abbrev pub where_apart : Compass → PositionValue → ℕ → Option PartingValue → List Piece
@@ -96,14 +92,12 @@ beside declarer t line = both_lines line.number ++ where_apart declarer t line.n
 abbrev pub first_few : ℕ → List ℕ
 first_few lines = if nat_lt 6 lines then ONLY_SIX.now else []
 
-unfoldable pub list : Compass → PositionValue → ℕ → List Beside → List Piece
-list declarer t lines besides = own BESIDE.now ++ flat_map (beside declarer t) besides ++ own (codes "</ul>\n") ++ own (first_few lines)
-
 -- the lines beside the first, if there are any
-abbrev pub some_list : Compass → PositionValue → ℕ → List Beside → List Piece
-some_list declarer t lines [] = own NO_SECOND.now
-some_list declarer t lines (line ∷ besides) = list declarer t lines (line ∷ besides)
+unfoldable pub list : Compass → PositionValue → List Beside → List Piece
+list declarer t besides =
+    if length besides == 0 then own NO_SECOND.now
+    else own BESIDE.now ++ flat_map (beside declarer t) besides ++ own (codes "</ul>\n")
 
 -- where the first line and each of the later ones part, in a report with this many lines
 unfoldable pub partings : Compass → PositionValue → ℕ → List Beside → List Piece
-partings declarer t lines besides = own PARTINGS.now ++ some_list declarer t lines besides ++ own SECTION_END.now
+partings declarer t lines besides = own PARTINGS.now ++ list declarer t besides ++ own (first_few lines) ++ own SECTION_END.now

@@ -5,10 +5,11 @@ use Rattle.std.specs.Fmt.{decimal}
 use Rattle.html_text.specs.declared.page.Piece.{Piece}
 use Rattle.html_text.specs.Pages.{own, told}
 use Rattle.page_text.specs.declared.markup.TheConstants.{PICKER, CHOICE, CHOICE_END, PICKER_END, PICKED, HANDS, CELLS, HEADS, ITEMS, SHOWN}
+use Rattle.page_text.specs.Shared.{numbered}
 
 -- the number of a layout, which can be picked
-unfoldable pub choice : ℕ → List Piece
-choice number = own CHOICE.now ++ told (decimal number) ++ own CHOICE_END.now
+abbrev pub choice : ℕ → List Piece
+choice = numbered CHOICE.now CHOICE_END.now
 
 -- the picker: any layout, or one of this many
 unfoldable pub picker : ℕ → List Piece

@@ -15,6 +15,7 @@ mod partings;
 mod picking;
 mod plays;
 mod reasons;
+mod shared;
 mod signs;
 mod steps;
 mod table;

@@ -10,6 +10,7 @@ use crate::markup::{
     TRADE_OFFS, WEIGHT, WORDS, WORDS_END,
 };
 use crate::reasons::push_decided;
+use crate::shared::push_each_numbered;
 use crate::signs::push_card;
 use crate::steps::push_steps;
 use crate::verdict::{Scale, push_share};
@@ -57,21 +58,11 @@ pub fn push_cells(page: &mut Page, vector: WinVector) -> Result<(), AllocError>
     Ok(())
 }
 
-#[tactic(auto, unfolding(crate::specs::Lines::column))]
-fn push_column(page: &mut Page, number: u16) -> Result<(), AllocError>
-    ensures { OnOk result (page.new ≡ page.old ++ column number) }
-{
-    page.number_between(COLUMN, u64::from(number), b"</th>")
-}
-
 /// Adds the numbers of this many layouts, each above its column.
 pub fn push_columns(page: &mut Page, width: u16) -> Result<(), AllocError>
     ensures { OnOk result (page.new ≡ page.old ++ flat_map column (range_with_len 1 width)) }
 {
-    for place in 0..width {
-        push_column(page, place + 1)?;
-    }
-    Ok(())
+    push_each_numbered(page, width, COLUMN, b"</th>")
 }
 
 /// Adds a line by its number, as a link to its words.

@@ -3,8 +3,8 @@ ghost use Rattle.std.specs.Prelude.{◌≡◌, ◌<◌, ◌++◌, length, flat_m
 ghost use Rattle.trick_rules.specs.Play.{next_trick};
 ghost use Rattle.page_text.specs.Partings.{name, defender, played, sign_after, one_card, history};
 ghost use Rattle.page_text.specs.Partings.{trick_after, opening, both_lines, other_line};
-ghost use Rattle.page_text.specs.Partings.{other_card, cards_apart, parting, beside};
-ghost use Rattle.page_text.specs.Partings.{first_few, list, some_list, partings};
+ghost use Rattle.page_text.specs.Partings.{other_card, parting, beside};
+ghost use Rattle.page_text.specs.Partings.{first_few, list, partings};
 
 use crate::lines::push_link;
 use crate::markup::{
@@ -136,21 +136,6 @@ fn push_other_card(page: &mut Page, number: u64, card: Card, seat: Seat) -> Resu
     page.own(b".</li>\n")
 }
 
-// Adds the cards with which the lines part.
-#[tactic(auto, unfolding(crate::specs::Partings::cards_apart))]
-fn push_cards_apart(
-    page: &mut Page,
-    number: u64,
-    place: &Parting,
-    seat: Seat,
-) -> Result<(), AllocError>
-    ensures { OnOk result (page.new ≡ page.old ++ cards_apart number place.now seat) }
-{
-    page.own(PARTED)?;
-    push_card(page, place.card)?;
-    push_other_card(page, number, place.other, seat)
-}
-
 // Adds where the first line and the one of a number part.
 #[tactic(auto, unfolding(crate::specs::Partings::parting))]
 fn push_parting(
@@ -167,7 +152,9 @@ fn push_parting(
     let mut trick = position.trick.copy();
     page.own(opening(&place.history))?;
     push_history(page, declarer, position.trump, &mut trick, &place.history)?;
-    push_cards_apart(page, number, place, trick.to_play())
+    page.own(PARTED)?;
+    push_card(page, place.card)?;
+    push_other_card(page, number, place.other, trick.to_play())
 }
 
 #[tactic(auto, unfolding(crate::specs::Partings::beside))]
@@ -212,32 +199,16 @@ fn push_list(
     page: &mut Page,
     declarer: Compass,
     position: &Position,
-    lines: usize,
     besides: &[Beside],
 ) -> Result<(), AllocError>
-    ensures { OnOk result (page.new ≡ page.old ++ list declarer position.now lines besides.now) }
-{
-    page.own(BESIDE)?;
-    push_each_beside(page, declarer, position, besides)?;
-    page.own(b"</ul>\n")?;
-    page.own(first_few(lines))
-}
-
-fn push_some_list(
-    page: &mut Page,
-    declarer: Compass,
-    position: &Position,
-    lines: usize,
-    besides: &[Beside],
-) -> Result<(), AllocError>
-    ensures { OnOk result
-        (page.new ≡ page.old ++ some_list declarer position.now lines besides.now) }
+    ensures { OnOk result (page.new ≡ page.old ++ list declarer position.now besides.now) }
 {
     if besides.is_empty() {
-        page.own(NO_SECOND)
-    } else {
-        push_list(page, declarer, position, lines, besides)
+        return page.own(NO_SECOND);
     }
+    page.own(BESIDE)?;
+    push_each_beside(page, declarer, position, besides)?;
+    page.own(b"</ul>\n")
 }
 
 /// Adds where the first line and each of the next ones part, in a report with this many lines: the
@@ -255,6 +226,7 @@ pub fn push_partings(
         (page.new ≡ page.old ++ partings declarer position.now lines besides.now) }
 {
     page.own(PARTINGS)?;
-    push_some_list(page, declarer, position, lines, besides)?;
+    push_list(page, declarer, position, besides)?;
+    page.own(first_few(lines))?;
     page.own(SECTION_END)
 }

@@ -1,29 +1,13 @@
 //! The picker of a layout, and the rules by which a page shows the one that is picked.
-ghost use Rattle.std.specs.Prelude.{◌≡◌, ◌++◌, flat_map, OnOk};
-ghost use Rattle.std.specs.List.{range_with_len};
-ghost use Rattle.page_text.specs.Picking.{choice, picker, part_if, columns_if, rule, rules};
+ghost use Rattle.std.specs.Prelude.{◌≡◌, ◌++◌, OnOk};
+ghost use Rattle.page_text.specs.Picking.{picker, part_if, columns_if, rule, rules};
 
 use crate::markup::{
     CELLS, CHOICE, CHOICE_END, HANDS, HEADS, ITEMS, PICKED, PICKER, PICKER_END, SHOWN,
 };
+use crate::shared::push_each_numbered;
 use html_text::Page;
 use std::alloc::AllocError;
-
-#[tactic(auto, unfolding(crate::specs::Picking::choice))]
-fn push_choice(page: &mut Page, number: u16) -> Result<(), AllocError>
-    ensures { OnOk result (page.new ≡ page.old ++ choice number) }
-{
-    page.number_between(CHOICE, u64::from(number), CHOICE_END)
-}
-
-fn push_choices(page: &mut Page, width: u16) -> Result<(), AllocError>
-    ensures { OnOk result (page.new ≡ page.old ++ flat_map choice (range_with_len 1 width)) }
-{
-    for place in 0..width {
-        push_choice(page, place + 1)?;
-    }
-    Ok(())
-}
 
 /// Adds the picker of one of this many layouts. What is picked is shown by the rules.
 #[tactic(auto, unfolding(crate::specs::Picking::picker))]
@@ -31,7 +15,7 @@ pub fn push_picker(page: &mut Page, width: u16) -> Result<(), AllocError>
     ensures { OnOk result (page.new ≡ page.old ++ picker width) }
 {
     page.own(PICKER)?;
-    push_choices(page, width)?;
+    push_each_numbered(page, width, CHOICE, CHOICE_END)?;
     page.own(PICKER_END)
 }
 

@@ -1,7 +1,0 @@
-use Rattle.std.proofs.Common.{◌≡◌, ◌++◌, flat_map}
-use Rattle.std.specs.List.{range_with_len}
-use Rattle.page_text.specs.Picking.{choice}
-use Rattle.page_text.proofs.picking.push_choices.Given as goal
-
-abbrev pub invariant-loop-place : goal.invariant-loop-place
-invariant-loop-place l = l.page ≡ l.initial.page ++ flat_map choice (range_with_len 1 l.place)
