@@ -37,8 +37,8 @@ REPORT, LINES = b"report.of.the.case", b"words.of.the.case"
 # Reports with more lines are left out: telling them takes long.
 MOST_LINES, LEAST = 20000, 100
 EXAMPLES, MOVES = ("restricted-choice", "slam", "squeeze-or-finesse", "two-way-finesse"), "4"
-# How many lines are played out.
-PLAYED = 4
+# How many lines are played out, and how many moves a page plans to judge each card, if it has no more layouts than this, and else one.
+PLAYED, MOST_PLANNED, FEW_LAYOUTS = 4, 4, 40
 SIGNS = {"1": "\u2713", "0": "\u2717"}
 PLACES = ("North", "East", "South", "West")
 LETTERS = {"\u2660": "S", "\u2665": "H", "\u2666": "D", "\u2663": "C"}
@@ -326,9 +326,23 @@ def faults_of_search(searched, page, cards):
     return wrong
 
 
+def with_fewer(words, most):
+    """The words with no more moves than these."""
+    at = next(place for place, word in enumerate(words) if word.startswith(b"--moves"))
+    joined = words[at].startswith(b"--moves=")
+    value = words[at].split(b"=")[1] if joined else words[at + 1]
+    if not value.isdigit() or int(value) <= most:
+        return words
+    fewer = [b"--moves=%d" % most] if joined else [b"--moves", b"%d" % most]
+    return [*words[:at], *fewer, *words[at + 2 - joined:]]
+
+
 def judge_search(case, page, seconds):
     """What is wrong with the page that the study makes by a search, by the page of the case's report."""
-    searched, cards = (run(STUDY, case, seconds, words=with_job(words_of(case), job)) for job in (b"page", b"cards"))
+    searched = run(STUDY, case, seconds, words=with_job(words_of(case), b"page"))
+    kept = re.search(rb"^kept (.*)$", expected(case)[0], re.M)
+    most = MOST_PLANNED if not kept or len(kept[1].split()) <= FEW_LAYOUTS else 1
+    cards = run(STUDY, case, seconds, words=with_fewer(with_job(words_of(case), b"cards"), most))
     if searched[2] or cards[2]:
         return [] if searched == cards else [f"the search for a page ends with {searched[1:]}"]
     return faults_of_search(searched[0].decode(), page.decode(), cards[0].decode())

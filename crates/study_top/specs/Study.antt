@@ -1,5 +1,5 @@
 -- What a study is asked, and what comes of it.
-use Rattle.std.specs.Prelude.{◌≡◌, ◌⊎◌, ◌&&◌, ◌||◌, not, ℕ, Bool, true, false, List, [], ◌∷◌, codes, Ok, Option, None, Some, is_some, bytes_eq, if◌then◌else◌}
+use Rattle.std.specs.Prelude.{◌≡◌, ◌⊎◌, ◌&&◌, ◌||◌, not, ℕ, Bool, true, false, List, [], ◌∷◌, codes, Ok, Option, None, Some, is_some, bytes_eq, length, nat_le, if◌then◌else◌}
 use Rattle.std.specs.List.{list_any}
 use Rattle.byte_text.specs.Lines.{text_after}
 use Rattle.pbn_deal.specs.Boards.{BoardValue}
@@ -123,15 +123,19 @@ IsReportRefusal (Some Lines) root report status = IsFileRefusal (task_at root (j
 IsReportRefusal (Some Page) root report status = IsFileRefusal (task_at root (jobs.Check report)) status
 IsReportRefusal job root report status = status ≡ BadWords
 
+-- how many moves a page plans to judge each card: at most four, and one if there are more than 40 layouts
+abbrev pub table_moves : Root → ℕ → ℕ
+table_moves root moves = if nat_le (length root.kept.node.lefts) 40 then (if nat_le moves 4 then moves else 4) else 1
+
 -- what a job shows beside a report that is searched for: a page every legal card, for at most as many moves
 abbrev pub AreCardsFor : Option StudyJob → Root → ℕ → Option CardTable → Type 0
-AreCardsFor (Some Page) root moves (Some table) = IsTableUpTo root.kept.node root.kept.weights moves table
+AreCardsFor (Some Page) root moves (Some table) = IsTableUpTo root.kept.node root.kept.weights (table_moves root moves) table
 AreCardsFor (Some Page) root moves None = ⊥
 AreCardsFor job root moves known = known ≡ None
 
 -- why it doesn't
 abbrev pub AreCardsRefused : Option StudyJob → Root → ℕ → Search → Status → Type 0
-AreCardsRefused (Some Page) root moves search status = IsCardsRefusal root moves search status
+AreCardsRefused (Some Page) root moves search status = IsCardsRefusal root (table_moves root moves) search status
 AreCardsRefused job root moves search status = ⊥
 
 -- what a job tells of the report that `solve` gives

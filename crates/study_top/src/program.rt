@@ -13,7 +13,7 @@ ghost use Rattle.am_line.specs.Said.{IsSaid};
 ghost use Rattle.am_answer.specs.Files.{AreWithin};
 ghost use Rattle.study_top.specs.Study.{asked_words, IsTextOf, IsRefusalOf, IsStudyText};
 ghost use Rattle.study_top.specs.Study.{IsStudyRefusal, IsTextOfReport, IsReportRefusal};
-ghost use Rattle.study_top.specs.Study.{AreCardsFor, AreCardsRefused};
+ghost use Rattle.study_top.specs.Study.{AreCardsFor, AreCardsRefused, table_moves as moves_of};
 ghost use Rattle.study_top.specs.Study.{IsTextOfSearch, IsSearchRefusal};
 
 use crate::job::StudyJob;
@@ -35,6 +35,22 @@ use job_words::{Ask, LayoutsJob, Search};
 use std::alloc::Global;
 use std::thread::Threads;
 
+// How many moves a page plans to judge each card. With many layouts the bounds of a card take
+// minutes, and a page is not worth so long a wait.
+fn table_moves(root: &Root, moves: u8) -> u8
+    requires { IsMoves moves }
+    ensures value { result ≡ moves_of root.now moves }
+    ensures moves { IsMoves result }
+{
+    if root.kept.node.width() > 40 {
+        1
+    } else if moves <= 4 {
+        moves
+    } else {
+        4
+    }
+}
+
 // Every legal card of a root, if the job shows them.
 fn cards_for(
     alloc: Global,
@@ -51,7 +67,7 @@ fn cards_for(
 {
     match job {
         Some(StudyJob::Page) => {
-            let table = cards_of(alloc, root, moves, search)?;
+            let table = cards_of(alloc, root, table_moves(root, moves), search)?;
             Ok(Some(table))
         }
         _ => Ok(None),
