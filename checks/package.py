@@ -57,14 +57,11 @@ def try_answer(prefix):
 
 
 def try_words(prefix):
-    """A report told in words by the second program, as docs/USING.md shows it."""
+    """Strategies in words, by the second program as docs/USING.md shows it."""
     found = pages.commands((TOP / "docs/USING.md").read_text(encoding="utf-8"))
     words, answer = next((it, lines) for _, it, lines in found if it.startswith("./study --job words"))
-    report = next(it for _, it, _ in found if it.endswith(f" > {words.split()[-1]}"))
-    with tempfile.TemporaryDirectory() as room:
-        line = f"{report} && {words}".replace("./alphamu", "alphamu").replace("./study", "alphamu_study")
-        env = {"PATH": f"{prefix}/bin:/usr/bin:/bin"}
-        told = run(["sh", "-c", line.replace("/tmp/", f"{room}/")], cwd=prefix / DOCS, env=env)
+    env = {"PATH": f"{prefix}/bin:/usr/bin:/bin"}
+    told = run(["sh", "-c", words.replace("./study", "alphamu_study")], cwd=prefix / DOCS, env=env)
     expect(f"{prefix}: the strategies in words: {told.stdout!r}", told.returncode == 0 and told.stdout.splitlines() == answer)
 
 
