@@ -167,7 +167,7 @@ def told_apart(board, number, place):
 
 
 def faults_of_partings(page, entries, board):
-    """What is wrong with where the lines are said to part."""
+    """What is wrong with the places at which the lines are said to part."""
     part = next(it for it in page.iter("section") if it.get("id") == "partings")
     first, *plans = (plan for _, _, plan in entries)
     wanted = [told_apart(board, number, place_apart(first, plan)) for number, plan in enumerate(plans[:5], 2)]
@@ -255,7 +255,7 @@ def games_in(text):
 
 
 def faults_of_plays(page, head, lines, games, fusion):
-    """What is wrong with so many lines of a report with this head, played out, by the texts of the jobs lines and fusion."""
+    """What is wrong with the first lines of a report with this head, played out, by the texts of the jobs lines and fusion."""
     wrong, games = [], list(games_in(games))
     made = ["1" in bits for bits in zip(*re.findall(r"^card .. vector ([01]+) ", fusion.decode(), re.M))]
     begun = len(re.search(r"^trick .(.*)$", head.decode(), re.M)[1].replace("-", "").split())
