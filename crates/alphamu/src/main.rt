@@ -24,7 +24,7 @@ fn words_given(rt: &HostRuntime) -> io::Result<Vec<String>> {
     Ok(all.skip(1).collect::<Vec<String>>(rt.alloc())?)
 }
 
-// Runs the words at a table of two defenders who play low and a third, in reserve, who plays high.
+// Runs the words at a table of two defenders playing low and a third, in reserve, playing high.
 fn run_at_table<R: Threads + Sync + AllocGlobal, S: Shelf, O: Sink, E: Sink>(
     rt: &R,
     words: &[String],

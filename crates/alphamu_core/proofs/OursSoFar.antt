@@ -22,7 +22,7 @@ use Rattle.alphamu_core.proofs.Standing.{enough_cards}
 use Rattle.alphamu_core.proofs.Trying.{IsTrying, trying_none, trying_more, trying_all}
 use Rattle.alphamu_core.proofs.OpenNodes.{some_moves, is_open, length-our_child}
 
--- the cards that were tried, with so many moves after each, and the front of what they win
+-- the cards that were tried, with this many moves after each, and the front of what they win
 pub record OursSoFar (n : NodeValue) (below : ℕ) (cards : List ℕ) (best : FrontValue) : Type 0 where
   pub tried : List ℕ
   pub trying : IsTrying n tried cards

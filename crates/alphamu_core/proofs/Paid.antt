@@ -75,7 +75,7 @@ module _ (Each : Type 0) (not_each : Each → ⊥) (part whole : ℕ) (smaller :
     falls = omega (arith, costs.falls);
   })
 
--- once the node itself was paid for: of the cards, each with so many moves after it, these are left, and the others were paid for at most
+-- once the node itself was paid for: of the cards, each with this many moves after it, these are left, and the others were paid for at most
 pub record HasPaid (Each : Type 0) (n : NodeValue) (moves : ℕ) (cards : List ℕ) (before after : ℕ) : Type 0 where
   pub counts : Each → before + sum_by (size_after n moves) cards ≡ after + sum_by (size_after n moves) (choices n)
   pub within : before + sum_by (size_after n moves) cards ≤ after + sum_by (size_after n moves) (choices n)

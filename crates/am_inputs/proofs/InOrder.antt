@@ -15,7 +15,7 @@ abbrev pub with_later : List (List ℕ) → Result (List (List ℕ)) Status → 
 with_later texts (Ok later) = Ok (texts ++ later)
 with_later texts (Err status) = Err status
 
--- so many are read; how many there are in all, these were read, and so many are left
+-- this many are read; how many there are in all, these were read, and this many are left
 abbrev pub HasRead : Option Files → List ℕ → ℕ → List (List ℕ) → ℕ → Type 0
 HasRead told name count texts read =
     IfSome told (λ files. layouts_from files name 1 count ≡ with_later texts (layouts_from files name (read + 1) (count - read)))

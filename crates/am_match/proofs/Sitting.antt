@@ -69,7 +69,7 @@ seat-told cards Dummy who table = refl
 
 -- ---- the change
 
--- the change that is still to come after so many cards
+-- the change that is still to come after this many cards
 abbrev pub waiting_after : Option Change → ℕ → Option Change
 waiting_after None played = None
 waiting_after (Some change) played = cond (nat_lt played change.at) (Some change) None

@@ -9,7 +9,7 @@ use card_sets::{Card, CardSet, Seat};
 use std::alloc::AllocError;
 use trick_rules::{CardLine, Position};
 
-/// A defender who takes over a seat in the middle of a play-out.
+/// A defender to take over a seat in the middle of a play-out.
 #[derive(Drop)]
 pub struct Swap {
     /// The number of the card before which he takes it, counted from 1.

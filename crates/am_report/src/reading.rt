@@ -255,7 +255,7 @@ fn read_entry(
     }
 }
 
-// So many vectors with their plans, and the place after them.
+// This many vectors with their plans, and the place after them.
 fn read_entries(
     alloc: Global,
     version: Version,

@@ -1,5 +1,5 @@
-//! What declarer's side is sure to win, however many moves more it plans: a lower bound beside the
-//! front.
+//! What declarer's side is sure to win, however many moves more it plans: a lower bound, as the
+//! front is an upper bound.
 //! It builds on `strategy_games`; a game joins by implementing `AssuredGame`, and nothing here runs.
 //! Each function's contract is a law that holds for every such game; the definitions are in specs/.
 #![tactic(auto)]
@@ -90,7 +90,7 @@ pub fn assured_front_steps<G: AssuredGame>()
     ensures { HasAssuredSteps G.game G.sure G.Sound }
 {}
 
-/// Double dummy makes what is assured; and where it makes one layout at most, its results are the
+/// Double dummy makes what is assured; and if it makes one layout at most, its results are the
 /// assured front.
 pub fn double_dummy_bounds_the_assured<G: AssuredGame>()
     ensures { IsWithinMade G.game G.Sound G.sure }

@@ -22,7 +22,7 @@ impl Draws {
         (self.state >> 33) % bound.max(1)
     }
 
-    /// So many cards that are not used yet, the used cards put to `used`.
+    /// This many cards that are not used yet; they are added to `used`.
     pub fn hand(&mut self, size: u8, used: &mut CardSet) -> CardSet {
         let mut hand = CardSet::empty();
         for _ in 0..10_000 {

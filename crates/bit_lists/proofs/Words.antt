@@ -95,7 +95,7 @@ same_words us vs long us_fit vs_fit same =
 
 -- ---- the words of a list of bits
 
--- so many words, with no bit past the width
+-- this many words, with no bit past the width
 pub record AreWordsOf (count width : ℕ) (words : List ℕ) : Type 0 where
   pub long : length words ≡ count
   pub fit : (word : ℕ) → get_or words word 0 < 2 ^ 64

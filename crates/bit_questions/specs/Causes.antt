@@ -67,7 +67,7 @@ IsLayoutFault t lefts TooManyLayouts = most_layouts < length lefts
 IsLayoutFault t lefts Memory = ⊤
 IsLayoutFault t lefts _ = ⊥
 
--- weights that aren't one for each of so many layouts, or one of them that is none
+-- weights that aren't one for each of this many layouts, or one of them that is none
 abbrev pub IsWeightFault : ℕ → List ℕ → faults.QuestionFault → Type 0
 IsWeightFault width weights WeightCount = length weights ≢ width
 IsWeightFault width weights (Weight place) = (weight : ℕ) × (slice_get weights place ≡ Some weight) × (IsWeight weight → ⊥)

@@ -15,7 +15,7 @@ use Rattle.board_batch.specs.declared.batch.Problem.{Problem}
 use Rattle.board_batch.specs.declared.batch.Batch.{Batch}
 use Rattle.board_batch.specs.Problems.{IsProblem}
 
--- problems that can be solved by so many moves
+-- problems that can be solved with this many moves
 pub record IsBatch (b : Batch) : Type 0 where
   pub problems : All IsProblem b.problems.now
   pub some_moves : 1 ≤ b.moves

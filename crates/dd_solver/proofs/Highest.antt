@@ -1,4 +1,4 @@
--- The highest so many cards of a suit of a hand, and all higher ones.
+-- This many highest cards of a suit of a hand, and all higher ones.
 use Rattle.std.proofs.Common.{◌≡◌, ℕ, ◌<◌, ◌≤◌, true, not, ◌&&◌, eqb, nat_lt, None, Some, List, length, refl, sym, ap, ◌∙◌, inl, inr, arith}
 use Rattle.std.proofs.lemmas.Bool.{false≢true, cases_eq, eq-eqb, ne_eqb, and_parts, lt-ltb}
 use Rattle.card_sets.specs.declared.card.Suit.{Suit}
@@ -14,7 +14,7 @@ use Rattle.sure_tricks.proofs.Holding.{suit_test}
 use Rattle.dd_solver.specs.Closed.{up_from}
 use Rattle.dd_solver.proofs.Winner.{up_has}
 
--- of the hand's cards of the suit, those with fewer than so many above them are among the rest
+-- of the hand's cards of the suit, those with fewer than this many above them are among the rest
 pub record AreLeft (hand : List ℕ) (suit : Suit) (many : ℕ) (rest : List ℕ) : Type 0 where
   pub part : IsSubset rest (of_suit suit hand)
   pub highest : (c : ℕ) → has_card hand c ≡ true → suit_of c ≡ suit → length (above c hand) < many → has_card rest c ≡ true

@@ -87,7 +87,7 @@ module _ (s : State) (ok : IsState s) (x : Seat) (suit : Suit) (trumps : s.posit
   reach_answer none true side few _ = our_top_trumps_answer counting s x top reach.closed (λ c h. (among c h).2) none are_top side (let h = few refl in let most = reach.enough in omega arith)
   reach_answer none false side _ rest = their_top_trumps_answer counting s x top reach.closed (λ c h. (among c h).2) none are_top side (let h = rest refl in let most = reach.enough in omega arith)
 
--- a hand has at most so many cards
+-- a hand has at most this many cards
 pub few_tricks : (t : PositionValue) → IsSound t → tricks_left t ≤ 53
 few_tricks t sound = let few = length-le_52 t.declarer sound.declarer_set in let one = at_most_one (has_played t Declarer) in omega arith
   where

@@ -29,7 +29,7 @@ AreWinners counts hand other cards = (card : ℕ) → has_card hand card ≡ tru
     → length (above card hand) < number_in counts (suit_of card)
     → length (above card hand) < length (of_suit (suit_of card) other) → has_card cards card ≡ true
 
--- so many cards of a suit that a hand has, with all higher ones; no opponent has one of these
+-- this many cards of a suit that a hand has, with all higher ones; no opponent has one of these
 pub record AreOutOfReach (hand opponents : List ℕ) (suit : Suit) (many : ℕ) (cards : List ℕ)
     : Type 0 where
   pub closed : IsClosedUp cards

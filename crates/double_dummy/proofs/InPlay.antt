@@ -13,7 +13,7 @@ use Rattle.double_dummy.specs.Equals.{in_play, AreEqual, IsNextEqual}
 
 -- ---- the cards in play, one card of the trick after another
 
--- the first so many of a list
+-- the first few of a list
 abbrev pub first_of : ℕ → List ℕ → List ℕ
 first_of n xs = cards_where (has_card (take n xs))
 

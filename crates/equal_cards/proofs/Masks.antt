@@ -22,7 +22,7 @@ bits-differ true false h e = false≢true (sym e)
 bits-differ false true h e = false≢true e
 
 module _ (t : PositionValue) (card other : ℕ) (lefts : List (List ℕ)) where
-  -- in each of the first so many layouts both cards are legal, or neither is
+  -- in each of the first layouts, up to a number, both cards are legal, or neither is
   abbrev pub AgreeBelow : ℕ → Type 0
   AgreeBelow i = (k : ℕ) (d : List ℕ) → k < i → is_legal t card (get_or lefts k d) ≡ is_legal t other (get_or lefts k d)
 

@@ -9,7 +9,7 @@ use Rattle.equivalent_nodes.specs.Ranks.{with_gaps_closed}
 
 -- ---- one hand after another
 
--- what a function makes of the first so many
+-- what a function makes of the first few
 abbrev pub first_mapped : (List ℕ → List ℕ) → ℕ → List (List ℕ) → List (List ℕ)
 first_mapped f zero xs = xs
 first_mapped f (suc i) [] = []

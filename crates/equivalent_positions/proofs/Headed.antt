@@ -88,7 +88,7 @@ module _ (card : ℕ) (xs ys : List ℕ) (set : IsCardSet xs) (set' : IsCardSet 
     | inr e ↦ ap (length {A = ℕ}) (count_out (λ d. same_suit (suit_of d) suit) xs card e) ∙ lengths suit ∙ sym (ap (length {A = ℕ}) (count_out (λ d. same_suit (suit_of d) suit) ys card e))
   ]
 
--- without the card, so many of the hand's highest of each suit
+-- without the card, this many of the hand's highest of each suit
 abbrev pub following : ℕ → (Suit → ℕ) → List ℕ → List ℕ
 following card k hand = picked k (take_out card hand)
 

@@ -53,7 +53,7 @@ above_fewer c xs set held =
     has_card-take_out c (of_suit (suit_of c) xs) d ∙ rw (there, other) refl) in
     omega arith
 
--- so many of a hand's highest of each suit count
+-- this many of a hand's highest of each suit count
 abbrev pub FirstCount : List ℕ → (Suit → ℕ) → List ℕ → Type 0
 FirstCount counting number hand = (c : ℕ) → has_card hand c ≡ true → length (above c hand) < number (suit_of c) → has_card counting c ≡ true
 

@@ -11,8 +11,8 @@ use strategy_tree::{Plan, Reply};
 /// The card of the first node.
 const NO_CARD: u32 = 52;
 
-/// The nodes of a plan. The first one stands for what has been played already, and its replies are
-/// what the plan begins with.
+/// The nodes of a plan. The first one is for what has been played already, and its replies are what
+/// the plan begins with.
 pub fn plan_nodes(alloc: Global, plan: &Plan) -> Result<Vec<PlanNode>, AllocError>
     ensures { IfOk result (λ nodes. Shows nodes.items (plan_of plan.now)) }
 {
@@ -66,8 +66,8 @@ fn node_of(
     }
 }
 
-// Adds the nodes of the replies to a defender, behind all nodes below them, and says where the
-// first one is.
+// Adds the nodes of the replies to a defender, after all nodes below them, and gives the place of
+// the first one.
 #[cycle(add)]
 fn add_replies(
     alloc: Global,

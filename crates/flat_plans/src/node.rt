@@ -9,7 +9,7 @@ pub struct PlanNode {
     /// How many replies there are, one after another: 0 if the plan stops after the card, 1 if
     /// declarer's side plays next, and otherwise one for each card that a defender may play.
     pub replies: usize,
-    /// The card by its place in card order, or 52 for the array's first node, which stands for what
-    /// has been played already.
+    /// The card by its place in card order, or 52 for the array's first node, which is for what has
+    /// been played already.
     pub card: u32,
 }

@@ -5,7 +5,7 @@ use Rattle.win_vectors.specs.Fronts.{Vector, IsReduced, Precedes}
 use Rattle.win_vectors.proofs.Orders.{Dominates-refl}
 use Rattle.pareto_fronts.specs.FrontValue.{FrontValue}
 
--- a member of the first so many is a member
+-- a member of the first few is a member
 Contains-take : (k : ℕ) (vs : List Vector) (v : Vector) → Contains (take k vs) v → Contains vs v
 Contains-take k vs v (place, within, is) =
     let long = length-take k vs in
@@ -16,7 +16,7 @@ AllPairs-take k vs h i j d before within =
     let long = length-take k vs in
     rw (get_or-take k vs i d (omega arith), get_or-take k vs j d (omega arith)) (h i j d before (omega arith))
 
--- the first so many of a list that is its own reduced list are their own
+-- the first few of a list that is its own reduced list are their own
 reduced-take : (k : ℕ) (vs : List Vector) → IsReduced vs vs → IsReduced (take k vs) (take k vs)
 reduced-take k vs h = record {
   reached = λ v member. member;

@@ -12,7 +12,7 @@ abbrev pub AreLegal : State → List ℕ → Type 0
 AreLegal s [] = ⊤
 AreLegal s (card ∷ cards) = (has_card (legal_in s) card ≡ true) × AreLegal (after s card) cards
 
--- whether double dummy makes after so many of the cards
+-- whether double dummy makes after this many of the cards
 abbrev pub makes_after : State → List ℕ → ℕ → Bool
 makes_after s cards played = makes (state_after s (take played cards))
 

@@ -19,7 +19,7 @@ pub fn an_escaped_text_is_read_back()
     ensures { ReadsBack }
 {}
 
-/// Each `<`, `>` and `"` of a page is of its own markup, whatever text is told on it.
+/// Each `<`, `>` and `"` of a page is of its own markup, whatever text it shows.
 #[tactic(auto, using(crate::proofs::Pages::signs_are_own))]
 pub fn the_signs_of_a_page_are_its_own()
     ensures { (pieces : List Piece) → SignsAreOwn pieces }

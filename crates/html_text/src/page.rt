@@ -8,7 +8,7 @@ use byte_text::Text;
 use std::alloc::{AllocError, Global};
 use std::marker::Model;
 
-/// A piece of a page: markup of its own, or text that is told on it.
+/// A piece of a page: markup of its own, or text from outside.
 #[derive(Debug, Drop)]
 pub struct Piece {
     pub is_own: bool,
@@ -90,7 +90,7 @@ impl Page {
         self.own(after)
     }
 
-    /// The page as it is written: text that is told is escaped.
+    /// The page as it is written: text from outside is escaped.
     pub fn written(&self) -> Result<Text, AllocError>
         ensures { IfOk result (λ text. text ≡ written_as self.now) }
     {

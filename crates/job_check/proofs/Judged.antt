@@ -42,7 +42,7 @@ first_difference-same number true false rest others is = absurd (false≢true (s
 first_difference-same number false true rest others is = absurd (false≢true is)
 first_difference-same number false false rest others is = refl
 
--- the first difference after so many bits that are the same
+-- the first difference after this many bits that are the same
 difference_after : (number k : ℕ) (own given : Vector) (bit : Bool) → take k own ≡ take k given → slice_get own k ≡ Some bit → slice_get given k ≡ Some (not bit) → first_difference number own given ≡ Some (Layout (number + k) bit)
 difference_after number k [] given bit same at_own at_given = absurd cc
 difference_after number k (own ∷ rest) [] bit same at_own at_given = absurd cc

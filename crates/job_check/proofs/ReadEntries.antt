@@ -47,7 +47,7 @@ entry_sizes version bytes at x h =
     subst (λ (y : ReadEntryValue × ℕ). (at + 1 ≤ y.1) × (node_count y.0.entry.plan ≤ y.1)) (ok_same (record { entry = record { vector = said.0.0; plan = plan.0 }; weight = said.0.1 }, plan.1) x last)
     (omega (arith, later, nodes), omega (arith, later, nodes))
 
--- so many of them
+-- this many of them
 entries_sizes : (version : Version) (count : ℕ) (bytes : List ℕ) (at : ℕ) (x : List ReadEntryValue × ℕ) → entries_read version count bytes at ≡ Ok x → (at + length x.0 ≤ x.1) × All (λ e. node_count e.entry.plan ≤ x.1) x.0
 entries_sizes version zero bytes at x h = subst (λ (y : List ReadEntryValue × ℕ). (at + length y.0 ≤ y.1) × All (λ e. node_count e.entry.plan ≤ y.1) y.0) (ok_same ([], at) x h) (omega arith, All-nil (λ e. node_count e.entry.plan ≤ at))
 entries_sizes version (suc count) bytes at x h =

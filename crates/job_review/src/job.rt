@@ -11,7 +11,7 @@ use review_forms::review_in;
 use std::alloc::Global;
 use text_forms::Form;
 
-/// The text of the review of a board, in a form: what is told of each decision, and how much they
+/// The text of the review of a board, in a form: each decision with its facts, and how much they
 /// cost together.
 ///
 /// Errors: those of `review_of`.

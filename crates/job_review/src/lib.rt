@@ -1,7 +1,7 @@
 //! The job `review`: every decision of a played board, and what each card cost. It builds on
 //! `board_decisions` for the decisions, on `card_brackets` for the cards of each, and on
-//! `review_forms` for the text. Its contracts promise what is told of each decision, and the text
-//! of a form, by their definitions, or why there is none.
+//! `review_forms` for the text. Its contracts promise the facts of each decision, and the text of a
+//! form, by their definitions, or why there is none.
 #![tactic(auto)]
 
 mod job;

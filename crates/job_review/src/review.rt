@@ -1,4 +1,4 @@
-//! What is told of every decision of a played board.
+//! The facts of every decision of a played board.
 ghost use Rattle.std.specs.Prelude.{◌<◌, ◌-◌, ◌^◌, IfOk, IfErr, length};
 ghost use Rattle.job_words.specs.Asks.{IsMoves, IsSearchWithinLimits};
 ghost use Rattle.job_review.specs.Reviews.{IsReview, IsReviewRefusal};
@@ -25,7 +25,7 @@ pub struct Asked {
     pub search: Search,
 }
 
-/// What is told of each decision of declarer's side in the play of a board, from a trick on, in the
+/// The facts of each decision of declarer's side in the play of a board, from a trick on, in the
 /// order of play: above all what the card cost, which is by how much the card that is named there
 /// wins more, by the weights of the layouts that the play up to there allows. There is at least one
 /// decision.

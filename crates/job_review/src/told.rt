@@ -1,4 +1,4 @@
-//! What is told of a decision, by the rows of the card played and of the card named.
+//! The facts of a decision, by the rows of the card played and of the card named.
 ghost use Rattle.std.specs.Prelude.{◌≡◌, ◌<◌, true, length, IfOk};
 ghost use Rattle.shared_table.specs.Passes.{IsPassOf};
 ghost use Rattle.root_workers.specs.Questions.{NamesSpent, IsQuestion};
@@ -30,7 +30,7 @@ fn row_of(table: &CardTable, card: Card) -> CardRow
     unreachable!()
 }
 
-/// What is told of a decision of a board. The question is about its node and its weights.
+/// The facts of a decision of a board. The question is about its node and its weights.
 pub fn told_of(
     question: &Question,
     pass: &mut Pass,

@@ -20,7 +20,7 @@ pub struct Evening<'a> {
     /// How many games there are.
     pub places: u32,
     /// Workers share one, but no review looks into it: each game has a table of its own, so that it
-    /// comes to the same by itself and beside others.
+    /// comes to the same alone and among others.
     pub table: &'a SharedTable,
 }
 

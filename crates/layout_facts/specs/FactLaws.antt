@@ -14,7 +14,7 @@ use Rattle.layout_facts.specs.Reasons.{is_so, reasons, is_split, what_decides}
 abbrev pub EachHoldingIsListed : Type 0
 EachHoldingIsListed = (seat : Seat) (suit : Suit) (rank : ℕ) → is_declarers seat ≡ false → 2 ≤ rank → rank ≤ 14 → Contains facts (Holds seat (card_of suit rank))
 
--- so is that a defender has exactly, or at least, so many cards of a suit
+-- so is that a defender has exactly, or at least, this many cards of a suit
 abbrev pub EachLengthIsListed : Type 0
 EachLengthIsListed =
     (seat : Seat) (suit : Suit) (count : ℕ) → is_declarers seat ≡ false → count ≤ 13

@@ -16,7 +16,7 @@ use Rattle.layout_facts.specs.declared.fact.Fact.TheVariants.{Holds, Exactly, At
 abbrev pub length_of : Seat → Suit → State → ℕ
 length_of seat suit s = length (of_suit suit (hand_of s seat))
 
--- whether a fact is so: the seat holds the card; it has exactly so many cards of the suit; it has at least so many
+-- whether a fact is so: the seat holds the card; it has exactly this many cards of the suit; it has at least this many
 abbrev pub holds_in : Fact → State → Bool
 holds_in (Holds seat card) s = has_card (hand_of s seat) card
 holds_in (Exactly seat suit count) s = length_of seat suit s == count
@@ -39,7 +39,7 @@ holdings rank = flat_map (holding rank) suits
 unfoldable pub all_holdings : List Fact
 all_holdings = flat_map (λ place. holdings (14 - place)) (range_with_len 0 13)
 
--- a defender has exactly so many cards of a suit, or at least so many
+-- a defender has exactly this many cards of a suit, or at least this many
 abbrev pub suit_lengths : ℕ → Suit → List Fact
 suit_lengths count suit = Exactly Left suit count ∷ AtLeast Left suit count ∷ Exactly Right suit count ∷ AtLeast Right suit count ∷ []
 

@@ -1,4 +1,4 @@
--- In how many ways so many of some things can be chosen, and hands added one by one.
+-- In how many ways a number of some things can be chosen, and hands added one by one.
 use Rattle.std.proofs.Common.{◌≡◌, ℕ, zero, suc, ◌+◌, ◌-◌, ◌^◌, ◌<◌, ◌≤◌, Bool, true, false, List, [], ◌∷◌, ◌++◌, map, length, get_or, set, replicate, refl, sym, ap, ◌∙◌, inl, inr, arith}
 use Rattle.std.specs.Prelude.{◌==◌, ◌||◌}
 use Rattle.std.proofs.Math.Nat.{pow-suc}
@@ -28,7 +28,7 @@ ways-power things zero = omega (arith, pow_pos things)
 ways-power zero (suc chosen) = omega arith
 ways-power (suc things) (suc chosen) = omega (arith, pow-suc 2 things, ways-power things chosen, ways-power things (suc chosen))
 
--- so few things give a number of so many bits
+-- few enough things give a number of this many bits
 pub ways-small : (things chosen : ℕ) → things ≤ most_unseen → ways things chosen ≤ 2 ^ most_unseen
 ways-small things chosen few = let bound : 2 ^ things ≤ 2 ^ most_unseen = pow_mono few in omega (arith, ways-power things chosen)
 

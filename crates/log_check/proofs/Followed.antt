@@ -29,7 +29,7 @@ no_move n moves card cost is few can = let enough = can.1 in omega arith
 
 -- ---- the cards so far
 
--- what is left to be followed, from a node with so many moves left
+-- what is left to be followed, from a node with this many moves left
 pub record IsUnderWay (n : NodeValue) (moves : ℕ) (path : List ℕ) (node : NodeValue) (left : ℕ) (rest : List ℕ) : Type 0 where
   pub path_from : IsPath node rest → IsPath n path
   pub path_to : IsPath n path → IsPath node rest

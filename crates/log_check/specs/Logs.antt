@@ -67,7 +67,7 @@ KeepsRule Join node line cited = IsJoin node line cited
 
 -- ---- lines and logs
 
--- the line is sound for this node with so many moves, where these lines stand before it
+-- the line is sound for this node with this many moves, if these lines come before it
 pub record IsSoundLine (n : NodeValue) (moves : ℕ) (earlier : List LogLine) (line : LogLine) : Type 0 where
   -- its path leads from the node to a node of its own
   pub path : IsPath n line.path

@@ -6,15 +6,15 @@ use Rattle.trick_rules.specs.Nodes.{NodeValue, child}
 use Rattle.log_check.specs.declared.lines.LogLine.{LogLine}
 use Rattle.log_check.specs.Logs.{IsPath, node_after, our_cards, StandBehind, cited_lines}
 
--- each number is that of one of so many lines
+-- each number is that of one of this many lines
 abbrev pub AreNumbers : ℕ → List ℕ → Type 0
 AreNumbers count numbers = All (λ number. (1 ≤ number) × (number ≤ count)) numbers
 
--- the cards can be played from a node with so many moves
+-- the cards can be played from a node with this many moves
 abbrev pub CanFollow : NodeValue → ℕ → List ℕ → Type 0
 CanFollow n moves path = IsPath n path × (our_cards n path ≤ moves)
 
--- they lead to a node, with so many moves left
+-- they lead to a node, with this many moves left
 pub record IsFollowed (n : NodeValue) (moves : ℕ) (path : List ℕ) (node : NodeValue) (left : ℕ) : Type 0 where
   pub path_is : IsPath n path
   pub node_is : node ≡ node_after n path

@@ -14,7 +14,7 @@ use Rattle.log_maker.specs.Steps.{HasGrown}
 use Rattle.log_maker.proofs.FrontsSoFar.{cards_more}
 use Rattle.log_maker.proofs.Growing.{AreWritten, written_more, written_size, sum_so_far}
 
--- these cards are left; the front is of the others, each with so many moves after it, and the log has grown by their lines
+-- these cards are left; the front is of the others, each with this many moves after it, and the log has grown by their lines
 pub record CardsSoFar (is_front : List ℕ → List Vector → Type 0) (n : NodeValue) (moves : ℕ) (path : List ℕ) (before : WrittenLog)
     (cards : List ℕ) (front : FrontValue) (numbers : List ℕ) (after : WrittenLog) : Type 0 where
   pub earlier : List ℕ

@@ -70,7 +70,7 @@ sound_push n moves lines line are sound place l at = ⊎_elim
 
 -- ---- where a node stands
 
--- the path leads from the root to this node, and leaves so many of the moves
+-- the path leads from the root to this node, and leaves this many of the moves
 record StandsAt (root : NodeValue) (total : ℕ) (path : List ℕ) (n : NodeValue) (moves : ℕ) : Type 0 where
   led : IsPath root path
   is : node_after root path ≡ n

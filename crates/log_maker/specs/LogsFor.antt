@@ -22,7 +22,7 @@ line_of rule path moves from vectors = record {
 }
 
 mutual
-  -- the lines of a node with so many moves, behind this path and behind so many earlier lines
+  -- the lines of a node with this many moves, after this path and after this many earlier lines
   pub data IsLogFrom : NodeValue → ℕ → List ℕ → ℕ → List LogLine → Type 0 where
     -- Where no move is left or the result is decided: a leaf.
     at_stop : (n : NodeValue) (moves : ℕ) (path : List ℕ) (earlier : ℕ) (front : List Vector)
@@ -43,7 +43,7 @@ mutual
         → AreLogsFrom n moves path earlier (choices n) numbers lines
         → IsLogFrom n moves path earlier (lines ++ line_of Join path moves numbers front ∷ [])
 
-  -- the lines of a node's children by these cards in order, each with so many moves, and the
+  -- the lines of a node's children by these cards in order, each with this many moves, and the
   -- numbers of each child's last line, which count from 1 through all lines
   pub data AreLogsFrom : NodeValue → ℕ → List ℕ → ℕ → List ℕ → List ℕ → List LogLine → Type 0 where
     no_child : (n : NodeValue) (moves : ℕ) (path : List ℕ) (earlier : ℕ)
@@ -55,7 +55,7 @@ mutual
         → AreLogsFrom n moves path earlier (card ∷ cards) ((earlier + length first) ∷ numbers)
         (first ++ others)
 
--- the log of a node with so many moves
+-- the log of a node with this many moves
 abbrev pub IsLogFor : NodeValue → ℕ → List LogLine → Type 0
 IsLogFor n moves lines = IsLogFrom n moves [] 0 lines
 

@@ -81,7 +81,7 @@ undominated-all v (u ∷ us) (suc place) within before none =
 
 -- ---- a search for the place
 
--- so many vectors of the list are printed before v, and none of them dominates it
+-- this many vectors of the list are printed before v, and none of them dominates it
 pub record Passed (us : List Vector) (v : Vector) (place : ℕ) : Type 0 where
   pub before : All (λ u. Precedes u v) (take place us)
   pub clear : All (λ u. ¬ Dominates u v) (take place us)

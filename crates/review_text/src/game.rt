@@ -93,7 +93,7 @@ fn push_total(text: &mut Text, alloc: Global, games: &[GameReview]) -> Result<()
 }
 
 /// The reviews of the games of a file, in order. After what the text is and the greatest number of
-/// moves stands for each game a line with its number, counted from 1, and under it a line for each
+/// moves, each game has a line with its number, counted from 1, and under it a line for each
 /// decision with a last line, as in the text of one board, or the line `refused` with the reason.
 /// The last line has the number of games, and the sums over all their decisions.
 ///

@@ -1,10 +1,10 @@
-//! What is told of a decision.
+//! The facts of a decision.
 ghost use Rattle.std.specs.Prelude.{◌≡◌};
 ghost use Rattle.review_text.specs.Texts.{cost_of};
 
 use card_sets::{Card, Compass};
 
-/// What is told of a decision. The card's number in the play and its trick are counted from 1. The
+/// The facts of a decision. The card's number in the play and its trick are counted from 1. The
 /// layouts are those that the play up to there allows, with what they weigh together.
 #[derive(Clone, Copy, Debug, PartialEq, Eq)]
 pub struct Reviewed {

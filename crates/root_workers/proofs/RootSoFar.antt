@@ -62,7 +62,7 @@ module _ (n : NodeValue) (below : ℕ) (ws : List ℕ) where
     pub fits : plain → (d : ℕ) → Contains tried d → tree_size bridge (child n d) below ≤ nodes
     pub leads : Leads best tried
 
-  -- the same, where so many cards were tried
+  -- the same, if this many cards were tried
   abbrev pub RootAt : (nodes : ℕ) (plain : Type 0) (cards : List ℕ) (front : FrontValue) (best : Option (ℕ × ℕ)) → ℕ → Type 0
   RootAt nodes plain cards front best place = (so : RootSoFar nodes plain cards front best) × (place ≡ length so.tried)
 

@@ -22,7 +22,7 @@ use Rattle.root_workers.specs.declared.rounds.RoundFront.{RoundFront}
 abbrev pub IsQuestion : Question → Type 0
 IsQuestion q = MayBeAsked q.node.now q.moves q.weights.now
 
--- what is found at a root within so many nodes: the card and the best weight, and the front if it is to be whole
+-- what is found at a root within this many nodes: the card and the best weight, and the front if it is to be whole
 pub record IsFoundRoot (n : NodeValue) (moves nodes : ℕ) (weights : List ℕ) (whole cuts plain : Type 0) (root : RoundFront) : Type 0 where
   pub front : whole → IsFrontAt n moves root.front
   pub founds : whole → AreFound n moves cuts root.founds.items

@@ -22,11 +22,11 @@ use Rattle.root_workers.specs.declared.reports.Outcome.{Outcome}
 use Rattle.root_workers.specs.declared.reports.Outcome.TheVariants.{Exact, Below, Skipped}
 use Rattle.root_workers.specs.declared.reports.CardReport.{CardReport}
 
--- the number of the shard of a node with so many moves
+-- the number of the shard of a node with this many moves
 abbrev pub shard_at : TablePlan → NodeValue → ℕ → ℕ
 shard_at plan n moves = shard_of plan.shards n moves
 
--- where the front of a node with so many moves stands, by what a pass knew before and knows now
+-- where the front of a node with this many moves is, by what a pass knew before and knows now
 abbrev pub IsStoredAs : TablePlan → NodeValue → ℕ → TableView → TableView → Stored → Type 0
 IsStoredAs plan n moves v w Table = HasKey (list_at (shard_at plan n moves) w) n moves
 IsStoredAs plan n moves v w Full = plan.room ≤ length (list_at (shard_at plan n moves) w)

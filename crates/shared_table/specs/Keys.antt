@@ -6,6 +6,6 @@ use Rattle.trick_rules.specs.Nodes.{NodeValue}
 abbrev pub key_number : NodeValue → ℕ → ℕ
 key_number n moves = sum n.position.declarer + sum n.position.dummy + sum n.position.unseen + moves
 
--- the shard of a key, among so many
+-- the shard of a key, among this many
 abbrev pub shard_of : ℕ → NodeValue → ℕ → ℕ
 shard_of shards n moves = key_number n moves % shards

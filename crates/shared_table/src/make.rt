@@ -9,7 +9,7 @@ use atomic_table::Table;
 use front_table::Entries;
 use std::alloc::{AllocError, Global};
 
-// So many lists without an entry.
+// This many lists without an entry.
 fn empty_lists(alloc: Global, count: u32) -> Result<Vec<Entries>, AllocError>
     ensures { IfOk result (λ lists. lists.items ≡ replicate count []) }
 {

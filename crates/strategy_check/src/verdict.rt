@@ -26,7 +26,7 @@ pub enum Verdict {
 }
 
 /// Plays a plan against every defence in every layout of a node, with `moves` moves of declarer's
-/// side, and compares what it wins with a vector. Where the plan stops at an open result, plain
+/// side, and compares what it wins with a vector. If the plan stops at an open result, plain
 /// minimax decides.
 ///
 /// The vector is as wide as the node, and the plan has fewer than 2^32 nodes. It takes no memory.

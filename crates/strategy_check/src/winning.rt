@@ -24,7 +24,7 @@ fn makes<D: DoubleDummy>(solver: &mut D, position: &Position, left: CardSet) -> 
 }
 
 /// Whether a strategy makes the contract where Left holds these cards, whatever the defenders do.
-/// Where it stops at an open result, plain minimax decides.
+/// If it stops at an open result, plain minimax decides.
 pub fn wins(plan: &Plan, position: &Position, left: CardSet) -> bool
     requires { CanFollow (plan_of plan.now) (record { position = position.now; left = left }) }
     ensures { result ≡ wins_in bridge (plan_of plan.now)

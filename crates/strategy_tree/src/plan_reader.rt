@@ -62,7 +62,7 @@ pub fn read_plan(alloc: Global, bytes: &[u8], start: usize) -> Result<(Plan, usi
 }
 
 /// Law: what is written of a plan of at most 64 levels, each defender's node of which has 1 to 52
-/// replies, is read back, whatever follows, up to the place where the text ended.
+/// replies, is read back, whatever follows, up to the place at which the text ended.
 ///
 /// Appends the lines of the plan to a text, and reads them from the text's old end.
 pub fn plan_text_reads_back(

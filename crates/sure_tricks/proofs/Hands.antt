@@ -154,7 +154,7 @@ by_each s b ok on each = go b (is_declarers (to_play s.position)) refl each (som
 
 -- ---- how many tricks a side still wants
 
--- with so many tricks more for this side its result stands
+-- with this many tricks more for this side its result holds
 abbrev pub Suffices : Bool → PositionValue → ℕ → Type 0
 Suffices true t k = t.need ≤ k
 Suffices false t k = tricks_left t < t.need + k

@@ -1,4 +1,4 @@
--- The highest cards of each suit of a hand, so many of each.
+-- The highest cards of each suit of a hand, this many of each.
 use Rattle.std.proofs.Common.{◌≡◌, ◌⊎◌, ℕ, suc, ◌+◌, ◌<◌, ◌≤◌, Bool, true, false, ◌&&◌, eqb, cond, nat_lt, List, [], ◌∷◌, length, filter, min, refl, sym, ap, ap₂, ◌∙◌, inl, inr, arith}
 use Rattle.std.specs.List.{list_all}
 use Rattle.std.proofs.lemmas.Bool.{cases_Bool, cases_lt, false≢true, and_parts, lt-ltb, le-ltb, ltb-true}
@@ -70,7 +70,7 @@ length-highest k (x ∷ xs) set =
     go (inl more) rest = rw (lt-ltb (length xs) k more) (omega arith)
     go (inr less) rest = rw (le-ltb (length xs) k less) (omega arith)
 
--- ---- so many of each suit
+-- ---- this many of each suit
 
 above-in_suit : (c : ℕ) (own : List ℕ) → above c own ≡ filter (nat_lt c) (of_suit (suit_of c) own)
 above-in_suit c own = sym (filter-both (nat_lt c) (λ d. same_suit (suit_of d) (suit_of c)) own)

@@ -91,7 +91,7 @@ one_of_total rounds v some = let fall = one_fewer rounds v some in omega arith
 
 -- ---- while the side takes tricks
 
--- the side's opponents keep their stoppers, and its hands have no more than so many cards of each other suit
+-- the side's opponents keep their stoppers, and its hands have no more than this many cards of each other suit
 pub record IsRunning (b : Bool) (stoppers : List ℕ) (rounds : Suit → ℕ) (s : State) : Type 0 where
   pub ok : IsState s
   pub trumps : s.position.trump ≡ NoTrump

@@ -43,7 +43,7 @@ impl Draws {
         }
     }
 
-    // So many cards of the rest of the pack, which are taken out of it.
+    // This many cards of the rest of the pack, which are taken out of it.
     fn hand(&mut self, size: u8, rest: &mut CardSet) -> CardSet {
         let mut hand = CardSet::empty();
         for _ in 0..size {

@@ -1,5 +1,4 @@
 //! The tests, and what they have in common: endings, gates and entries of tables.
-mod boards;
 mod endings;
 mod gates;
 mod roots;

@@ -101,7 +101,7 @@ impl Sinks {
     }
 }
 
-/// How the words end, and the defenders then at a table of two who play low and a third who plays
+/// How the words end, and the defenders then at a table of two playing low and a third playing
 /// high.
 /// No clause, as at `Run::ends_with`.
 pub fn ended<R: Threads + Sync, G: Gate>(

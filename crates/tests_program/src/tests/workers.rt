@@ -114,7 +114,7 @@ const ACE_LAYOUTS: &str = "N:A... 3... 2... 4...\n";
 const ACE_REPORT: &str =
     "alphamu report 1\ndeclarer S\ntrump NT\nneed 1\nhand S 2...\nhand N A...\ntrick N -\nturn N\nmoves 2\nkept 1\nfront 1\nvector 1 count 1\nplay SA\nhear 1\non S3\nplay S2\nstop\ncard SA count 1\nend\n";
 
-// So many workers at a gate write what one writes, and the gate sees both cards.
+// Several workers at a gate write what one writes, and the gate sees both cards.
 fn assert_same<R: Threads + Sync + Abort>(
     rt: &R,
     alloc: Global,

@@ -43,14 +43,6 @@ pub fn guess(rt: &impl Abort, alloc: Global) -> Result<Node, AllocError> {
     Node::new(alloc, position, &lefts)
 }
 
-/// The same, where Left is known to have SQ S5.
-pub fn no_guess(rt: &impl Abort, alloc: Global) -> Result<Node, AllocError> {
-    let position = lead_to_the_king(rt);
-    let lefts = [two_spades(12, 5)];
-    assert!(rt; position.fits(lefts[0]));
-    Node::new(alloc, position, &lefts)
-}
-
 /// The node after dummy's S2.
 pub fn after_two(rt: &impl Abort, alloc: Global) -> Result<Node, AllocError> {
     let root = guess(rt, alloc)?;

@@ -3,10 +3,9 @@
 ghost use Rattle.shared_table.specs.Passes.{IsPassOf};
 
 use super::endings::{after_seven, guess, spade};
-use super::gates::{Count, Meeting};
+use super::gates::Count;
 use alphamu_core::RootFault;
 use am_outside::{Gate, OpenGate};
-use card_sets::Card;
 use pareto_fronts::Front;
 use root_workers::{CardReport, Options, Outcome, RootFront, Stored, root_card, root_front};
 use shared_table::{Pass, SharedTable};
@@ -61,23 +60,6 @@ fn front_of<R: Threads + Abort + Sync, G: Gate>(
     Ok(root_front(
         rt, alloc, node, moves, &weights, options, &table, &mut pass, gate,
     ))
-}
-
-// The card of a root by the weights of its layouts.
-fn card_by<R: Threads + Abort + Sync>(
-    rt: &R,
-    alloc: Global,
-    node: &Node,
-    moves: u8,
-    weights: &Weights,
-) -> Result<(Card, u32), Fail> {
-    assert!(rt; node.is_ours() && !node.position().over() && weights.width() == node.width());
-    assert!(rt; 1 <= moves && moves <= 26);
-    let (table, mut pass) = SharedTable::new(alloc, 1, 64)?;
-    let found = root_card(
-        rt, alloc, node, moves, weights, &WAYS[1], &table, &mut pass, &OpenGate,
-    )?;
-    Ok((found.card, found.weight))
 }
 
 // The vectors that make the first layout alone, and the second alone.
@@ -220,71 +202,4 @@ fn the_weight_stops_the_loop(rt: HostRuntime) -> Result<(), Fail> {
     assert_eq!(rt; root.front.len(), 2);
     assert_eq!(rt; gate.entered(), 4);
     Ok(())
-}
-
-#[test]
-fn nine_nodes_are_too_few_after_the_two(rt: HostRuntime) -> Result<(), Fail> {
-    let node = guess(&rt, rt.alloc())?;
-    let options = Options {
-        nodes: 9,
-        ..WAYS[0]
-    };
-    let spent = front_of(&rt, rt.alloc(), &node, 2, &options, &OpenGate)?;
-    assert_eq!(rt; spent.err(), Some(RootFault::Spent(spade(2))));
-    Ok(())
-}
-
-#[test]
-fn the_heavier_layout_decides(rt: HostRuntime) -> Result<(), Fail> {
-    let alloc = rt.alloc();
-    let equal = Weights::equal(2);
-    let first = Weights::equal(2).set(0, 3);
-    let second = Weights::equal(2).set(1, 3);
-    let root = guess(&rt, alloc)?;
-    assert!(rt; card_by(&rt, alloc, &root, 2, &equal)? == (spade(2), 1));
-    assert!(rt; card_by(&rt, alloc, &root, 2, &second)? == (spade(2), 3));
-    let seven = after_seven(&rt, alloc)?;
-    assert!(rt; card_by(&rt, alloc, &seven, 1, &equal)? == (spade(11), 1));
-    assert!(rt; card_by(&rt, alloc, &seven, 1, &first)? == (spade(13), 3));
-    assert!(rt; card_by(&rt, alloc, &seven, 1, &second)? == (spade(11), 3));
-    Ok(())
-}
-
-// Fails if these workers, who search a root with two moves, don't meet at the gate, or if they find
-// anything but two vectors and this card, which wins one layout.
-fn assert_met<R: Threads + Abort + Sync>(
-    rt: &R,
-    alloc: Global,
-    node: &Node,
-    workers: u32,
-    cuts: bool,
-    gate: &Meeting,
-    card: Card,
-) -> Result<(), Fail> {
-    let options = Options {
-        nodes: 1000,
-        workers,
-        table: true,
-        cuts,
-    };
-    let root = front_of(rt, alloc, node, 2, &options, gate)??;
-    assert!(rt; gate.took_place());
-    assert!(rt; (root.card, root.weight, root.front.len()) == (card, 1, 2));
-    Ok(())
-}
-
-#[test]
-fn two_workers_are_beside_each_other(rt: HostRuntime) -> Result<(), Fail> {
-    let gate = Meeting::new(spade(2), spade(3), 0);
-    let node = guess(&rt, rt.alloc())?;
-    assert_met(&rt, rt.alloc(), &node, 2, false, &gate, spade(2))
-}
-
-// With one move one worker finds that the jack wins one layout and the king the other. So with two
-// moves two workers search them.
-#[test]
-fn two_workers_share_what_won_with_a_move_less(rt: HostRuntime) -> Result<(), Fail> {
-    let gate = Meeting::new(spade(11), spade(13), 1);
-    let node = after_seven(&rt, rt.alloc())?;
-    assert_met(&rt, rt.alloc(), &node, 4, true, &gate, spade(11))
 }

@@ -33,7 +33,7 @@ pub fn room_for(alloc: Global, node: &Node) -> Result<Front, AllocError>
     Ok(out)
 }
 
-// The node after dummy's S2, and a table of so many shards, each with room for 64 entries.
+// The node after dummy's S2, and a table of this many shards, each with room for 64 entries.
 fn after_two_and_table(
     rt: &impl Abort,
     alloc: Global,

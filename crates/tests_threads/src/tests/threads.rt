@@ -50,7 +50,7 @@ fn put_all(alloc: Global, table: &SharedTable, mut pass: Pass, node: &Node) -> P
     pass
 }
 
-// This many threads put all entries: one, or half of them beside the other half.
+// This many threads put all entries: one, or two halves of them in parallel.
 fn put_by<R: Threads + Sync>(
     rt: &R,
     alloc: Global,
