@@ -39,7 +39,8 @@ pub fn results(solver: &mut Solver, question: &Question) -> Option<WinVector>
         Known::AllMade => unless_covered(question, all),
         Known::Nothing => {
             let sure = common(question.alpha);
-            let made = judge(solver, question, sure, false, all)?;
+            let some = judge_ahead(solver, question, sure, all)?;
+            let made = judge(solver, question, sure, false, some)?;
             judge(solver, question, sure, true, made)
         }
     }
@@ -68,6 +69,42 @@ fn common(front: &Front) -> WinVector
         ones = ones.meet(*vector);
     }
     ones
+}
+
+// The mask with a 1 at each of the first places too, this many.
+fn with_first(mask: WinVector, first: usize) -> WinVector
+    ensures { length result ≡ length mask }
+{
+    let mut ones = mask;
+    for place in 0..mask.width() {
+        if usize::from(place) < first {
+            ones = ones.set(place, true);
+        }
+    }
+    ones
+}
+
+// Judges the layouts from the place on at which the solver begins, if it isn't the first of its team.
+// They are judged again with all others, when the memo knows them.
+fn judge_ahead(
+    solver: &mut Solver,
+    question: &Question,
+    sure: WinVector,
+    all: WinVector,
+) -> Option<WinVector>
+    requires alpha { question.now.alpha.now.width ≡ length question.now.node.now.lefts }
+    requires mask { length sure ≡ length question.now.node.now.lefts }
+    requires above { Dominates all (map makes (states question.now.node.now)) }
+    ensures above { IfSome result
+        (λ made. Dominates made (map makes (states question.now.node.now))) }
+    ensures cut { IsNone result → (question.now.rules.bound ≡ true)
+        × Covers question.now.alpha.now.vectors (map makes (states question.now.node.now)) }
+{
+    let start = solver.begins_at(usize::from(question.node.width()));
+    if start == 0 {
+        return Some(all);
+    }
+    judge(solver, question, with_first(sure, start), false, all)
 }
 
 // Judges the layouts at which the mask has this bit, and takes out those that can't be made; or

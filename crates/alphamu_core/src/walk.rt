@@ -9,8 +9,8 @@ ghost use Rattle.alphamu_core.specs.Judging.{IsKnown};
 ghost use Rattle.alphamu_core.specs.Limits.{IsLimit, IsUpperBound, IsUnited, IsReached};
 ghost use Rattle.alphamu_core.specs.TreeSearches.{IsSameSearch, Pays, PaysBelow};
 
-use crate::answers::{Answer, Found};
-use crate::kept::{cards_to_try, take_highest};
+use crate::answers::{Answer, Found, SearchFault};
+use crate::kept::{cards_to_try, going_first, take_highest, take_in_turn};
 use crate::keys::store_key;
 use crate::known::Known;
 use crate::limits::Limit;
@@ -27,7 +27,8 @@ use trick_rules::Node;
 use win_vectors::WinVector;
 
 impl<S: FrontStore> TreeSearch<'_, S> {
-    /// Enters a node, for which the budget pays, and answers for it.
+    /// Enters a node, for which the budget pays, and answers for it. A search that comes too late, since
+    /// another solver of the team has answered its question, ends as if an allocation had failed.
     #[cycle(walk)]
     pub fn visit(&mut self, node: Node, moves: u8, alpha: &Front, known: Known) -> Answer
         requires width { alpha.now.width ≡ length node.lefts }
@@ -39,6 +40,9 @@ impl<S: FrontStore> TreeSearch<'_, S> {
         ensures same_budget { self.new.budget.ghost_name ≡ self.old.budget.ghost_name }
     {
         self.budget.enter()?;
+        if self.solver.is_late() {
+            return Err(SearchFault::Memory);
+        }
         let question = Question {
             node: &node,
             known,
@@ -157,7 +161,8 @@ impl<S: FrontStore> TreeSearch<'_, S> {
     {
         let mut joiner = Joiner::new(self.alloc, question.node.width());
         let mut cards = cards_to_try(question.node, self.rules);
-        'cards: while let Some(card) = cards.pop_first() {
+        let first = going_first(self.solver, cards);
+        'cards: while let Some(card) = take_in_turn(&mut cards, first) {
             let (child, mask) = question.node.child(self.alloc, card)?;
             let none = Front::new(self.alloc, child.width());
             let won = match self.visit(child, moves, &none, question.known)? {

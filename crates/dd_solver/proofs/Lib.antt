@@ -15,3 +15,4 @@ pub mod TopTrumps
 pub mod Turns
 pub mod JustBelow
 pub mod HeadingHand
+pub mod Shards

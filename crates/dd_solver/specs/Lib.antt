@@ -8,3 +8,4 @@ pub mod RelativeRanks
 pub mod Remembers
 pub mod Turns
 pub mod Headed
+pub mod Shards

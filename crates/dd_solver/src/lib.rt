@@ -16,13 +16,17 @@ mod memo;
 mod needs_all;
 mod order;
 mod plays;
+mod recall;
 mod relative_ranks;
 mod search;
 mod shape;
+mod shard_rule;
+mod shared_memo;
 mod solver;
 mod sure;
 mod top_trumps;
 mod turn;
 mod worths;
 
+pub use shared_memo::SharedMemo;
 pub use solver::Solver;

@@ -7,8 +7,6 @@ ghost use Rattle.dd_solver.specs.Answers.{IsAnswer};
 
 use crate::answer::Answer;
 use crate::key::Key;
-use crate::order::TURNS;
-use card_sets::Card;
 use std::alloc::Global;
 
 /// The most entries that a memo may have.
@@ -148,14 +146,13 @@ fn wider_size(slots: usize, most: usize) -> usize
 }
 
 /// Answers between two tricks. A position has 32 slots, and takes the place of another one
-/// there. With them the leads that settled a result last, by the turn.
+/// there.
 #[derive(Debug, Drop)]
 pub(crate) struct Memo {
     alloc: Global,
     most: usize,
     slots: Vec<Option<Entry>>,
     stored: usize,
-    best_leads: [Option<Card>; TURNS],
     ghost bounded: { most ≤ 262144 },
     ghost few: { vec_len slots ≤ most },
 }
@@ -172,23 +169,6 @@ impl Memo {
             most: most as usize,
             slots: Vec::new(alloc),
             stored: 0,
-            best_leads: [None; TURNS],
-        }
-    }
-
-    /// The lead that settled a result last at this turn.
-    pub(crate) fn best_lead(&self, turn: Option<usize>) -> Option<Card> {
-        *self.best_leads.get(turn?)?
-    }
-
-    /// Notes a lead that settled a result.
-    pub(crate) fn note_best_lead(&mut self, turn: Option<usize>, card: Card)
-        ensures { self.new.most ≡ self.old.most }
-    {
-        if let Some(place) = turn {
-            if place < TURNS {
-                self.best_leads[place] = Some(card);
-            }
         }
     }
 

@@ -15,9 +15,9 @@ use crate::enough::{one_of_equals, with_lower_equals, without_like};
 use crate::hands::{has_two, only_of};
 use crate::headed::headed_answer;
 use crate::key::Key;
-use crate::memo::Memo;
 use crate::needs_all::needs_all_answer;
 use crate::order::turn_of;
+use crate::recall::Recall;
 use crate::relative_ranks::RelativeRanks;
 use crate::shape::Shape;
 use crate::sure::sure_answer;
@@ -29,12 +29,17 @@ use trick_rules::{Position, end_trick};
 /// Whether declarer's side takes the need where Left holds these cards, with all cards seen by all,
 /// and the cards that count for it.
 #[cycle(search)]
-pub(crate) fn search(memo: &mut Memo, position: &Position, left: CardSet, shape: Shape) -> Answer
+pub(crate) fn search(
+    recall: &mut Recall,
+    position: &Position,
+    left: CardSet,
+    shape: Shape,
+) -> Answer
     requires fits { FitsLeft position.now left }
     requires shape { IsShapeOf shape (record { position = position.now; left = left }) }
     ensures state { IsState (record { position = position.now; left = left }) }
     ensures answer { IsAnswer (record { position = position.now; left = left }) result }
-    ensures limit { memo.new.most ≡ memo.old.most }
+    ensures limit { recall.new.own.most ≡ recall.old.own.most }
 {
     let between = position.trick.cards.is_empty();
     if let Some(made) = position.decided() {
@@ -45,23 +50,23 @@ pub(crate) fn search(memo: &mut Memo, position: &Position, left: CardSet, shape:
     }
     // With one trick left there is no choice, and looking takes longer than playing.
     if !between || !has_two(position.declarer) {
-        return search_turn(memo, &Turn::of(position, left, shape));
+        return search_turn(recall, &Turn::of(position, left, shape));
     }
     let ranks = RelativeRanks::of(&Key::of(position, left, shape));
-    let answer = search_key(memo, &ranks.key);
+    let answer = search_key(recall, &ranks.key);
     ranks.carried_back(&answer)
 }
 
 // The same for the position of a key, which the memo may know.
 #[cycle(search)]
-fn search_key(memo: &mut Memo, key: &Key) -> Answer
+fn search_key(recall: &mut Recall, key: &Key) -> Answer
     requires state { IsState (key_state key.now) }
     requires shape { HasShape key.now }
     requires open { decided (key_state key.now).position ≡ None }
     ensures answer { IsAnswer (key_state key.now) result }
-    ensures limit { memo.new.most ≡ memo.old.most }
+    ensures limit { recall.new.own.most ≡ recall.old.own.most }
 {
-    if let Some(answer) = memo.look(key) {
+    if let Some(answer) = recall.look(key) {
         return answer;
     }
     let position = key.position();
@@ -74,19 +79,19 @@ fn search_key(memo: &mut Memo, key: &Key) -> Answer
     if let Some(answer) = sure_answer(&position, key.left) {
         return answer;
     }
-    let answer = search_turn(memo, &Turn::of(&position, key.left, key.shape));
-    memo.keep(key, &answer);
+    let answer = search_turn(recall, &Turn::of(&position, key.left, key.shape));
+    recall.keep(key, &answer);
     answer
 }
 
 // The same at a turn, if the result is open, by trying the cards. After a lead, a hand may head the
 // suit led.
 #[cycle(search)]
-fn search_turn(memo: &mut Memo, turn: &Turn) -> Answer
+fn search_turn(recall: &mut Recall, turn: &Turn) -> Answer
     requires turn { IsTurn turn.now }
     requires open { decided turn.now.position ≡ None }
     ensures answer { IsAnswer (turn_state turn.now) result }
-    ensures limit { memo.new.most ≡ memo.old.most }
+    ensures limit { recall.new.own.most ≡ recall.old.own.most }
 {
     if turn.position.trick.cards.len() == 1 {
         if let Some(answer) = headed_answer(&turn.position, turn.left) {
@@ -96,7 +101,7 @@ fn search_turn(memo: &mut Memo, turn: &Turn) -> Answer
     let ours = turn.position.is_ours();
     let legal = turn.position.legal_in(turn.left);
     let cards = one_of_equals(turn, legal);
-    let answer = best_of(memo, turn, cards, ours);
+    let answer = best_of(recall, turn, cards, ours);
     if answer.made == ours {
         return answer;
     }
@@ -109,26 +114,26 @@ fn search_turn(memo: &mut Memo, turn: &Turn) -> Answer
 // What these cards give the seat to play, which is `ours` or a defender: the answer of the first
 // that gives what it wants, or of all.
 #[cycle(search)]
-fn best_of(memo: &mut Memo, turn: &Turn, cards: CardSet, ours: bool) -> Answer
+fn best_of(recall: &mut Recall, turn: &Turn, cards: CardSet, ours: bool) -> Answer
     requires turn { IsTurn turn.now }
     requires open { decided turn.now.position ≡ None }
     requires legal { IsSubset cards (legal_in (turn_state turn.now)) }
     requires side { is_declarers (to_play turn.now.position) ≡ ours }
     ensures given { IsGiven (turn_state turn.now) cards ours result }
-    ensures limit { memo.new.most ≡ memo.old.most }
+    ensures limit { recall.new.own.most ≡ recall.old.own.most }
 {
     // A single card needs no order.
     if let Some(card) = only_of(cards) {
-        return search_after(memo, turn, card);
+        return search_after(recall, turn, card);
     }
-    let mut order = turn.order(memo, cards);
+    let mut order = turn.order(recall, cards);
     let mut rest = cards;
     let mut counting = CardSet::empty();
     while let Some(card) = order.first_of(rest) {
         rest = rest.without(card);
-        let there = search_after(memo, turn, card);
+        let there = search_after(recall, turn, card);
         if there.made == ours {
-            memo.note_best_lead(turn_of(&turn.position), card);
+            recall.note_best_lead(turn_of(&turn.position), card);
             return there;
         }
         counting = joined(counting, there.counting);
@@ -143,22 +148,22 @@ fn best_of(memo: &mut Memo, turn: &Turn, cards: CardSet, ours: bool) -> Answer
 
 // What a legal card gives.
 #[cycle(search)]
-fn search_after(memo: &mut Memo, turn: &Turn, card: Card) -> Answer
+fn search_after(recall: &mut Recall, turn: &Turn, card: Card) -> Answer
     requires turn { IsTurn turn.now }
     requires open { decided turn.now.position ≡ None }
     requires legal { has_card (legal_in (turn_state turn.now)) card ≡ true }
     ensures closed { IsClosedUp result.counting }
     ensures given { GivesAnswer result.counting (turn_state turn.now) card result.made }
-    ensures limit { memo.new.most ≡ memo.old.most }
+    ensures limit { recall.new.own.most ≡ recall.old.own.most }
 {
     let position = &turn.position;
     if position.trick.cards.len() != 3 {
-        return search_turn(memo, &turn.after(card));
+        return search_turn(recall, &turn.after(card));
     }
     let place = position.trick.winning_place(position.trump, card);
     let after = end_trick(position, card, place);
     let shape = turn.shape_after(card);
-    let there = search(memo, &after, turn.left.without(card), shape);
+    let there = search(recall, &after, turn.left.without(card), shape);
     Answer {
         made: there.made,
         counting: with_winner(position, card, place, there.counting),

@@ -4,24 +4,27 @@ ghost use Rattle.trick_rules.specs.Positions.{FitsLeft};
 ghost use Rattle.trick_rules.specs.Play.{makes as makes_of};
 ghost use Rattle.dd_solver.specs.Remembers.{Remembers};
 
-use crate::memo::{MOST_ENTRIES, Memo};
+use crate::memo::MOST_ENTRIES;
+use crate::recall::Recall;
 use crate::search::search;
 use crate::shape::Shape;
+use crate::shared_memo::SharedMemo;
 use card_sets::CardSet;
 use std::alloc::Global;
 use std::marker::Model;
+use std::sync::Arc;
 use trick_rules::Position;
 
 /// Answers double dummy. What it remembers of earlier questions changes no answer.
 #[derive(Debug, Drop)]
 pub struct Solver {
-    memo: Memo,
+    recall: Recall,
 }
 
 impl Model for Solver {
     ghost Value = { Remembers };
 
-    ghost view = { λ s. record { limit = s.memo.most; entries = vec_len s.memo.slots } };
+    ghost view = { λ s. record { limit = s.recall.own.most; entries = vec_len s.recall.own.slots } };
 }
 
 impl Solver {
@@ -41,7 +44,19 @@ impl Solver {
         ensures empty { result.entries ≡ 0 }
     {
         Solver {
-            memo: Memo::new(alloc, limit),
+            recall: Recall::alone(alloc, limit),
+        }
+    }
+
+    /// A solver that remembers nothing by itself, and shares a memo with others, in its own thread
+    /// or another one: what one of them finds, all may find there. It has a number among them, counted
+    /// from 0.
+    pub fn sharing(alloc: Global, memo: Arc<SharedMemo, Global>, number: usize) -> Solver
+        ensures limit { result.limit ≡ 0 }
+        ensures empty { result.entries ≡ 0 }
+    {
+        Solver {
+            recall: Recall::sharing(alloc, memo, number),
         }
     }
 
@@ -56,6 +71,41 @@ impl Solver {
         ensures within { self.new.entries ≤ self.new.limit }
     {
         let shape = Shape::of(position, left);
-        search(&mut self.memo, position, left, shape).made
+        search(&mut self.recall, position, left, shape).made
+    }
+
+    /// Whether it has kept so many answers since it last said yes that the help of other threads pays,
+    /// or since it began.
+    ///
+    /// No clause, as at the calls below: they tell how solvers may work together, and change no answer.
+    pub fn wants_help(&mut self) -> bool {
+        self.recall.wants_help()
+    }
+
+    /// Whether it shares its memo.
+    pub fn is_in_team(&self) -> bool {
+        self.recall.is_shared()
+    }
+
+    /// Where in a list of this many it begins, if solvers that share a memo go through the same list:
+    /// each at another place, so that they find each other's answers. A solver that shares none begins
+    /// at 0.
+    pub fn begins_at(&self, count: usize) -> usize {
+        self.recall.begins_at(count)
+    }
+
+    /// All solvers that share its memo are given a question, which none of them has answered yet.
+    pub fn begin_question(&self) {
+        self.recall.note_answered(false);
+    }
+
+    /// The question is answered. The others are late from now on.
+    pub fn end_question(&self) {
+        self.recall.note_answered(true);
+    }
+
+    /// Whether a solver that shares its memo has answered the question that all of them were given.
+    pub fn is_late(&self) -> bool {
+        self.recall.is_late()
     }
 }

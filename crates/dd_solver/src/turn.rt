@@ -6,8 +6,8 @@ ghost use Rattle.trick_rules.specs.Play.{after as after_play, after_card, legal_
 ghost use Rattle.dd_solver.specs.Shapes.{IsShapeOf};
 ghost use Rattle.dd_solver.specs.Turns.{turn_state, IsTurn};
 
-use crate::memo::Memo;
 use crate::order::{Order, turn_of};
+use crate::recall::Recall;
 use crate::shape::Shape;
 use arrayvec::ArrayVec;
 use card_sets::{Card, CardSet};
@@ -115,8 +115,8 @@ impl Turn {
     }
 
     /// The order in which these cards are tried.
-    pub(crate) fn order(&self, memo: &Memo, cards: CardSet) -> Order {
-        let best_lead = memo.best_lead(turn_of(&self.position));
+    pub(crate) fn order(&self, recall: &Recall, cards: CardSet) -> Order {
+        let best_lead = recall.best_lead(turn_of(&self.position));
         Order::begun(&self.position, self.left, cards, best_lead)
     }
 

@@ -9,8 +9,8 @@ use Rattle.alphamu_core.proofs.Judging.{length-results, judged_all, ones_above}
 use Rattle.alphamu_core.proofs.Inherited.{all_made}
 use Rattle.alphamu_core.proofs.results.results.Goals as goal
 
-pub judge-requires-clause-above : goal.judge-requires-clause-above
-judge-requires-clause-above c =
+pub judge_ahead-requires-clause-above : goal.judge_ahead-requires-clause-above
+judge_ahead-requires-clause-above c =
     let n : NodeValue = c.args.question.now.node.now in
     subst (λ v. Dominates v (map (λ s. makes s) (states n))) (sym c.all-all.ensures) (ones_above c.width.result (map (λ s. makes s) (states n)) (length-results n ∙ sym c.width.ensures.value))
 
@@ -22,7 +22,7 @@ both results mask start some width (Some made) wide first h = judged_all results
 pub returns-in_ok-made-in-Nothing-clause-results : goal.returns-in_ok-made-in-Nothing-clause-results
 returns-in_ok-made-in-Nothing-clause-results c =
     let n : NodeValue = c.args.question.now.node.now in
-    both (map (λ s. makes s) (states n)) c.common-sure.result c.all-all.result c.in_ok-made-in-Nothing.made (length n.lefts) c.judge-in-Nothing.result (length-results n) c.in_ok-made-in-Nothing.ensures.judged c.judge-in-Nothing.ensures.judged
+    both (map (λ s. makes s) (states n)) c.common-sure.result c.in_ok-some-in-Nothing.some c.in_ok-made-in-Nothing.made (length n.lefts) c.judge-in-Nothing.result (length-results n) c.in_ok-made-in-Nothing.ensures.judged c.judge-in-Nothing.ensures.judged
 
 -- each layout is known to be made
 known_made : (n : NodeValue) (known : Known) (width : ℕ) → IsKnown n known → known ≡ AllMade → width ≡ length n.lefts → replicate width true ≡ map (λ s. makes s) (states n)

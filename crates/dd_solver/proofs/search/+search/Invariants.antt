@@ -21,7 +21,7 @@ abbrev pub decreases-search_after : goal.decreases-search_after
 decreases-search_after l = 5 * cards_left l.turn.now.position
 
 abbrev pub invariant-best_of-loop-card : goal.invariant-best_of-loop-card
-invariant-best_of-loop-card l = record { tried : AreTried (turn_state l.turn) l.fn.cards l.rest l.ours l.counting; limit : l.memo.most ≡ l.fn.memo.most }
+invariant-best_of-loop-card l = record { tried : AreTried (turn_state l.turn) l.fn.cards l.rest l.ours l.counting; limit : l.recall.own.most ≡ l.fn.recall.own.most }
 
 abbrev pub decreases-best_of-loop-card : goal.decreases-best_of-loop-card
 decreases-best_of-loop-card l = length l.rest

@@ -1,9 +1,10 @@
-use Rattle.std.proofs.Common.{◌≡◌, ◌∙◌, ◌-◌, ◌+◌, refl, sym, ap, subst, arith}
+use Rattle.std.proofs.Common.{◌≡◌, ◌∙◌, ◌-◌, ◌+◌, Err, refl, sym, ap, subst, arith}
 use Rattle.win_vectors.specs.Fronts.{CoversAll}
 use Rattle.pareto_fronts.specs.FrontValue.{FrontValue}
 use Rattle.trick_rules.specs.Positions.{PositionValue}
 use Rattle.trick_rules.specs.Play.{cards_left}
 use Rattle.front_table.specs.Proven.{IsFrontAt}
+use Rattle.alphamu_core.specs.declared.answers.SearchFault.TheVariants.{Memory}
 use Rattle.alphamu_core.specs.Findings.{IsAnswer}
 use Rattle.alphamu_core.specs.Limits.{IsUnknown}
 use Rattle.alphamu_core.specs.Costs.{Costs, EntersEach}
@@ -18,7 +19,6 @@ use Rattle.alphamu_core.proofs.Inherited.{known_theirs}
 use Rattle.alphamu_core.proofs.Paid.{costs_memory, costs_memory_first, costs_one, costs_none, costs_by_part, costs_of_part, paid_none, paid_more, paid_memory, paid_all, paid_below}
 use Rattle.alphamu_core.proofs.SameSearch.{same_none, same_more, still_early, costs_by}
 use Rattle.alphamu_core.proofs.OursSoFar.{ours_none, ours_all, ours_enough, ours_next, ours_width, ours_found_width, ours_more}
-use Rattle.alphamu_core.proofs.Taken.{taken_first}
 use Rattle.alphamu_core.proofs.TheirsSoFar.{theirs_none, theirs_covered, theirs_all, theirs_cut, theirs_next, theirs_width, theirs_filled, theirs_exact, theirs_more}
 use Rattle.alphamu_core.specs.TreeSearches.{IsSameSearch}
 use Rattle.alphamu_core.proofs.tree_search.TreeSearch.+walk.Goals as goal
@@ -124,7 +124,7 @@ at_defender-cards-init g t c = record {
 }
 
 pub at_defender-child-requires : goal.at_defender-child-requires
-at_defender-child-requires g t c = has_card-from_Contains _ _ (theirs_next c.args.question.now.node.now c.args.moves c.cards.invariant.so (taken_first _ _ _ c.in-Some.ensures.value))
+at_defender-child-requires g t c = has_card-from_Contains _ _ (theirs_next c.args.question.now.node.now c.args.moves c.cards.invariant.so c.in-Some.ensures.taken)
 
 pub at_defender-returns-in_err-child-clause-costs : goal.at_defender-returns-in_err-child-clause-costs
 at_defender-returns-in_err-child-clause-costs g t c =
@@ -133,7 +133,7 @@ at_defender-returns-in_err-child-clause-costs g t c =
 
 pub at_defender-visit-requires : goal.at_defender-visit-requires
 at_defender-visit-requires g t c κs within =
-    let less = fewer_by_five _ _ _ c.width.ensures.a_node (theirs_next c.args.question.now.node.now c.args.moves c.cards.invariant.so (taken_first _ _ _ c.in-Some.ensures.value)) c.in_ok-child.ensures.node in
+    let less = fewer_by_five _ _ _ c.width.ensures.a_node (theirs_next c.args.question.now.node.now c.args.moves c.cards.invariant.so c.in-Some.ensures.taken) c.in_ok-child.ensures.node in
     let live = is_open c.args.question.now.node.now c.args.moves c.requires.goes_on in
     let known = known_theirs c.args.question.now.node.now _ c.width.ensures.a_node live c.requires.theirs _ c.args.question.now.known c.in_ok-child.ensures.node c.requires.asked.known in
     (omega arith, (within, (c.new-none.ensures.width ∙ c.width-in-Some.ensures.value, known)))
@@ -141,23 +141,23 @@ at_defender-visit-requires g t c κs within =
 pub at_defender-returns-in_err-won-clause-costs : goal.at_defender-returns-in_err-won-clause-costs
 at_defender-returns-in_err-won-clause-costs g t c =
     let size = size_theirs c.args.question.now.node.now c.args.moves c.width.ensures.a_node c.requires.goes_on c.requires.theirs in
-    paid_below (EntersEach c.args.self.now.rules g.S.FrontStore.blind) c.args.question.now.node.now c.args.moves c.cards.invariant.paid c.args.moves size (taken_first _ _ _ c.in-Some.ensures.value) c.in_ok-child.ensures.node
+    paid_below (EntersEach c.args.self.now.rules g.S.FrontStore.blind) c.args.question.now.node.now c.args.moves c.cards.invariant.paid c.args.moves size c.in-Some.ensures.taken c.in_ok-child.ensures.node
     c.from_residual-in_err-won.result c.in_err-won.field-0.0 (costs_by c.cards.invariant.same.rules c.in_err-won.ensures.costs) c.from_residual-in_err-won.ensures.1
 
 pub at_defender-unreachable-requires : goal.at_defender-unreachable-requires
 at_defender-unreachable-requires g t c =
     let answer = subst (λ found. IsAnswer c.in_ok-child.child c.args.moves c.new-none.result.vectors c.cards.self.rules found) c.in-Below.is c.in_ok-won.ensures.answer in
-    theirs_exact c.args.question.now.node.now c.args.moves c.cards.invariant.so (taken_first _ _ _ c.in-Some.ensures.value) c.in_ok-child.ensures.node c.width.ensures.a_node c.new-none.result.vectors c.new-none.ensures.empty answer.0
+    theirs_exact c.args.question.now.node.now c.args.moves c.cards.invariant.so c.in-Some.ensures.taken c.in_ok-child.ensures.node c.width.ensures.a_node c.new-none.result.vectors c.new-none.ensures.empty answer.0
 
 pub at_defender-add-requires-clause-child_width : goal.at_defender-add-requires-clause-child_width
 at_defender-add-requires-clause-child_width g t c =
     let answer = subst (λ found. IsAnswer c.in_ok-child.child c.args.moves c.new-none.result.vectors c.cards.self.rules found) c.in-Exact.is c.in_ok-won.ensures.answer in
-    theirs_width c.args.question.now.node.now c.args.moves c.cards.invariant.so (taken_first _ _ _ c.in-Some.ensures.value) c.in_ok-child.ensures.node c.in-Exact.won c.in_ok-child.mask c.in_ok-child.ensures.mask answer
+    theirs_width c.args.question.now.node.now c.args.moves c.cards.invariant.so c.in-Some.ensures.taken c.in_ok-child.ensures.node c.in-Exact.won c.in_ok-child.mask c.in_ok-child.ensures.mask answer
 
 pub at_defender-add-requires-clause-not_empty : goal.at_defender-add-requires-clause-not_empty
 at_defender-add-requires-clause-not_empty g t c =
     let answer = subst (λ found. IsAnswer c.in_ok-child.child c.args.moves c.new-none.result.vectors c.cards.self.rules found) c.in-Exact.is c.in_ok-won.ensures.answer in
-    theirs_filled c.args.question.now.node.now c.args.moves c.cards.invariant.so (taken_first _ _ _ c.in-Some.ensures.value) c.in_ok-child.ensures.node c.in-Exact.won c.width.ensures.a_node answer
+    theirs_filled c.args.question.now.node.now c.args.moves c.cards.invariant.so c.in-Some.ensures.taken c.in_ok-child.ensures.node c.in-Exact.won c.width.ensures.a_node answer
 
 pub at_defender-returns-in_err-won-clause-same : goal.at_defender-returns-in_err-won-clause-same
 at_defender-returns-in_err-won-clause-same g t c = same_more g.met.S.FrontStore.grown_more c.cards.invariant.same c.in_err-won.ensures.same
@@ -168,21 +168,21 @@ at_defender-returns-in_err-add-clause-same g t c = same_more g.met.S.FrontStore.
 pub at_defender-returns-in_err-add-clause-costs : goal.at_defender-returns-in_err-add-clause-costs
 at_defender-returns-in_err-add-clause-costs g t c =
     let size = size_theirs c.args.question.now.node.now c.args.moves c.width.ensures.a_node c.requires.goes_on c.requires.theirs in
-    let paid = paid_more (EntersEach c.args.self.now.rules g.S.FrontStore.blind) c.args.question.now.node.now c.args.moves c.cards.invariant.paid (taken_first _ _ _ c.in-Some.ensures.value) c.in_ok-child.ensures.node c.in_ok-won.field-0 (costs_by c.cards.invariant.same.rules c.in_ok-won.ensures.costs) in
+    let paid = paid_more (EntersEach c.args.self.now.rules g.S.FrontStore.blind) c.args.question.now.node.now c.args.moves c.cards.invariant.paid c.in-Some.ensures.taken c.in_ok-child.ensures.node c.in_ok-won.field-0 (costs_by c.cards.invariant.same.rules c.in_ok-won.ensures.costs) in
     paid_memory (EntersEach c.args.self.now.rules g.S.FrontStore.blind) c.args.question.now.node.now c.args.moves paid c.args.moves size c.from_residual-in_err-add.result c.from_residual-in_err-add.ensures.1
 
 pub at_defender-returns-then-cut-clause-answer : goal.at_defender-returns-then-cut-clause-answer
 at_defender-returns-then-cut-clause-answer g t c =
     let same = same_more g.met.S.FrontStore.grown_more c.cards.invariant.same c.in_ok-won.ensures.same in
     let answer = subst (λ found. IsAnswer c.in_ok-child.child c.args.moves c.new-none.result.vectors c.cards.self.rules found) c.in-Exact.is c.in_ok-won.ensures.answer in
-    let so = theirs_more c.args.question.now.node.now c.args.moves c.cards.invariant.so (taken_first _ _ _ c.in-Some.ensures.value) c.in_ok-child.ensures.node c.add.new.self c.in-Exact.won c.in_ok-child.mask c.width.ensures.a_node c.in_ok-child.ensures.mask answer c.in_ok-add.ensures.front c.in_ok-add.ensures.width c.in_ok-add.ensures.covered in
+    let so = theirs_more c.args.question.now.node.now c.args.moves c.cards.invariant.so c.in-Some.ensures.taken c.in_ok-child.ensures.node c.add.new.self c.in-Exact.won c.in_ok-child.mask c.width.ensures.a_node c.in_ok-child.ensures.mask answer c.in_ok-add.ensures.front c.in_ok-add.ensures.width c.in_ok-add.ensures.covered in
     (theirs_cut c.args.question.now.node.now c.args.moves so c.args.question.now.alpha.now.vectors c.width.ensures.a_node c.requires.goes_on c.requires.theirs (subst (λ (f : FrontValue). CoversAll c.args.question.now.alpha.now.vectors f.vectors) c.optimistic.ensures.front (c.cut.ensures.0 c.if-cut.true)), cuts_early c.args.self.now.rules (still_early same c.if-self.true))
 
 pub at_defender-returns-then-cut-clause-costs : goal.at_defender-returns-then-cut-clause-costs
 at_defender-returns-then-cut-clause-costs g t c =
     let same = same_more g.met.S.FrontStore.grown_more c.cards.invariant.same c.in_ok-won.ensures.same in
     let size = size_theirs c.args.question.now.node.now c.args.moves c.width.ensures.a_node c.requires.goes_on c.requires.theirs in
-    let paid = paid_more (EntersEach c.args.self.now.rules g.S.FrontStore.blind) c.args.question.now.node.now c.args.moves c.cards.invariant.paid (taken_first _ _ _ c.in-Some.ensures.value) c.in_ok-child.ensures.node c.in_ok-won.field-0 (costs_by c.cards.invariant.same.rules c.in_ok-won.ensures.costs) in
+    let paid = paid_more (EntersEach c.args.self.now.rules g.S.FrontStore.blind) c.args.question.now.node.now c.args.moves c.cards.invariant.paid c.in-Some.ensures.taken c.in_ok-child.ensures.node c.in_ok-won.field-0 (costs_by c.cards.invariant.same.rules c.in_ok-won.ensures.costs) in
     paid_all (EntersEach c.args.self.now.rules g.S.FrontStore.blind) c.args.question.now.node.now c.args.moves paid c.args.moves size _ (λ each. absurd (cuts_early c.args.self.now.rules (still_early same c.if-self.true) each.0))
 
 pub at_defender-returns-then-cut-clause-same : goal.at_defender-returns-then-cut-clause-same
@@ -192,24 +192,24 @@ pub at_defender-cards-preserved : goal.at_defender-cards-preserved
 at_defender-cards-preserved g t c =
     let answer = subst (λ found. IsAnswer c.in_ok-child.child c.args.moves c.new-none.result.vectors c.cards.self.rules found) c.in-Exact.is c.in_ok-won.ensures.answer in
     record {
-      so = theirs_more c.args.question.now.node.now c.args.moves c.cards.invariant.so (taken_first _ _ _ c.in-Some.ensures.value) c.in_ok-child.ensures.node c.add.new.self c.in-Exact.won c.in_ok-child.mask c.width.ensures.a_node c.in_ok-child.ensures.mask answer c.in_ok-add.ensures.front c.in_ok-add.ensures.width c.in_ok-add.ensures.covered;
-      paid = paid_more (EntersEach c.args.self.now.rules g.S.FrontStore.blind) c.args.question.now.node.now c.args.moves c.cards.invariant.paid (taken_first _ _ _ c.in-Some.ensures.value) c.in_ok-child.ensures.node c.in_ok-won.field-0 (costs_by c.cards.invariant.same.rules c.in_ok-won.ensures.costs);
+      so = theirs_more c.args.question.now.node.now c.args.moves c.cards.invariant.so c.in-Some.ensures.taken c.in_ok-child.ensures.node c.add.new.self c.in-Exact.won c.in_ok-child.mask c.width.ensures.a_node c.in_ok-child.ensures.mask answer c.in_ok-add.ensures.front c.in_ok-add.ensures.width c.in_ok-add.ensures.covered;
+      paid = paid_more (EntersEach c.args.self.now.rules g.S.FrontStore.blind) c.args.question.now.node.now c.args.moves c.cards.invariant.paid c.in-Some.ensures.taken c.in_ok-child.ensures.node c.in_ok-won.field-0 (costs_by c.cards.invariant.same.rules c.in_ok-won.ensures.costs);
       same = same_more g.met.S.FrontStore.grown_more c.cards.invariant.same c.in_ok-won.ensures.same;
     }
 
 pub at_defender-finish-requires : goal.at_defender-finish-requires
 at_defender-finish-requires g t c =
-    theirs_covered c.args.question.now.node.now c.args.moves c.cards.invariant.so c.in_default.ensures.value.0 c.width.ensures.a_node c.requires.goes_on
+    theirs_covered c.args.question.now.node.now c.args.moves c.cards.invariant.so c.in_default.ensures.taken.0 c.width.ensures.a_node c.requires.goes_on
 
 pub at_defender-returns-clause-answer : goal.at_defender-returns-clause-answer
 at_defender-returns-clause-answer g t c =
     subst (λ front. IsFrontAt c.args.question.now.node.now c.args.moves front) (sym c.finish.ensures.value)
-    (theirs_all c.args.question.now.node.now c.args.moves c.cards.invariant.so c.in_default.ensures.value.0 c.width.ensures.a_node c.requires.goes_on c.requires.theirs)
+    (theirs_all c.args.question.now.node.now c.args.moves c.cards.invariant.so c.in_default.ensures.taken.0 c.width.ensures.a_node c.requires.goes_on c.requires.theirs)
 
 pub at_defender-returns-clause-costs : goal.at_defender-returns-clause-costs
 at_defender-returns-clause-costs g t c =
     let size = size_theirs c.args.question.now.node.now c.args.moves c.width.ensures.a_node c.requires.goes_on c.requires.theirs in
-    paid_all (EntersEach c.args.self.now.rules g.S.FrontStore.blind) c.args.question.now.node.now c.args.moves c.cards.invariant.paid c.args.moves size _ (λ each. c.in_default.ensures.value.0)
+    paid_all (EntersEach c.args.self.now.rules g.S.FrontStore.blind) c.args.question.now.node.now c.args.moves c.cards.invariant.paid c.args.moves size _ (λ each. c.in_default.ensures.taken.0)
 
 -- ---- the layouts that are made
 
@@ -297,3 +297,9 @@ pub visit-returns-then-stops-clause-costs : goal.visit-returns-then-stops-clause
 visit-returns-then-stops-clause-costs g t c =
     costs_one (EntersEach c.args.self.now.rules g.S.FrontStore.blind) (tree_size bridge c.args.node c.args.moves) c.args.self.now.budget.now.left c.enter.new.self.left c.in_ok-leaf.field-0
     (λ each. sizes.at_stop c.args.node c.args.moves (stopped c.args.node c.args.moves (sym c.stops.ensures ∙ c.if-stops.true))) (tree_size-positive c.args.node c.args.moves) c.in_ok-enter.ensures.paid
+
+pub visit-returns-then-is_late-clause-costs : goal.visit-returns-then-is_late-clause-costs
+visit-returns-then-is_late-clause-costs g t c =
+    let some = tree_size-positive c.args.node c.args.moves in
+    let paid = c.in_ok-enter.ensures.paid in
+    costs_memory (EntersEach c.args.self.now.rules g.S.FrontStore.blind) (tree_size bridge c.args.node c.args.moves) c.args.self.now.budget.now.left c.enter.new.self.left (Err Memory) refl (omega arith) (omega arith)
