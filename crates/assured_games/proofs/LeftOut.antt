@@ -73,19 +73,15 @@ module _ {N S C : Type 0} (g : Game N S C) (sure : N → Bool) (Sound : N → Ty
 
   -- ---- lines
 
+  -- a claim at a node is one at a node that is decided and sure if the first is
+  claim_at : (a b : N) (m : ℕ) → g.is_decided b ≡ g.is_decided a → sure b ≡ sure a → IsLine g sure Claim a m → IsLine g sure Claim b m
+  claim_at a b m decided surely fit = ⊎_elim (λ (over : g.is_decided a ≡ true). inl (decided ∙ over)) (λ (is : sure a ≡ true). inr (surely ∙ is)) fit
+
   -- a line of the whole node is one of the part, without the branches for cards that aren't legal there
   narrowed_within : (left : ℕ) (p : Line S C) (k n : N) (m : ℕ) → g.cards_left n < left → Sound k → Sound n → R k n → IsLine g sure p n m
       → (q : Line S C) × Keeps (Secures g p) k k m q
   narrowed_within zero p k n m low sound whole r fit = absurd (omega arith)
-  narrowed_within (suc left) Claim k n m low sound whole r fit = (
-    Claim,
-    (
-      ⊎_elim
-          (λ (over : g.is_decided n ≡ true). inl (out.decided k n r ∙ over))
-          (λ (is : sure n ≡ true). inr (out.is_sure k n r ∙ is)) fit,
-      λ s among h. h,
-    ),
-  )
+  narrowed_within (suc left) Claim k n m low sound whole r fit = (Claim, (claim_at n k m (out.decided k n r) (out.is_sure k n r) fit, λ s among h. h))
   narrowed_within (suc left) (PlayFor t) k n zero low sound whole r fit = (PlayFor t, (tt, λ s among h. h))
   narrowed_within (suc left) (PlayFor t) k n (suc m) low sound whole r fit = absurd fit
   narrowed_within (suc left) (Move c p) k n zero low sound whole r fit = absurd fit
@@ -113,15 +109,7 @@ module _ {N S C : Type 0} (g : Game N S C) (sure : N → Bool) (Sound : N → Ty
     widened_within : (left : ℕ) (p : Line S C) (k n : N) (m : ℕ) → g.cards_left n < left → Sound k → Sound n → R k n → IsLine g sure p k m
         → (q : Line S C) × Keeps (Secures g p) k n m q
     widened_within zero p k n m low sound whole r fit = absurd (omega arith)
-    widened_within (suc left) Claim k n m low sound whole r fit = (
-      Claim,
-      (
-        ⊎_elim
-            (λ (over : g.is_decided k ≡ true). inl (sym (out.decided k n r) ∙ over))
-            (λ (is : sure k ≡ true). inr (sym (out.is_sure k n r) ∙ is)) fit,
-        λ s among h. h,
-      ),
-    )
+    widened_within (suc left) Claim k n m low sound whole r fit = (Claim, (claim_at k n m (sym (out.decided k n r)) (sym (out.is_sure k n r)) fit, λ s among h. h))
     widened_within (suc left) (PlayFor t) k n zero low sound whole r fit = (PlayFor t, (tt, λ s among h. h))
     widened_within (suc left) (PlayFor t) k n (suc m) low sound whole r fit = absurd fit
     widened_within (suc left) (Move c p) k n zero low sound whole r fit = absurd fit

@@ -72,9 +72,30 @@ module _ {N S C : Type 0} (g : Game N S C) (sure : N → Bool) (Sound : N → Ty
     each_won n q all s k = Dominates-of_map (λ s. wins g q s) (λ s. true) (g.states n)
         (subst (λ z. Dominates (wins_vector g q n) z) (all ∙ replicate-map true (g.states n)) (Dominates-refl (wins_vector g q n))) s k refl
 
+    -- a plan that wins each layout that a line secures
+    abbrev pub PlanFor : Line S C → N → ℕ → Type 0
+    PlanFor p n m = (q : Plan C) × Fits g q n m × ((s : S) → Contains (g.states n) s → Secures g p s → wins g q s ≡ true)
+
+    -- the same reply by reply
+    abbrev pub RepliesFor : Branches S C → N → ℕ → Type 0
+    RepliesFor bs n m = (rs : Replies C) × (plans.cards_of rs ≡ cards_of bs) × FitEach g rs n m × ((s : S) → Contains (g.states n) s → SecureEach g bs s → wins g (Hear rs) s ≡ true)
+
+    -- a plan after a card, before the replies to other cards
+    reply_first : (n : N) (m : ℕ) (c : C) (p : Line S C) (bs : Branches S C) → Sound n → Contains (g.choices n) c → PlanFor p (g.child n c) m → RepliesFor bs n m → RepliesFor (Branch c p bs) n m
+    reply_first n m c p bs sound choice r o = (
+      Reply c r.0 o.0,
+      ap (λ (l : List C). c ∷ l) o.1,
+      (r.1, o.2),
+      λ s k h. wins-first g c r.0 o.0 s ∙ and_from (lets g c r.0 s) (wins g (Hear o.0) s)
+          (⊎_elim
+          (λ (legal : g.is_legal c s ≡ true). cond-true (g.is_legal c s) (wins g r.0 (g.after c s)) true legal ∙ r.2 (g.after c s) (Contains-after g Sound law n c s sound choice k legal) (h.0 legal))
+          (λ (not_legal : g.is_legal c s ≡ false). cond-false (g.is_legal c s) (wins g r.0 (g.after c s)) true not_legal)
+          (cases_Bool (g.is_legal c s)))
+          (o.3 s k h.1),
+    )
+
     mutual
-      pub as_plan : (p : Line S C) (n : N) (m : ℕ) → Sound n → IsLine g sure p n m
-          → (q : Plan C) × Fits g q n m × ((s : S) → Contains (g.states n) s → Secures g p s → wins g q s ≡ true)
+      pub as_plan : (p : Line S C) (n : N) (m : ℕ) → Sound n → IsLine g sure p n m → PlanFor p n m
       as_plan Claim n m sound (inl over) = (Stop, stops-decided g n m over, λ s k h. wins-stop g s ∙ h)
       as_plan Claim n m sound (inr is) = let w = sure_of n m sound is in (w.0, w.1, λ s k h. each_won n w.0 w.2 s k)
       as_plan (PlayFor t) n zero sound fit = (Stop, refl, λ s k h. wins-stop g s ∙ h.1)
@@ -87,23 +108,11 @@ module _ {N S C : Type 0} (g : Game N S C) (sure : N → Bool) (Sound : N → Ty
           let r = as_replies bs n m sound (λ d l. subst (λ (x : List C). Contains x d) fit.2 l) fit.3 in
           (Hear r.0, (fit.0, fit.1, r.1 ∙ fit.2, r.2), r.3)
 
-      as_replies : (bs : Branches S C) (n : N) (m : ℕ) → Sound n → ((c : C) → Contains (cards_of bs) c → Contains (g.choices n) c) → AreLines g sure bs n m
-          → (rs : Replies C) × (plans.cards_of rs ≡ cards_of bs) × FitEach g rs n m × ((s : S) → Contains (g.states n) s → SecureEach g bs s → wins g (Hear rs) s ≡ true)
+      as_replies : (bs : Branches S C) (n : N) (m : ℕ) → Sound n → ((c : C) → Contains (cards_of bs) c → Contains (g.choices n) c) → AreLines g sure bs n m → RepliesFor bs n m
       as_replies NoBranch n m sound within fit = (NoReply, refl, tt, λ s k h. refl)
       as_replies (Branch c p bs) n m sound within fit =
           let choice : Contains (g.choices n) c = within c (Contains-here c (cards_of bs)) in
-          let r = as_plan p (g.child n c) m (law.holds n c sound choice) fit.0 in
-          let o = as_replies bs n m sound (λ x l. within x (Contains-there c (cards_of bs) x l)) fit.1 in (
-            Reply c r.0 o.0,
-            ap (λ (l : List C). c ∷ l) o.1,
-            (r.1, o.2),
-            λ s k h. wins-first g c r.0 o.0 s ∙ and_from (lets g c r.0 s) (wins g (Hear o.0) s)
-                (⊎_elim
-                (λ (legal : g.is_legal c s ≡ true). cond-true (g.is_legal c s) (wins g r.0 (g.after c s)) true legal ∙ r.2 (g.after c s) (Contains-after g Sound law n c s sound choice k legal) (h.0 legal))
-                (λ (not_legal : g.is_legal c s ≡ false). cond-false (g.is_legal c s) (wins g r.0 (g.after c s)) true not_legal)
-                (cases_Bool (g.is_legal c s)))
-                (o.3 s k h.1),
-          )
+          reply_first n m c p bs sound choice (as_plan p (g.child n c) m (law.holds n c sound choice) fit.0) (as_replies bs n m sound (λ x l. within x (Contains-there c (cards_of bs) x l)) fit.1)
 
   -- ---- a line for one layout, by double dummy
 

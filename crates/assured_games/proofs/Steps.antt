@@ -180,13 +180,4 @@ module _ {N S C : Type 0} (g : Game N S C) (sure : N → Bool) where
           (λ v a. made n m v sound a)
 
       pub assured_steps : HasAssuredSteps g sure Sound
-      assured_steps = record {
-        claimed = claimed;
-        open_stop = open_stop;
-        no_card = no_card;
-        more_cards = more_cards;
-        all_cards = all_cards;
-        no_reply = no_reply;
-        more_replies = more_replies;
-        all_replies = all_replies;
-      }
+      assured_steps = record { claimed = claimed; open_stop = open_stop; no_card = no_card; more_cards = more_cards; all_cards = all_cards; no_reply = no_reply; more_replies = more_replies; all_replies = all_replies }

@@ -1,7 +1,7 @@
 //! A front that is proved to be the front of its node.
 ghost use Rattle.std.specs.Prelude.{◌≡◌};
 ghost use Rattle.pareto_fronts.specs.FrontValue.{IsSoundFront};
-ghost use Rattle.front_table.specs.Proven.{IsFrontAt};
+ghost use Rattle.front_table.specs.Proven.{IsFrontAt, ProvenFrontValue};
 
 use pareto_fronts::Front;
 use std::marker::Model;
@@ -16,15 +16,9 @@ pub struct ProvenFront {
 }
 
 impl Model for ProvenFront {
-    ghost use Rattle.front_table.specs.Proven.{ProvenFrontValue, IsFrontAt};
-
     ghost Value = { ProvenFrontValue };
 
-    ghost view = { λ proven. record {
-      node = proven.node;
-      moves = proven.moves;
-      front = proven.front;
-    } };
+    ghost view = { λ p. record { node = p.node; moves = p.moves; front = p.front } };
 
     ghost invariant = { λ proven. IsFrontAt proven.node proven.moves proven.front };
 }

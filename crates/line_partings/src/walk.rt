@@ -2,7 +2,7 @@
 ghost use Rattle.std.specs.Prelude.{IfOk};
 ghost use Rattle.strategy_games.specs.Plans.{Hear};
 ghost use Rattle.strategy_tree.specs.PlanMeaning.{plan_of, replies_of};
-ghost use Rattle.line_partings.specs.Partings.{FitOneNode, IsWhereTheyPart};
+ghost use Rattle.line_partings.specs.Partings.{FitOneNode, IsWhereTheyPart, PartingValue};
 
 use crate::nearest::{after_card, nearer};
 use card_sets::Card;
@@ -22,15 +22,9 @@ pub struct Parting {
 }
 
 impl Model for Parting {
-    ghost use Rattle.line_partings.specs.Partings.{PartingValue};
-
     ghost Value = { PartingValue };
 
-    ghost view = { λ parting. record {
-      history = parting.history.items;
-      card = parting.card;
-      other = parting.other;
-    } };
+    ghost view = { λ p. record { history = p.history.items; card = p.card; other = p.other } };
 }
 
 /// Where two strategies first part that fit one node with as many moves: after the fewest cards,
