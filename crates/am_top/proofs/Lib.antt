@@ -4,5 +4,4 @@ pub mod InFront
 pub mod MadeAccepted
 pub mod OneOrder
 pub mod Reporting
-pub mod SolvedGood
 pub mod Steps

@@ -1,16 +1,15 @@
 -- What a report says, and that it is the only one.
-use Rattle.std.proofs.Common.{◌≡◌, ◌≤◌, ℕ, zero, suc, List, [], ◌∷◌, Result, Ok, Err, length, map, All, Contains, refl, sym, ap, ap₂, subst, ◌∙◌}
+use Rattle.std.proofs.Common.{◌≡◌, ◌≤◌, ℕ, zero, suc, List, [], ◌∷◌, Result, Ok, Err, length, map, All, refl, sym, ap, ap₂, subst, ◌∙◌}
 use Rattle.std.specs.List.{AllZip}
 use Rattle.std.proofs.lemmas.List.Elements.{All-contains, All-tail}
-use Rattle.std.proofs.lemmas.List.Sorted.{Contains-permutation, IsPermutation-sym}
+use Rattle.std.proofs.lemmas.List.Sorted.{Contains-permutation}
 use Rattle.win_vectors.specs.Weights.{weight_of}
 use Rattle.win_vectors.specs.Fronts.{Vector, Covers}
-use Rattle.win_vectors.proofs.Orders.{Dominates-refl}
 use Rattle.trick_rules.specs.Nodes.{NodeValue, IsNode}
 use Rattle.strategy_games.specs.Plans.{Plan, Fits, wins_vector}
 use Rattle.strategy_games.specs.Choosing.{IsChosenPlan, IsNamedCard, IsNamedByWeight, IsBestWeight}
 use Rattle.strategy_games.specs.Laws.{HasBestWeight}
-use Rattle.strategy_games.proofs.Lists.{Contains-map, Contains-here}
+use Rattle.strategy_games.proofs.Lists.{Contains-here}
 use Rattle.strategy_games.proofs.WeightedChoice as theory_of_weights
 use Rattle.strategy_tree.specs.Bridge.{bridge}
 use Rattle.strategy_tree.proofs.BridgeLaws as laws
@@ -34,26 +33,11 @@ use Rattle.am_top.proofs.OneOrder.{one_reported_front}
 
 -- ---- what is printed
 
-module _ (n : NodeValue) (weights : List ℕ) (moves : ℕ) (found : SolveAnswerValue) (is : IsSolveAnswer n weights moves found) where
-  -- a vector that is printed is of the front
-  of_front : (vector : Vector) → Contains (map (λ e. e.vector) found.entries) vector → Contains is.vectors.front vector
-  of_front vector member =
-      let vectors = map (λ e. e.vector) found.entries in
-      Contains-permutation vectors is.vectors.front vector (IsPermutation-sym is.vectors.front vectors is.vectors.same) member
-
-  -- and the other way round
-  covered : (vector : Vector) → Covers is.vectors.front vector → Covers (map (λ e. e.vector) found.entries) vector
-  covered vector (above, member, dominates) =
-      (above, Contains-permutation is.vectors.front (map (λ e. e.vector) found.entries) above is.vectors.same member, dominates)
-
-pub plan-wins : (n : NodeValue) (weights : List ℕ) (moves : ℕ) (found : SolveAnswerValue) (entry : EntryValue) → IsNode n → IsSolveAnswer n weights moves found → Contains found.entries entry
-    → Fits bridge entry.plan n moves × (wins_vector bridge entry.plan n ≡ entry.vector)
-plan-wins n weights moves found entry node is member =
-    let front = is.vectors.front in
-    let inside : Contains front entry.vector = of_front n weights moves found is entry.vector (Contains-map (λ e. e.vector) found.entries entry member) in
-    let chosen = All-contains (λ e. IsChosenPlan bridge e.plan n moves e.vector) found.entries entry is.plans member in
-    let wins = laws.chosen_plan.wins entry.plan n moves entry.vector front node is.vectors.is_front (entry.vector, inside, Dominates-refl entry.vector) chosen in
-    (wins.0, is.vectors.is_front.apart (wins_vector bridge entry.plan n) entry.vector wins.1.member inside wins.1.above)
+-- a vector that one of the front dominates is dominated by one that is printed
+covered : (n : NodeValue) (weights : List ℕ) (moves : ℕ) (found : SolveAnswerValue) (is : IsSolveAnswer n weights moves found) (vector : Vector)
+    → Covers is.vectors.front vector → Covers (map (λ e. e.vector) found.entries) vector
+covered n weights moves found is vector (above, member, dominates) =
+    (above, Contains-permutation is.vectors.front (map (λ e. e.vector) found.entries) above is.vectors.same member, dominates)
 
 pub vectors-cover : (n : NodeValue) (weights : List ℕ) (moves : ℕ) (found : SolveAnswerValue) (plan : Plan ℕ) → IsSolveAnswer n weights moves found → Fits bridge plan n moves
     → Covers (map (λ e. e.vector) found.entries) (wins_vector bridge plan n)

@@ -1,24 +1,20 @@
 //! What a report says, in the words of the game. A call does nothing: its contract is the law.
-ghost use Rattle.std.specs.Prelude.{◌≡◌, ◌≤◌, ◌<◌, ◌^◌, ℕ, Bool, true, List, Some, Ok, Result};
-ghost use Rattle.std.specs.Prelude.{length, map, All, Contains};
-ghost use Rattle.win_vectors.specs.Weights.{weight_of, IsWeight};
+ghost use Rattle.std.specs.Prelude.{◌≡◌, ◌≤◌, ℕ, Bool, true, List, Some, Ok, Result, map, Contains};
+ghost use Rattle.win_vectors.specs.Weights.{weight_of};
 ghost use Rattle.win_vectors.specs.Fronts.{Covers};
-ghost use Rattle.trick_rules.specs.Nodes.{NodeValue, IsNode, most_moves};
+ghost use Rattle.trick_rules.specs.Nodes.{NodeValue, IsNode};
 ghost use Rattle.strategy_games.specs.Plans.{Plan, Fits, wins_vector};
 ghost use Rattle.strategy_tree.specs.Bridge.{bridge};
 ghost use Rattle.am_outside.specs.Shelf.{Files};
 ghost use Rattle.job_words.specs.declared.asks.Search.{Search};
 ghost use Rattle.job_words.specs.declared.asks.Ask.TheVariants.{Made};
 ghost use Rattle.job_words.specs.Words.{words_read};
-ghost use Rattle.layout_list.specs.Lines.{most_listed};
 ghost use Rattle.am_report.specs.Answers.{SolveAnswerValue, EntryValue};
-ghost use Rattle.am_report.specs.Solve.{solve_text};
 ghost use Rattle.am_answer.specs.declared.root.Root.{Root};
 ghost use Rattle.am_answer.specs.declared.status.Status.{Status};
 ghost use Rattle.am_answer.specs.Tasks.{Playing, Solve, Card, Prove, Boards};
 ghost use Rattle.am_answer.specs.Tasks as tasks;
 ghost use Rattle.am_answer.specs.Answers.{answer};
-ghost use Rattle.am_answer.specs.Judging.{plans_in};
 ghost use Rattle.am_answer.specs.Matches.{IsPlayed};
 ghost use Rattle.am_match.specs.Defences.{Sitter};
 ghost use Rattle.am_answer.specs.Reports.{IsSolveAnswer, IsText};
@@ -81,15 +77,4 @@ pub fn made_problems_are_accepted()
     ensures { (words : List (List ℕ)) (files : Files) (number : ℕ) (search : Search)
         → words_read words ≡ Some (Made number search)
         → (root : Root) × (answer words files ≡ Ok (tasks.Made number root search)) }
-{}
-
-/// What is written for `solve` is found good by `check`, for every root with no more layouts than
-/// a file may have, each with its weight, and every number of moves.
-pub fn solved_reports_are_good()
-    ensures { (root : Root) (moves : ℕ) (found : SolveAnswerValue) → IsNode root.kept.node
-        → length root.kept.node.lefts ≤ most_listed
-        → length root.kept.weights ≡ length root.kept.node.lefts
-        → All IsWeight root.kept.weights → 1 ≤ moves → moves ≤ most_moves
-        → IsSolveAnswer root.kept.node root.kept.weights moves found → length found.entries < 2 ^ 32
-        → plans_in root (solve_text root.board root.kept moves found) ≡ Ok (length found.entries) }
 {}

@@ -1,2 +1,4 @@
 pub mod Judged
 pub mod ReadEntries
+pub mod PrintedPlans
+pub mod SolvedGood

@@ -5,5 +5,6 @@
 #![tactic(auto)]
 
 mod judge;
+pub mod laws;
 
 pub use judge::{check_report, check_report_by, has_head};

@@ -1,2 +1,4 @@
 pub mod RootBoard
+pub mod RootWeights
 pub mod AskedFor
+pub mod SolvedTold

@@ -116,12 +116,19 @@ IsTextOfReport (Some Lines) deal root report known text = IsLinesReport deal roo
 IsTextOfReport (Some Page) deal root report known text = IsPage deal root report known text
 IsTextOfReport job deal root report known text = ⊥
 
+-- why a job that takes no report tells nothing of one
+abbrev pub TakesNoReport : Option StudyJob → Status → Type 0
+TakesNoReport (Some Words) status = ⊥
+TakesNoReport (Some Lines) status = ⊥
+TakesNoReport (Some Page) status = ⊥
+TakesNoReport job status = status ≡ BadWords
+
 -- why it tells nothing of it: `check` refuses the report; any other job takes none
 abbrev pub IsReportRefusal : Option StudyJob → Root → List ℕ → Status → Type 0
 IsReportRefusal (Some Words) root report status = IsFileRefusal (task_at root (jobs.Check report)) status
 IsReportRefusal (Some Lines) root report status = IsFileRefusal (task_at root (jobs.Check report)) status
 IsReportRefusal (Some Page) root report status = IsFileRefusal (task_at root (jobs.Check report)) status
-IsReportRefusal job root report status = status ≡ BadWords
+IsReportRefusal job root report status = TakesNoReport job status
 
 -- how many moves a page plans to judge each card: at most four, and one if there are more than 40 layouts
 abbrev pub table_moves : Root → ℕ → ℕ
@@ -143,10 +150,11 @@ abbrev pub IsTextOfSearch : Option StudyJob → List ℕ → Root → ℕ → Se
 IsTextOfSearch job deal root moves search text = (report : List ℕ) × (known : Option CardTable)
     × IsSolvedReport root moves search report × AreCardsFor job root moves known × IsTextOfReport job deal root report known text
 
--- why it tells nothing of it: there is none, the tree of a card is too large, or the report is refused
+-- why it tells nothing of it: there is none, or the tree of a card is too large; any other job takes none. What `solve` gives,
+-- `check` never refuses
 abbrev pub IsSearchRefusal : Option StudyJob → Root → ℕ → Search → Status → Type 0
 IsSearchRefusal job root moves search status = IsUnsolved root moves search status ⊎ AreCardsRefused job root moves search status
-    ⊎ ((report : List ℕ) × IsSolvedReport root moves search report × IsReportRefusal job root report status)
+    ⊎ TakesNoReport job status
 
 -- what a study's job tells of what was read; only `cards` and `review` have forms, and only `review` begins with a trick
 abbrev pub IsTextOf : Option StudyJob → Form → ℕ → InputsValue → List ℕ → Type 0

@@ -1,9 +1,10 @@
 //! The call that the program makes.
 ghost use Rattle.std.specs.Prelude.{◌≡◌, ◌≢◌, ◌<◌, ◌-◌, ◌^◌, Ok, IfOk, IfErr, IfSome, IsErrOf, List, ℕ};
-ghost use Rattle.std.specs.Prelude.{length, option_copied};
+ghost use Rattle.std.specs.Prelude.{length, option_copied, All};
 ghost use Rattle.std.specs.Io.KnownBytes.{append_known};
 ghost use Rattle.am_outside.specs.Faults.{Rose};
 ghost use Rattle.am_outside.specs.Sink.{AppendsPart};
+ghost use Rattle.win_vectors.specs.Weights.{IsWeight};
 ghost use Rattle.job_words.specs.Asks.{texts_of, IsMoves, IsSearchWithinLimits};
 ghost use Rattle.job_words.specs.declared.asks.Ask.TheVariants.{OnLayouts};
 ghost use Rattle.am_answer.specs.Answers.{IsRoot, board_in};
@@ -99,7 +100,7 @@ fn text_of(
     }
 }
 
-// The same of the report that `solve` gives.
+// The same of the report that `solve` gives, which is never refused.
 fn text_by_search<R: Threads + Sync>(
     rt: &R,
     alloc: Global,
@@ -111,6 +112,7 @@ fn text_by_search<R: Threads + Sync>(
 ) -> Result<Text, Status>
     requires board { board_in deal.now ≡ Ok root.now.board }
     requires root { IsRoot root.now }
+    requires weights { All IsWeight root.now.kept.weights }
     requires deal_short { length deal.now < 2 ^ 32 - 1 }
     requires moves { IsMoves moves }
     requires limits { IsSearchWithinLimits search.now }
@@ -119,6 +121,7 @@ fn text_by_search<R: Threads + Sync>(
 {
     let report = solved_report(rt, alloc, root, moves, search)?;
     let cards = cards_for(alloc, job, root, moves, search)?;
+    prove!(root.kept.node.width() > 0);
     text_of(alloc, job, deal, root, &report, cards.as_ref())
 }
 
@@ -223,8 +226,9 @@ fn text_for<R: Threads + Sync, S: Shelf>(
 
 /// Tells the strategies of a report or shows it as a page, puts every legal card side by side, or
 /// goes through every decision of a played board. The words are those of `check`, except that the
-/// job is `words`, `lines` or `page`, and the report is refused as `check` refuses it; or those of
-/// `card`, except that the job is `cards` or `review`. With these two, `--form` may stand before
+/// job is `words`, `lines` or `page`, and the report is refused as `check` refuses it; or with
+/// `--moves` those of `solve`, whose report is never refused; or those of `card`, except that the
+/// job is `cards` or `review`. With these two, `--form` may stand before
 /// the form, `text`, `csv` or `json`; with `review`, `--from` before the trick to begin with, 1 to
 /// 13. Such an option and its value may also be one word, joined by `=`. With `review`, `--games`
 /// may stand among the words, which are then those of `boards`: every game of the deal file is

@@ -2,6 +2,7 @@ use Rattle.std.proofs.Common.{inl, inr}
 use Rattle.std.proofs.lemmas.Result.{IfErr-weaker}
 use Rattle.am_answer.proofs.Passed.{refused_by}
 use Rattle.study_top.specs.Study.{IsSearchRefusal}
+use Rattle.study_top.proofs.SolvedTold.{never_refused}
 use Rattle.study_top.proofs.program.text_by_search.Goals as goal
 
 pub returns-in_err-cards-clause-refused : goal.returns-in_err-cards-clause-refused
@@ -11,4 +12,6 @@ returns-in_err-cards-clause-refused g c =
 
 pub returns-clause-refused : goal.returns-clause-refused
 returns-clause-refused g c =
-    IfErr-weaker c.text_of.result _ _ (λ status refused. inr (inr (_, c.in_ok-report.ensures.text, refused))) c.text_of.ensures.refused
+    IfErr-weaker c.text_of.result _ _
+    (never_refused c.args.root.now c.args.moves c.args.search.now c.width.ensures.a_node c.requires.root c.requires.weights c.requires.moves c.in_ok-report.report c.in_ok-report.ensures.text c.args.job)
+    c.text_of.ensures.refused

@@ -1,6 +1,7 @@
 use Rattle.std.proofs.Common.{inr}
 use Rattle.std.proofs.lemmas.Result.{IfErr-weaker}
 use Rattle.study_top.proofs.RootBoard.{board_of_root}
+use Rattle.study_top.proofs.RootWeights.{weights_of_root}
 use Rattle.study_top.proofs.program.text_on.Goals as goal
 
 pub text_of-requires-clause-board : goal.text_of-requires-clause-board
@@ -10,6 +11,10 @@ text_of-requires-clause-board g c =
 pub text_by_search-requires-clause-board : goal.text_by_search-requires-clause-board
 text_by_search-requires-clause-board g c = λ κs lives.
     board_of_root c.args.deal.now c.args.layouts.now c.in_ok-root-in_default-Solve.root c.in_ok-root-in_default-Solve.ensures.root
+
+pub text_by_search-requires-clause-weights : goal.text_by_search-requires-clause-weights
+text_by_search-requires-clause-weights g c = λ κs lives.
+    weights_of_root c.args.deal.now c.args.layouts.now c.in_ok-root-in_default-Solve.root c.in_ok-root-in_default-Solve.ensures.root
 
 pub returns-in_ok-root-in_default-Solve-clause-refused : goal.returns-in_ok-root-in_default-Solve-clause-refused
 returns-in_ok-root-in_default-Solve-clause-refused g c =

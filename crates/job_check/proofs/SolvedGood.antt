@@ -1,32 +1,39 @@
--- A report that was written for a root is found good.
-use Rattle.std.proofs.Common.{◌≡◌, ◌≤◌, ◌<◌, ◌+◌, ◌^◌, ℕ, zero, suc, true, None, Ok, List, [], ◌∷◌, length, map, sum, All, Contains, bytes_eq, refl, sym, ap, ◌∙◌, arith}
+-- What `solve` writes at a root is found good.
+use Rattle.std.proofs.Common.{◌≡◌, ◌≤◌, ◌<◌, ◌+◌, ◌^◌, ℕ, zero, suc, true, None, Ok, List, [], ◌∷◌, ◌++◌, length, map, sum, flat_map, codes, All, Contains, bytes_eq, refl, sym, ap, ◌∙◌, length-append, arith}
 use Rattle.std.proofs.lemmas.List.{length-map}
 use Rattle.std.proofs.lemmas.List.Sorted.{length_permutation}
 use Rattle.std.proofs.lemmas.Slice.Eq.{bytes_eq-Decides}
+use Rattle.byte_text.specs.Lines.{line_of}
+use Rattle.bit_letters.specs.Bits.{bit_letter}
 use Rattle.card_sets.proofs.Sets.{IsCardSet-cards_where, has_card-below}
 use Rattle.win_vectors.specs.Weights.{weight_of, IsWeight}
 use Rattle.win_vectors.proofs.WeightLemmas.{weight_of-most}
 use Rattle.trick_rules.specs.Nodes.{NodeValue, IsNode, choices, most_moves}
+use Rattle.job_words.specs.declared.asks.LayoutsJob.TheVariants as jobs
+use Rattle.job_words.specs.Asks.{IsMoves}
 use Rattle.strategy_games.specs.Choosing.{IsNamedByWeight, IsBestWeight, HasMeasure}
 use Rattle.strategy_games.proofs.Lists.{All-from, Contains-here, Contains-there, first_is_member}
 use Rattle.strategy_tree.specs.Bridge.{bridge}
+use Rattle.strategy_tree.specs.PlanText.{plan_text}
 use Rattle.strategy_tree.proofs.BridgeLaws as laws
 use Rattle.strategy_tree.proofs.CardLists.{has_card-from_Contains}
 use Rattle.strategy_tree.proofs.Printing.{printed_plan}
 use Rattle.strategy_check.specs.declared.verdict.Verdict.TheVariants.{Good}
 use Rattle.strategy_check.proofs.Compared.{length-wins_vector}
-use Rattle.layout_list.specs.Lines.{most_listed}
 use Rattle.am_report.specs.Answers.{SolveAnswerValue, EntryValue}
 use Rattle.am_report.specs.Head.{head_text}
-use Rattle.am_report.specs.Solve.{solve_text}
+use Rattle.am_report.specs.Solve.{vector_line, entry_text, solve_start, solve_end, solve_text}
+use Rattle.am_report.specs.Versions.{version_of, weight_text}
 use Rattle.am_report.specs.Reading.{report_read}
 use Rattle.am_report.specs.ReadBack.{ArePrintableWeights, IsPrintableEntry, IsPrintable, printed_entry, printed_report}
 use Rattle.am_report.proofs.ReportReadBack.{solve_text-read}
 use Rattle.am_answer.specs.declared.root.Root.{Root}
+use Rattle.am_answer.specs.Answers.{task_at}
+use Rattle.am_answer.specs.Tasks as tasks
 use Rattle.am_answer.specs.Judging.{entry_fault, first_plan_fault, judged, plans_in}
-use Rattle.am_answer.specs.Reports.{IsSolveAnswer}
+use Rattle.am_answer.specs.Reports.{IsSolveAnswer, IsSolveText}
 use Rattle.job_check.proofs.Judged.{entry_fault-verdict}
-use Rattle.am_top.proofs.Reporting.{plan-wins}
+use Rattle.job_check.proofs.PrintedPlans.{plan-wins}
 
 -- ---- the card and the weight
 
@@ -53,7 +60,7 @@ module _ (node : NodeValue) (weights : List ℕ) (moves : ℕ) where
   no_first_fault number (entry ∷ entries) good =
       rw (good entry (Contains-here entry entries)) (no_first_fault (number + 1) entries (λ e among. good e (Contains-there entry entries e among)))
 
-module _ (n : NodeValue) (weights : List ℕ) (moves : ℕ) (found : SolveAnswerValue) (node : IsNode n) (listed : length n.lefts ≤ most_listed) (weighed : length weights ≡ length n.lefts) (each : All IsWeight weights)
+module _ (n : NodeValue) (weights : List ℕ) (moves : ℕ) (found : SolveAnswerValue) (node : IsNode n) (weighed : length weights ≡ length n.lefts) (each : All IsWeight weights)
     (is : IsSolveAnswer n weights moves found) where
   width : (entry : EntryValue) → Contains found.entries entry → length entry.vector ≡ length n.lefts
   width entry among = ap length (sym (plan-wins n weights moves found entry node is among).1) ∙ length-wins_vector entry.plan n
@@ -67,7 +74,7 @@ module _ (n : NodeValue) (weights : List ℕ) (moves : ℕ) (found : SolveAnswer
       record { width = width entry among ∙ sym weighed; plan = record { levels = printed.0; replies = printed.1; cards = printed.2 } }
 
   weights-printable : ArePrintableWeights weights
-  weights-printable = record { some_layouts = omega (arith, weighed, node.some); few_layouts = omega (arith, weighed, listed); each = each }
+  weights-printable = record { some_layouts = omega (arith, weighed, node.some); few_layouts = omega (arith, weighed, node.few); each = each }
 
   some_entries : 1 ≤ length found.entries
   some_entries =
@@ -107,11 +114,49 @@ module _ (root : Root) (moves : ℕ) (found : SolveAnswerValue) where
   unfolding plans_in
   plans_in-read text read = rw read refl
 
-  pub solved-good : IsNode root.kept.node → length root.kept.node.lefts ≤ most_listed → length root.kept.weights ≡ length root.kept.node.lefts → All IsWeight root.kept.weights → 1 ≤ moves → moves ≤ most_moves
+  pub solved-good : IsNode root.kept.node → length root.kept.weights ≡ length root.kept.node.lefts → All IsWeight root.kept.weights → IsMoves moves
       → IsSolveAnswer root.kept.node root.kept.weights moves found → length found.entries < 2 ^ 32 → plans_in root (solve_text root.board root.kept moves found) ≡ Ok (length found.entries)
-  solved-good node listed weighed each some few is vectors =
+  solved-good node weighed each (some, few) is vectors =
       let n = root.kept.node in
       let weights = root.kept.weights in
       plans_in-read (solve_text root.board root.kept moves found)
-      (solve_text-read root.board root.kept moves found (answer-printable n weights moves found node listed weighed each is some few vectors))
-      ∙ judged-printed (no_first_fault n weights moves 1 found.entries (entry-good n weights moves found node listed weighed each is))
+      (solve_text-read root.board root.kept moves found (answer-printable n weights moves found node weighed each is some few vectors))
+      ∙ judged-printed (no_first_fault n weights moves 1 found.entries (entry-good n weights moves found node weighed each is))
+
+-- ---- by the length of the text
+
+-- each vector with its plan takes a byte at least
+entry_filled : (weights : List ℕ) (entry : EntryValue) → 1 ≤ length (entry_text weights entry)
+unfolding entry_text vector_line
+entry_filled weights entry =
+    let words = codes "vector " ++ map bit_letter entry.vector ++ weight_text (version_of weights) (weight_of weights entry.vector) in
+    let whole : length (entry_text weights entry) ≡ length (line_of words) + length (plan_text entry.plan) = length-append (line_of words) (plan_text entry.plan) in
+    let line : length (line_of words) ≡ length words + 1 = length-append words (10 ∷ []) in
+    omega (arith, whole, line)
+
+no_fewer_bytes : (weights : List ℕ) (entries : List EntryValue) → length entries ≤ length (flat_map (entry_text weights) entries)
+no_fewer_bytes weights [] = omega arith
+no_fewer_bytes weights (entry ∷ entries) =
+    let later = flat_map (entry_text weights) entries in
+    let whole : length (flat_map (entry_text weights) (entry ∷ entries)) ≡ length (entry_text weights entry) + length later = length-append (entry_text weights entry) later in
+    omega (arith, entry_filled weights entry, no_fewer_bytes weights entries, whole)
+
+few_entries : (root : Root) (moves : ℕ) (found : SolveAnswerValue) → length found.entries ≤ length (solve_text root.board root.kept moves found)
+unfolding solve_text
+few_entries root moves found =
+    let start = solve_start root.board root.kept moves (length found.entries) in
+    let lines = flat_map (entry_text root.kept.weights) found.entries in
+    let end = solve_end root.kept.weights found.card found.weight in
+    let whole : length (solve_text root.board root.kept moves found) ≡ length (start ++ lines) + length end = length-append (start ++ lines) end in
+    omega (arith, no_fewer_bytes root.kept.weights found.entries, length-append start lines, whole)
+
+module _ (root : Root) (moves : ℕ) (report : List ℕ) where
+  task-read : (plans : ℕ) → plans_in root report ≡ Ok plans → task_at root (jobs.Check report) ≡ Ok (tasks.Check plans)
+  unfolding task_at
+  task-read plans good = rw good refl
+
+  pub text-good : IsNode root.kept.node → length root.kept.weights ≡ length root.kept.node.lefts → All IsWeight root.kept.weights → IsMoves moves
+      → IsSolveText root moves report → length report < 2 ^ 32 → (plans : ℕ) × (task_at root (jobs.Check report) ≡ Ok (tasks.Check plans))
+  text-good node weighed each some (found, is, written) within =
+      let few : length found.entries < 2 ^ 32 = omega (arith, few_entries root moves found, ap length written, within) in
+      (length found.entries, task-read (length found.entries) (ap (plans_in root) written ∙ solved-good root moves found node weighed each some is few))
