@@ -38,6 +38,15 @@ state_there n place position left is_position is_left =
     slice_get-map (λ l. record { position = n.position; left = l }) n.lefts place ∙ ap (option_map (λ l. record { position = n.position; left = l })) is_left
     ∙ ap (λ (t : PositionValue). Some (record { position = t; left = left })) (sym is_position)
 
+-- what holds of that state holds of the state that stands there
+pub holds_there : (P : State → Type 0) (n : NodeValue) (place : ℕ) (position : PositionValue) (left : List ℕ) → position ≡ n.position → slice_get n.lefts place ≡ Some left
+    → P (record { position = position; left = left }) → (s : State) → slice_get (states n) place ≡ Some s → P s
+holds_there P n place position left is_position is_left holds s at_layout =
+    let here : State = record { position = position; left = left } in
+    let both : Some here ≡ Some s = sym (state_there n place position left is_position is_left) ∙ at_layout in
+    let same : here ≡ s = cc in
+    subst P same holds
+
 -- it is a state of a node
 pub is_state_there : (n : NodeValue) (place : ℕ) (s : State) → IsNode n → place < length n.lefts → slice_get (states n) place ≡ Some s → IsState s
 is_state_there n place s sound low at_layout =

@@ -35,26 +35,6 @@ pub fn giving_place(
     None
 }
 
-// The card that gives the layout up where Left holds this hand at first.
-fn card_given_from(
-    solver: &mut Solver,
-    position: &Position,
-    left: CardSet,
-    cards: &CardLine,
-) -> Option<Card>
-    requires state { IsState (record { position = position.now; left = left }) }
-    requires legal { AreLegal (record { position = position.now; left = left }) cards.now }
-    ensures { result ≡ giving_card (record { position = position.now; left = left }) cards.now }
-{
-    if !solver.makes(position, left) {
-        return None;
-    }
-    match giving_place(solver, position, left, cards) {
-        Some(place) => Some(cards.get(place)),
-        None => None,
-    }
-}
-
 /// The card that gives up the layout of a place of the node, of cards that are played from there on.
 ///
 /// `None` if double dummy doesn't make the layout, or makes after each of the cards.
@@ -70,5 +50,13 @@ pub fn card_that_gives_up(
     ensures { (s : State) → slice_get (states node.now) place ≡ Some s
         → result ≡ giving_card s cards.now }
 {
-    card_given_from(solver, node.position(), node.left(place), cards)
+    let position = node.position();
+    let left = node.left(place);
+    if !solver.makes(position, left) {
+        return None;
+    }
+    match giving_place(solver, position, left, cards) {
+        Some(at) => Some(cards.get(at)),
+        None => None,
+    }
 }
