@@ -7,12 +7,7 @@ use Rattle.plan_finder.specs.PlanSearches.{IsSameSearch}
 
 module _ {S : Type 0} {grows : S → S → Type 0} where
   pub same_none : ((store : S) → grows store store) → (now : PlanSearch S) → IsSameSearch grows now now
-  same_none none now = record {
-    store = refl;
-    nodes = refl;
-    rules = refl;
-    grown = none now.store.now;
-  }
+  same_none none now = record { store = refl; nodes = refl; rules = refl; grown = none now.store.now }
 
   pub same_more : ((early middle late : S) → grows early middle → grows middle late → grows early late) → {early middle late : PlanSearch S} → IsSameSearch grows early middle → IsSameSearch grows middle late → IsSameSearch grows early late
   same_more more {early} {middle} {late} a b = record {

@@ -30,7 +30,6 @@ pub type VectorsAbove = Result<Front, SearchFault>;
 /// What a search above a target works with, and by which rules.
 #[derive(Drop)]
 pub struct AboveSearch<'a, S> {
-    pub alloc: Global,
     pub store: &'a mut S,
     pub solver: &'a mut Solver,
     pub memo: &'a mut AboveMemo,
@@ -59,10 +58,8 @@ pub fn vectors_above<S: FrontStore>(
     ensures nodes { budget.new.nodes ≡ budget.old.nodes }
     ensures grown { S.grown store.old store.new }
 {
-    let alloc = memo.alloc();
-    let node = node.copy(alloc)?;
+    let node = node.copy(memo.alloc())?;
     let mut search = AboveSearch {
-        alloc,
         store,
         solver,
         memo,
@@ -192,7 +189,7 @@ impl<S: FrontStore> AboveSearch<'_, S> {
     {
         if !made && self.rules.cuts.bound && !makes_each(self.solver, node, target) {
             self.budget.enter()?;
-            return Ok(no_vectors(self.alloc, node));
+            return Ok(no_vectors(self.memo.alloc(), node));
         }
         if node.stops(moves) || node.width() == 1 || target.count() == 0 {
             return self.by_whole_front(node, moves, target);
@@ -210,9 +207,9 @@ impl<S: FrontStore> AboveSearch<'_, S> {
             self.new.budget.now.left result }
         ensures same { IsSameAbove S.grown self.old self.new }
     {
-        let none = Front::new(self.alloc, node.width());
+        let none = Front::new(self.memo.alloc(), node.width());
         match search(
-            self.alloc,
+            self.memo.alloc(),
             self.store,
             self.solver,
             self.budget,
@@ -221,7 +218,7 @@ impl<S: FrontStore> AboveSearch<'_, S> {
             &none,
             self.rules.cuts,
         )? {
-            Found::Exact(front) => Ok(part_above(self.alloc, &front, target)?),
+            Found::Exact(front) => Ok(part_above(self.memo.alloc(), &front, target)?),
             Found::Below => unreachable!(),
         }
     }
@@ -232,9 +229,9 @@ impl<S: FrontStore> AboveSearch<'_, S> {
         ensures unpaid { self.new.budget.now.left ≡ self.old.budget.now.left }
         ensures same { IsSameAbove S.grown self.old self.new }
     {
-        let mut front = Front::new(self.alloc, node.width());
+        let mut front = Front::new(self.memo.alloc(), node.width());
         front.reserve(MOST_ENTRY_VECTORS)?;
-        let key = store_key(self.alloc, node, self.rules.cuts)?;
+        let key = store_key(self.memo.alloc(), node, self.rules.cuts)?;
         match self.store.look(&key, moves, &mut front) {
             Look::Hit => Ok(Some(front)),
             Look::Miss | Look::Busy => Ok(None),
@@ -253,7 +250,7 @@ impl<S: FrontStore> AboveSearch<'_, S> {
         ensures same { IsSameAbove S.grown self.old self.new }
     {
         if let Some(front) = self.known(node, moves)? {
-            return Ok(part_above(self.alloc, &front, target)?);
+            return Ok(part_above(self.memo.alloc(), &front, target)?);
         }
         if node.is_ours() {
             self.at_declarer(node, moves, target)
@@ -275,10 +272,10 @@ impl<S: FrontStore> AboveSearch<'_, S> {
             (self.old.budget.now.left + 1) self.new.budget.now.left result }
         ensures same { IsSameAbove S.grown self.old self.new }
     {
-        let mut front = Front::new(self.alloc, node.width());
+        let mut front = Front::new(self.memo.alloc(), node.width());
         let mut cards = cards_to_try(node, self.rules.cuts);
         'cards: while let Some(card) = take_highest(&mut cards) {
-            let (child, _) = node.child(self.alloc, card)?;
+            let (child, _) = node.child(self.memo.alloc(), card)?;
             let won = self.visit(child, moves - 1, target, false)?;
             front.union(&won)?;
             if is_complete(self.solver, self.rules.cuts, node, &front) {
@@ -301,14 +298,14 @@ impl<S: FrontStore> AboveSearch<'_, S> {
             (self.old.budget.now.left + 1) self.new.budget.now.left result }
         ensures same { IsSameAbove S.grown self.old self.new }
     {
-        let mut joiner = Joiner::new(self.alloc, node.width());
+        let mut joiner = Joiner::new(self.memo.alloc(), node.width());
         let mut cards = cards_to_try(node, self.rules.cuts);
         'cards: while let Some(card) = cards.pop_first() {
-            let (child, mask) = node.child(self.alloc, card)?;
+            let (child, mask) = node.child(self.memo.alloc(), card)?;
             let part = target.restrict(mask);
             let won = self.visit(child, moves, &part, true)?;
             if won.is_empty() {
-                return Ok(no_vectors(self.alloc, node));
+                return Ok(no_vectors(self.memo.alloc(), node));
             }
             joiner.add(&won, &mask)?;
         }

@@ -47,7 +47,7 @@ impl<S: FrontStore> PlanSearch<'_, S> {
         let mut most = None;
         let mut cards = node.choices();
         'cards: while let Some(card) = cards.pop_first() {
-            let (child, _) = node.child(self.alloc, card)?;
+            let (child, _) = node.child(self.memo.alloc(), card)?;
             match self.pick_of(&child, moves - 1, vector) {
                 Ok(picked) => {
                     let entered = picked.entered.larger(most);

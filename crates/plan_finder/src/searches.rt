@@ -14,7 +14,6 @@ use crate::rules::PlanRules;
 use alphamu_core::{Budget, Entered, SearchFault};
 use dd_solver::Solver;
 use front_table::FrontStore;
-use std::alloc::Global;
 use trick_rules::Node;
 use win_vectors::WinVector;
 
@@ -22,7 +21,6 @@ use win_vectors::WinVector;
 /// rules.
 #[derive(Drop)]
 pub struct PlanSearch<'a, S> {
-    pub alloc: Global,
     pub store: &'a mut S,
     pub solver: &'a mut Solver,
     pub memo: &'a mut AboveMemo,

@@ -47,7 +47,6 @@ impl PlanWriter {
     {
         let mut memo = self.take_memo();
         let mut search = PlanSearch {
-            alloc: self.alloc(),
             store,
             solver,
             memo: &mut memo,
@@ -119,7 +118,7 @@ impl<S: FrontStore> PlanSearch<'_, S> {
         if node.is_ours() {
             return self.write_remembered(out, node, moves, vector);
         }
-        push_hear(out, self.alloc, node.choices().count())?;
+        push_hear(out, self.memo.alloc(), node.choices().count())?;
         self.write_replies(out, node, moves, vector)
     }
 
@@ -206,7 +205,7 @@ impl<S: FrontStore> PlanSearch<'_, S> {
         let mut most = None;
         let mut cards = node.choices();
         'cards: while let Some(card) = cards.pop_first() {
-            let (child, mask) = node.child(self.alloc, card)?;
+            let (child, mask) = node.child(self.memo.alloc(), card)?;
             let part = vector.restrict(mask);
             let picked = self.pick_of(&child, moves, &part)?;
             let above = picked.vector.unwrap();
