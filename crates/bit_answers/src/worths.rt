@@ -4,7 +4,6 @@ ghost use Rattle.card_sets.specs.SetWords.{has_card};
 ghost use Rattle.trick_rules.specs.Nodes.{choices, child};
 ghost use Rattle.front_table.specs.Proven.{IsFrontAt};
 ghost use Rattle.fusion_base.specs.Sampling.{made_after};
-ghost use Rattle.shared_table.specs.Passes.{IsPassOf};
 ghost use Rattle.bit_answers.specs.Answers.{AreWorths, IsWorth};
 ghost use Rattle.bit_answers.specs.Ready.{IsReady, IsSearchFault};
 
@@ -15,7 +14,6 @@ use bit_questions::Asked;
 use dd_solver::Solver;
 use fusion_base::{CardVector, per_card_alone};
 use pareto_fronts::Front;
-use shared_table::{Pass, SharedTable};
 use std::alloc::Global;
 use vector_words::{first_best, words_of};
 
@@ -39,28 +37,6 @@ fn worth_of(asked: &Asked, believed: &CardVector, front: &Front) -> Worth
     }
 }
 
-// What the card of an entry of plain sampling is worth.
-fn worth_at(
-    alloc: Global,
-    table: &SharedTable,
-    pass: &mut Pass,
-    solver: &mut Solver,
-    asked: &Asked,
-    believed: &CardVector,
-) -> Result<Worth, RootFault>
-    requires ready { IsReady asked.now }
-    requires card { has_card (choices asked.now.node) believed.now.card ≡ true }
-    requires believed { believed.now.vector ≡ made_after asked.now.node believed.now.card }
-    requires pass { IsPassOf table.now pass.old }
-    ensures worth { IfOk result (IsWorth asked.now.node asked.now.weights asked.now.moves
-        believed.now.card) }
-    ensures refused { IfErr result (IsSearchFault asked.now) }
-    ensures pass { IsPassOf table.now pass.new }
-{
-    let front = front_after(alloc, table, pass, solver, asked, believed.card)?;
-    Ok(worth_of(asked, believed, &front))
-}
-
 /// Each legal card with what it is worth, in card order.
 pub fn worths(alloc: Global, asked: &Asked) -> Result<Vec<Worth>, RootFault>
     requires { IsReady asked.now }
@@ -73,8 +49,8 @@ pub fn worths(alloc: Global, asked: &Asked) -> Result<Vec<Worth>, RootFault>
     let mut solver = Solver::new(alloc);
     let mut all = Vec::new(alloc);
     for entry in &believed {
-        let worth = worth_at(alloc, &table, &mut pass, &mut solver, asked, entry)?;
-        all.push(worth)?;
+        let front = front_after(alloc, &table, &mut pass, &mut solver, asked, entry.card)?;
+        all.push(worth_of(asked, entry, &front))?;
     }
     Ok(all)
 }

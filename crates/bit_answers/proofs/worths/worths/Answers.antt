@@ -6,12 +6,16 @@ use Rattle.flat_plans.proofs.Listed.{zip_next}
 use Rattle.bit_answers.proofs.Sampled.{within, entry_card, entry_choice, entry_vector}
 use Rattle.bit_answers.proofs.worths.worths.Goals as goal
 
-pub worth_at-requires-clause-card : goal.worth_at-requires-clause-card
-worth_at-requires-clause-card c =
+pub front_after-requires-clause-card : goal.front_after-requires-clause-card
+front_after-requires-clause-card c =
     entry_choice c.args.asked.now.node c.deref-entry-items.result.now c.loop-entry.entry-index c.entry-item.result (c.deref-entry-items.ensures.value ∙ c.in_ok-believed.ensures) c.loop-entry-test.true c.entry-item.is
 
-pub worth_at-requires-clause-believed : goal.worth_at-requires-clause-believed
-worth_at-requires-clause-believed c =
+pub worth_of-requires-clause-card : goal.worth_of-requires-clause-card
+worth_of-requires-clause-card c =
+    entry_choice c.args.asked.now.node c.deref-entry-items.result.now c.loop-entry.entry-index c.entry-item.result (c.deref-entry-items.ensures.value ∙ c.in_ok-believed.ensures) c.loop-entry-test.true c.entry-item.is
+
+pub worth_of-requires-clause-believed : goal.worth_of-requires-clause-believed
+worth_of-requires-clause-believed c =
     entry_vector c.args.asked.now.node c.deref-entry-items.result.now c.loop-entry.entry-index c.entry-item.result (c.deref-entry-items.ensures.value ∙ c.in_ok-believed.ensures) c.loop-entry-test.true c.entry-item.is
 
 pub loop-entry-preserved : goal.loop-entry-preserved
@@ -24,8 +28,8 @@ loop-entry-preserved c =
     record {
       so_far =
           subst (λ all. AllZip (IsWorth n c.args.asked.now.weights c.args.asked.now.moves) (take (place + 1) (choices n)) all) (sym c.in_ok-push.ensures.items)
-          (zip_next (IsWorth n c.args.asked.now.weights c.args.asked.now.moves) (choices n) c.loop-entry.all.items place entry.card c.in_ok-worth.worth
+          (zip_next (IsWorth n c.args.asked.now.weights c.args.asked.now.moves) (choices n) c.loop-entry.all.items place entry.card c.worth_of.result
           (within n table place entry is c.loop-entry-test.true c.entry-item.is) (entry_card n table place entry is c.loop-entry-test.true c.entry-item.is)
-          c.loop-entry.invariant.so_far c.in_ok-worth.ensures.worth);
-      pass = c.worth_at.ensures.pass;
+          c.loop-entry.invariant.so_far c.worth_of.ensures);
+      pass = c.front_after.ensures.pass;
     }
