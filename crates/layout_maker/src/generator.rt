@@ -1,5 +1,5 @@
 //! A generator of numbers, and cards that it shuffles.
-ghost use Rattle.std.specs.Prelude.{◌≡◌, ◌<◌, ◌≤◌, ◌%◌, length};
+ghost use Rattle.std.specs.Prelude.{◌≡◌, ◌<◌, ◌≤◌, ◌%◌, ℕ, length};
 ghost use Rattle.layout_maker.specs.Generator.{next_state, shuffled};
 
 use card_sets::Card;
@@ -15,8 +15,6 @@ pub(crate) struct Generator {
 }
 
 impl Model for Generator {
-    ghost use Rattle.std.specs.Prelude.{ℕ, ◌<◌};
-
     ghost Value = { ℕ };
 
     ghost view = { λ generator. generator.state };

@@ -9,9 +9,7 @@ pub loop-play-preserved : goal.loop-play-preserved
 loop-play-preserved c =
     let play = c.play-item.result in
     let trump = c.trump-trump.result in
-    let trick = c.loop-play.trick in
-    let hidden = c.loop-play.hidden in
-    let may = c.loop-play.may in
+    let before = c.loop-play in
     let i = c.loop-play.play-index in
     let plays = c.plays-play-items.result.now in
     let rest = drop (i + 1) plays in
@@ -20,8 +18,8 @@ loop-play-preserved c =
       short = c.add.ensures.short;
       told =
           c.loop-play.invariant.told
-          ∙ ap (after_plays trump trick hidden may) (split_at plays i play lt c.play-item.is)
-          ∙ ap (λ b. cond b (after_plays trump (next_trick trump trick play.card) (take_out play.card hidden) (narrowed play.seat trick.cards hidden play.card may) rest) None) (sym c.may_play.ensures ∙ c.if-not-may_play.false)
+          ∙ ap (after_plays trump before.trick before.hidden before.may) (split_at plays i play lt c.play-item.is)
+          ∙ ap (λ b. cond b (after_plays trump (next_trick trump before.trick play.card) (take_out play.card before.hidden) (narrowed play.seat before.trick.cards before.hidden play.card before.may) rest) None) (sym c.may_play.ensures ∙ c.if-not-may_play.false)
           ∙ sym (ap (λ k. after_plays trump k c.without-hidden.result c.narrow-may.result rest) c.add.ensures.value
-          ∙ ap₂ (λ u m. after_plays trump (next_trick trump trick play.card) u m rest) c.without-hidden.ensures.value c.narrow-may.ensures);
+          ∙ ap₂ (λ u m. after_plays trump (next_trick trump before.trick play.card) u m rest) c.without-hidden.ensures.value c.narrow-may.ensures);
     }
