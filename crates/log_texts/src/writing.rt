@@ -2,7 +2,7 @@
 ghost use Rattle.std.specs.Prelude.{◌≡◌, ◌<◌, ◌++◌, ◌∷◌, [], IfOk, OnOk, map, flat_map};
 ghost use Rattle.log_check.specs.Limits.{most_lines};
 ghost use Rattle.log_texts.specs.LogText.{rule_word, mark_before, path_text, numbers_text, vectors_text, log_line, log_text};
-ghost use Rattle.log_texts.specs.Written.{begun, finished, IsLongerBy};
+ghost use Rattle.log_texts.specs.Written.{begun, finished, IsLongerBy, WrittenLog};
 
 use bit_letters::push_bits;
 use byte_text::Text;
@@ -25,8 +25,6 @@ pub struct LogWriter {
 }
 
 impl Model for LogWriter {
-    ghost use Rattle.log_texts.specs.Written.{WrittenLog};
-
     ghost Value = { WrittenLog };
 
     ghost view = { λ writer. record { text = writer.text; count = writer.count } };
