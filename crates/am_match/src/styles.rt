@@ -23,16 +23,12 @@ pub struct HighCard {
 }
 
 impl Model for LowCard {
-    ghost use Rattle.std.specs.Prelude.{ℕ, List};
-
     ghost Value = { List ℕ };
 
     ghost view = { λ low. low.heard };
 }
 
 impl Model for HighCard {
-    ghost use Rattle.std.specs.Prelude.{ℕ, List};
-
     ghost Value = { List ℕ };
 
     ghost view = { λ high. high.heard };
