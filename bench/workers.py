@@ -1,19 +1,21 @@
 #!/usr/bin/env python3
-"""workers.py [RUNS]
+"""workers.py [RUNS [short]]
 
-Times alphamu's job `card` with 1, 2 and 4 workers, in one run on one machine, and prints ratios: the best of RUNS runs (default 3).
+Times alphamu with 1, 2 and 4 workers, in one run on one machine, and prints ratios: the best of RUNS runs (default 3).
 
-- Without cuts, on an ending whose eight root cards have trees of the same size: two low cards in each suit, and for each layout also
-  those with its suits exchanged. The ratio is the wall clock with one worker to that with 2 and 4.
-- With cuts, on random endings: the same ratio, and the time of all processors with 4 workers to that with one. What earlier cards have
-  shown lets cuts skip work on later cards, so no more than two workers share cards, and only those after which the round before found
-  fronts.
+- Without cuts, `card` on an ending whose eight root cards have trees of the same size: two low cards in each suit, and for each layout also
+  those with its suits exchanged. The ratio is the wall clock with one worker to that with 2 and 4, and the time of all processors with 4
+  workers to that with one.
+- With cuts, `card` on short random endings, of less than half a second.
+- With cuts, `card` and `solve` on long random boards of 11 to 13 tricks, whose layouts are drawn by shuffling the defenders' cards. They
+  take one worker seconds; with the word `short` they are left out. They run once if RUNS is 1, and otherwise twice.
 
-The column of four runs shows how much four separate runs, with one worker each, get done in the time of one alone: four workers can hardly
-do better than four runs that share nothing. On processors that share a core, or on a busy machine, that stays below 4.
+The column of four runs shows how much four separate runs, with one worker each, get done in the time of one alone: four workers that share
+nothing can hardly do better. On processors that share a core, or on a busy machine, that stays below 4. Workers who share a memo of double
+dummy can be faster than that, since it has more room.
 
-The job is `card`: in `solve` a single worker then finds the plan for each vector. The ratios mean little on a machine with fewer than four
-processors or with other work, so the script prints the number of processors and how many processes are running or waiting.
+The ratios mean little on a machine with fewer than four processors or with other work, so the script prints the number of processors and
+how many processes are running or waiting.
 
 The program must be built: ./build."""
 import os
@@ -29,8 +31,10 @@ from search import random_ending
 
 PROGRAM = pathlib.Path(__file__).resolve().parent.parent / "crates" / "alphamu" / "out" / "alphamu"
 RANKS = "AKQJT98765432"
-# Tricks, layouts, moves and seeds of the random endings.
-RANDOM = [(8, 20, 6, seed) for seed in (1, 2, 3, 4)]
+# Tricks, layouts, moves, seeds and needs of the random endings. If there is no need it is half of the tricks.
+RANDOM = [(8, 20, 6, seed, None) for seed in (1, 2, 3, 4)]
+LONG = [(12, 64, 2, 3, 8), (12, 64, 4, 6, 8), (13, 20, 4, 12, 5), (12, 20, 5, 9, 10), (11, 64, 5, 12, 4), (13, 64, 2, 3, 8), (12, 64, 4, 3, 8),
+        (13, 64, 4, 4, 6)]
 
 
 def hand(cards):
@@ -74,13 +78,13 @@ def side_by_side(words, count):
     return time.monotonic() - start
 
 
-def row(name, deal, layouts, moves, more, runs):
+def row(name, deal, layouts, moves, more, runs, job="card"):
     """Prints the ratios of an ending."""
     with tempfile.TemporaryDirectory() as folder:
         files = pathlib.Path(folder) / "deal.pbn", pathlib.Path(folder) / "layouts.lay"
         files[0].write_text(deal)
         files[1].write_text(layouts)
-        words = [PROGRAM, "--job", "card", "--deal", files[0], "--layouts", files[1], "--moves", moves, "--nodes", 2 ** 60, *more]
+        words = [PROGRAM, "--job", job, "--deal", files[0], "--layouts", files[1], "--moves", moves, "--nodes", 2 ** 60, *more]
         told = {workers: [timed([*words, "--workers", workers]) for _ in range(runs)] for workers in (1, 2, 4)}
         beside = min(side_by_side([*words, "--workers", 1], 4) for _ in range(runs))
     if len({out for runs_of in told.values() for _, _, out in runs_of}) != 1:
@@ -96,9 +100,14 @@ def main():
     print(f"{os.cpu_count()} processors, {os.getloadavg()[0]:.1f} processes running or waiting before the run")
     print("ending                cuts  moves  one worker  2 workers 4 workers  four runs  user, 4 to 1")
     row(*eight_cards(6), ["--no-cuts"], runs)
-    for tricks, layouts, moves, seed in RANDOM:
-        ending = random_ending(tricks, layouts, moves, seed)
+    for tricks, layouts, moves, seed, need in RANDOM:
+        ending = random_ending(tricks, layouts, moves, seed, need)
         row(ending.name, ending.deal, ending.layouts, moves, [], runs)
+    for job in () if "short" in sys.argv else ("card", "solve"):
+        print(f"long boards, {job}:")
+        for tricks, layouts, moves, seed, need in LONG:
+            ending = random_ending(tricks, layouts, moves, seed, need)
+            row(ending.name, ending.deal, ending.layouts, moves, [], min(runs, 2), job)
 
 
 if __name__ == "__main__":

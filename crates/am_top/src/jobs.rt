@@ -7,7 +7,8 @@ ghost use Rattle.am_answer.specs.Files.{AreWithin, IsJobWithin, is_match, is_mat
 ghost use Rattle.am_match.specs.Defences.{sitter};
 ghost use Rattle.am_answer.specs.Stages.{IsFileRefusal, IsTaskRefusal, IsTextFor, IsTextForAt};
 ghost use Rattle.shared_table.specs.Passes.{IsPassOf};
-ghost use Rattle.root_workers.specs.Rounds.{IsRound, IsKnownAt, HasSeenMore};
+ghost use Rattle.root_workers.specs.Rounds.{HasSeenMore};
+ghost use Rattle.root_workers.specs.Tasks.{IsTask, IsKnownBy};
 ghost use Rattle.worker_pool.specs.Findings.{AreRight};
 ghost use Rattle.std.specs.Thread.{IsSync};
 
@@ -26,29 +27,29 @@ use job_prove::prove_front;
 use job_search::{Made, name_card, solve, summarize};
 use job_words::{Ask, LayoutsJob, Search};
 use layout_maker::made_problem;
-use root_workers::{InThreads, RootWorker, Round, Searched, searched_in_threads};
+use root_workers::{InThreads, RootWorker, Searched, Task, searched_in_threads};
 use shared_table::Pass;
 use std::alloc::Global;
 use std::thread::Threads;
 
-// The root cards that workers in threads search in a round. A crate can hand over a function of its
-// own, and none of another crate; `threads` says again what the bounds say, which it doesn't keep.
-fn search_round<R: Threads + Sync, G: Gate>(
+// What workers in threads report of root cards. A crate can hand over a function of its own, and none
+// of another crate; `threads` says again what the bounds say, which it doesn't keep.
+fn help_in_threads<R: Threads + Sync, G: Gate>(
     rt: &R,
-    round: &Round,
+    task: &Task,
     gate: &G,
     workers: &mut [RootWorker],
     pass: &mut Pass,
 ) -> Searched
     requires threads { IsSync R.row × IsSync G.row }
-    requires round { IsRound round.now }
+    requires task { IsTask task.now }
     requires some { 1 ≤ length workers.old }
-    requires pass { IsPassOf round.now.table.now pass.old }
-    ensures right { IfOk result (λ findings. AreRight (IsKnownAt round.now) findings.items) }
-    ensures pass { IsPassOf round.now.table.now pass.new }
+    requires pass { IsPassOf task.now.round.now.table.now pass.old }
+    ensures right { IfOk result (λ findings. AreRight (IsKnownBy task.now) findings.items) }
+    ensures pass { IsPassOf task.now.round.now.table.now pass.new }
     ensures grown { HasSeenMore pass.old pass.new }
 {
-    searched_in_threads(rt, round, gate, workers, pass)
+    searched_in_threads(rt, task, gate, workers, pass)
 }
 
 // The text of a job at a root, or why there is none.
@@ -77,7 +78,7 @@ fn text_at<R: Threads + Sync, G: Gate>(
     let crew = InThreads {
         rt,
         gate,
-        search: search_round,
+        search: help_in_threads,
     };
     match job {
         LayoutsJob::Solve { moves, search } => solve(&crew, alloc, root, *moves, search),
@@ -138,7 +139,7 @@ fn solve_made<R: Threads + Sync, G: Gate>(
     let crew = InThreads {
         rt,
         gate,
-        search: search_round,
+        search: help_in_threads,
     };
     summarize(&crew, alloc, &job, search)
 }

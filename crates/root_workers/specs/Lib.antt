@@ -6,3 +6,4 @@ pub mod Founds
 pub mod Reports
 pub mod Questions
 pub mod Crews
+pub mod Tasks

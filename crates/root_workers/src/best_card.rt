@@ -1,6 +1,6 @@
 //! A round: what workers know of the root cards, put together in card order.
 ghost use Rattle.std.specs.Prelude.{◌≡◌, ◌≢◌, ◌<◌, ◌≤◌, ◌-◌, ℕ};
-ghost use Rattle.std.specs.Prelude.{length, take, slice_get, Some, IfOk, IsErrOf};
+ghost use Rattle.std.specs.Prelude.{length, take, slice_get, Contains, Some, IfOk, IfSome, IsErrOf};
 ghost use Rattle.win_vectors.specs.Fronts.{IsFrontOf};
 ghost use Rattle.trick_rules.specs.Nodes.{choices};
 ghost use Rattle.strategy_games.specs.Joins.{WinsByCard};
@@ -15,16 +15,17 @@ ghost use Rattle.root_workers.specs.Founds.{AreFound};
 ghost use Rattle.root_workers.specs.Questions.{IsRoundEnd};
 ghost use Rattle.root_workers.specs.Rounds.{IsRound, IsPlainRound, IsKnownAt};
 ghost use Rattle.root_workers.specs.Rounds.{HasSeenMore, IsSearchedAfter, size_after};
+ghost use Rattle.root_workers.specs.Tasks.{IsCardSearch};
 ghost use Rattle.worker_pool.specs.Findings.{AreRight};
 
 use crate::card_search::search_card;
-use crate::crew::RootCrew;
+use crate::crew::{RootCrew, Searched};
 use crate::leading::{found, is_enough, with_card};
 use crate::round_work::RoundWork;
-use crate::rounds::{Round, RoundFront};
+use crate::rounds::{CardSearch, Help, Round, RoundFront, Task};
 use crate::searches::SearchResult;
 use crate::worker_results::Known;
-use crate::workers::RootWorker;
+use crate::workers::{RootWorker, wants_help};
 use alphamu_core::{Found, RootFault};
 use am_outside::Gate;
 use card_sets::Card;
@@ -33,35 +34,116 @@ use pareto_fronts::Front;
 use shared_table::Pass;
 use worker_pool::{Finding, take_finding};
 
-// What is found after the card at a place: what a worker knows, or else by a search now.
-fn after_place<G: Gate>(
-    work: &RoundWork<G>,
-    worker: &mut RootWorker,
-    pass: &mut Pass,
+// What the workers have reported of the root card at a place.
+fn reported<G: Gate>(
+    round: &Round,
+    gate: &G,
     findings: &mut Vec<Finding<Known>>,
     place: u32,
-    card: Card,
-    alpha: &Front,
-) -> Result<SearchResult, RootFault>
-    requires round { IsRound work.now.round.now }
-    requires pass { IsPassOf work.now.round.now.table.now pass.old }
-    requires right { AreRight (IsKnownAt work.now.round.now) findings.old.items }
-    requires card { slice_get (choices work.now.round.now.node.now) place ≡ Some card }
-    requires won { IsFrontOf (WinsByCard bridge work.now.round.now.node.now
-        (work.now.round.now.moves - 1) (take place (choices work.now.round.now.node.now)))
-        alpha.now.vectors }
-    requires width { alpha.now.width ≡ length work.now.round.now.node.now.lefts }
-    ensures searched { IfOk result
-        (IsSearchedAfter work.now.round.now card alpha.now.vectors) }
-    ensures fits { IsPlainRound work.now.round.now
-        → IfOk result (λ _. size_after work.now.round.now card ≤ work.now.round.now.nodes) }
-    ensures spent { (other : ℕ) → IsErrOf result (RootFault.Spent other)
-        → (other ≡ card) × (work.now.round.now.nodes < size_after work.now.round.now card) }
-    ensures right { AreRight (IsKnownAt work.now.round.now) findings.new.items }
-    ensures pass { IsPassOf work.now.round.now.table.now pass.new }
+) -> Option<Known>
+    requires right { AreRight (IsKnownAt round.now) findings.old.items }
+    ensures right { AreRight (IsKnownAt round.now) findings.new.items }
+    ensures known { IfSome result (IsKnownAt round.now place) }
+{
+    let task = Task {
+        round,
+        help: Help::Cards,
+    };
+    let work = RoundWork {
+        task: &task,
+        gate,
+        count: 0,
+    };
+    take_finding(&work, findings, place)
+}
+
+// What a race of all workers after a root card tells, if their help pays.
+fn raced<'a, C: RootCrew>(
+    crew: &C,
+    round: &Round,
+    workers: &mut [RootWorker],
+    pass: &mut Pass,
+    at: &'a CardSearch<'a>,
+) -> Option<Known>
+    requires ready { C.ready crew.now }
+    requires round { IsRound round.now }
+    requires some { 1 ≤ length workers.old }
+    requires pass { IsPassOf round.now.table.now pass.old }
+    requires at { IsCardSearch round.now at.now }
+    ensures known { IfSome result (IsKnownAt round.now at.now.place) }
+    ensures pass { IsPassOf round.now.table.now pass.new }
     ensures grown { HasSeenMore pass.old pass.new }
 {
-    match take_finding(work, findings, place) {
+    if !round.rules.bound || !wants_help(round.alloc, workers) {
+        return None;
+    }
+    let task = Task {
+        round,
+        help: Help::Race(at),
+    };
+    workers[0].solver.begin_question();
+    let findings = crew.searched(&task, workers, pass);
+    workers[0].solver.begin_question();
+    let Finding { place: _, found } = findings.ok()?.pop()?;
+    Some(found)
+}
+
+// What the workers have reported of a root card, or tell after a race.
+fn known_of<'a, C: RootCrew>(
+    crew: &C,
+    round: &Round,
+    workers: &mut [RootWorker],
+    pass: &mut Pass,
+    findings: &mut Vec<Finding<Known>>,
+    at: &'a CardSearch<'a>,
+) -> Option<Known>
+    requires ready { C.ready crew.now }
+    requires round { IsRound round.now }
+    requires some { 1 ≤ length workers.old }
+    requires pass { IsPassOf round.now.table.now pass.old }
+    requires right { AreRight (IsKnownAt round.now) findings.old.items }
+    requires at { IsCardSearch round.now at.now }
+    ensures known { IfSome result (IsKnownAt round.now at.now.place) }
+    ensures right { AreRight (IsKnownAt round.now) findings.new.items }
+    ensures pass { IsPassOf round.now.table.now pass.new }
+    ensures grown { HasSeenMore pass.old pass.new }
+{
+    let known = reported(round, crew.gate(), findings, at.place);
+    if known.is_some() {
+        return known;
+    }
+    raced(crew, round, workers, pass, at)
+}
+
+// What is found after a root card: by what the workers know, or else by a search now.
+fn after_place<'a, C: RootCrew>(
+    crew: &C,
+    round: &Round,
+    workers: &mut [RootWorker],
+    pass: &mut Pass,
+    findings: &mut Vec<Finding<Known>>,
+    at: &'a CardSearch<'a>,
+) -> Result<SearchResult, RootFault>
+    requires ready { C.ready crew.now }
+    requires round { IsRound round.now }
+    requires some { 1 ≤ length workers.old }
+    requires pass { IsPassOf round.now.table.now pass.old }
+    requires right { AreRight (IsKnownAt round.now) findings.old.items }
+    requires card { slice_get (choices round.now.node.now) at.now.place ≡ Some at.now.card }
+    requires won { IsFrontOf (WinsByCard bridge round.now.node.now
+        (round.now.moves - 1) (take at.now.place (choices round.now.node.now)))
+        at.now.alpha.now.vectors }
+    requires width { at.now.alpha.now.width ≡ length round.now.node.now.lefts }
+    ensures searched { IfOk result (IsSearchedAfter round.now at.now.card at.now.alpha.now.vectors) }
+    ensures fits { IsPlainRound round.now
+        → IfOk result (λ _. size_after round.now at.now.card ≤ round.now.nodes) }
+    ensures spent { (other : ℕ) → IsErrOf result (RootFault.Spent other)
+        → (other ≡ at.now.card) × (round.now.nodes < size_after round.now at.now.card) }
+    ensures right { AreRight (IsKnownAt round.now) findings.new.items }
+    ensures pass { IsPassOf round.now.table.now pass.new }
+    ensures grown { HasSeenMore pass.old pass.new }
+{
+    match known_of(crew, round, workers, pass, findings, at) {
         Some(Known::Exact(won, entered)) => Ok(SearchResult {
             found: Found::Exact(won),
             entered,
@@ -70,14 +152,35 @@ fn after_place<G: Gate>(
             found: Found::Below,
             entered,
         }),
-        Some(Known::Spent) => Err(RootFault::Spent(card)),
-        None => {
-            work.gate.enter(worker.number, card);
-            let found = search_card(work.round, &mut worker.solver, card, alpha, pass);
-            work.gate.leave(worker.number, card);
-            found
-        }
+        Some(Known::Spent) => Err(RootFault::Spent(at.card)),
+        None => search_alone(crew.gate(), round, &mut workers[0], pass, at),
     }
+}
+
+// What a search by the caller alone finds, between the gate's `enter` and `leave`.
+fn search_alone<G: Gate>(
+    gate: &G,
+    round: &Round,
+    worker: &mut RootWorker,
+    pass: &mut Pass,
+    at: &CardSearch,
+) -> Result<SearchResult, RootFault>
+    requires round { IsRound round.now }
+    requires pass { IsPassOf round.now.table.now pass.old }
+    requires card { Contains (choices round.now.node.now) at.now.card }
+    requires width { at.now.alpha.now.width ≡ length round.now.node.now.lefts }
+    ensures searched { IfOk result (IsSearchedAfter round.now at.now.card at.now.alpha.now.vectors) }
+    ensures fits { IsPlainRound round.now
+        → IfOk result (λ _. size_after round.now at.now.card ≤ round.now.nodes) }
+    ensures spent { (other : ℕ) → IsErrOf result (RootFault.Spent other)
+        → (other ≡ at.now.card) × (round.now.nodes < size_after round.now at.now.card) }
+    ensures pass { IsPassOf round.now.table.now pass.new }
+    ensures grown { HasSeenMore pass.old pass.new }
+{
+    gate.enter(worker.number, at.card);
+    let found = search_card(round, &mut worker.solver, at.card, at.alpha, pass);
+    gate.leave(worker.number, at.card);
+    found
 }
 
 /// The best over the root cards, in card order, by what workers know of them. A card of which
@@ -85,13 +188,15 @@ fn after_place<G: Gate>(
 /// by the front with a move less, as the rules say.
 ///
 /// If it stops by the weight, the front is that of the cards until then.
-pub fn best_over<G: Gate>(
+pub fn best_over<C: RootCrew>(
+    crew: &C,
     round: &Round,
-    gate: &G,
-    worker: &mut RootWorker,
+    workers: &mut [RootWorker],
     pass: &mut Pass,
     mut findings: Vec<Finding<Known>>,
 ) -> Result<RoundFront, RootFault>
+    requires ready { C.ready crew.now }
+    requires some { 1 ≤ length workers.old }
     requires round { IsRound round.now }
     requires pass { IsPassOf round.now.table.now pass.old }
     requires right { AreRight (IsKnownAt round.now) findings.items }
@@ -115,7 +220,6 @@ pub fn best_over<G: Gate>(
     ensures pass { IsPassOf round.now.table.now pass.new }
     ensures grown { HasSeenMore pass.old pass.new }
 {
-    let work = RoundWork { round, gate };
     let mut front = Front::new(round.alloc, round.node.width());
     let mut best = None;
     let mut founds = Vec::new(round.alloc);
@@ -123,7 +227,9 @@ pub fn best_over<G: Gate>(
     let mut place = 0;
     let mut cards = round.node.choices();
     'cards: while let Some(card) = cards.pop_first() {
-        let below = after_place(&work, worker, pass, &mut findings, place, card, &front)?;
+        let alpha = &front;
+        let at = CardSearch { place, card, alpha };
+        let below = after_place(crew, round, workers, pass, &mut findings, &at)?;
         place += 1;
         let entered = below.entered.larger(most);
         most = Some(entered);
@@ -152,7 +258,34 @@ pub fn best_over<G: Gate>(
     }
 }
 
-/// A round: the workers search the root cards side by side, and what they know is put together.
+// What the workers report of the root cards that they share. Once they are a team they share none: they
+// race after each.
+fn shared_out<C: RootCrew>(
+    crew: &C,
+    round: &Round,
+    workers: &mut [RootWorker],
+    pass: &mut Pass,
+) -> Searched
+    requires ready { C.ready crew.now }
+    requires round { IsRound round.now }
+    requires some { 1 ≤ length workers.old }
+    requires pass { IsPassOf round.now.table.now pass.old }
+    ensures right { IfOk result (λ findings. AreRight (IsKnownAt round.now) findings.items) }
+    ensures pass { IsPassOf round.now.table.now pass.new }
+    ensures grown { HasSeenMore pass.old pass.new }
+{
+    if workers[0].solver.is_in_team() {
+        return Ok(Vec::new(round.alloc));
+    }
+    let task = Task {
+        round,
+        help: Help::Cards,
+    };
+    crew.searched(&task, workers, pass)
+}
+
+/// A round: the workers search root cards side by side or race after each, and what they know is put
+/// together.
 pub fn run_round<C: RootCrew>(
     crew: &C,
     round: &Round,
@@ -167,6 +300,6 @@ pub fn run_round<C: RootCrew>(
     ensures pass { IsPassOf round.now.table.now pass.new }
     ensures grown { HasSeenMore pass.old pass.new }
 {
-    let findings = crew.searched(round, workers, pass)?;
-    best_over(round, crew.gate(), &mut workers[0], pass, findings)
+    let findings = shared_out(crew, round, workers, pass)?;
+    best_over(crew, round, workers, pass, findings)
 }

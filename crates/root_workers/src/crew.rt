@@ -3,11 +3,12 @@ ghost use Rattle.std.specs.Prelude.{◌≤◌, ⊤, IfOk, length};
 ghost use Rattle.std.specs.Thread.{IsSync};
 ghost use Rattle.shared_table.specs.Passes.{IsPassOf};
 ghost use Rattle.root_workers.specs.Crews.{Searches};
-ghost use Rattle.root_workers.specs.Rounds.{IsRound, IsKnownAt, HasSeenMore};
+ghost use Rattle.root_workers.specs.Rounds.{HasSeenMore};
+ghost use Rattle.root_workers.specs.Tasks.{IsTask, IsKnownBy};
 ghost use Rattle.worker_pool.specs.Findings.{AreRight};
 
 use crate::round_work::RoundWork;
-use crate::rounds::Round;
+use crate::rounds::{Help, Task};
 use crate::worker_results::Known;
 use crate::workers::RootWorker;
 use am_outside::Gate;
@@ -19,8 +20,8 @@ use worker_pool::{Finding, work_side_by_side};
 /// What workers know of root cards, or that there was no memory for it.
 pub type Searched = Result<Vec<Finding<Known>>, AllocError>;
 
-/// Searches root cards of a round before the caller goes through all of them, and has the gate that
-/// all of them pass. No answer depends on which cards those are, or on the gate.
+/// Helps the caller, who goes through all root cards of a round, and has the gate that every search
+/// of a root card passes. No answer depends on what help there is, or on the gate.
 pub trait RootCrew {
     type Gate: Gate;
 
@@ -30,14 +31,14 @@ pub trait RootCrew {
     /// The gate that hears as the search of a root card begins and ends.
     fn gate(&self) -> &Self::Gate;
 
-    /// What is known of root cards once the workers have searched.
-    fn searched(&self, round: &Round, workers: &mut [RootWorker], pass: &mut Pass) -> Searched
+    /// What is known of root cards once the workers have done their task.
+    fn searched(&self, task: &Task, workers: &mut [RootWorker], pass: &mut Pass) -> Searched
         requires ready { ready self.now }
-        requires round { IsRound round.now }
+        requires task { IsTask task.now }
         requires some { 1 ≤ length workers.old }
-        requires pass { IsPassOf round.now.table.now pass.old }
-        ensures right { IfOk result (λ findings. AreRight (IsKnownAt round.now) findings.items) }
-        ensures pass { IsPassOf round.now.table.now pass.new }
+        requires pass { IsPassOf task.now.round.now.table.now pass.old }
+        ensures right { IfOk result (λ findings. AreRight (IsKnownBy task.now) findings.items) }
+        ensures pass { IsPassOf task.now.round.now.table.now pass.new }
         ensures grown { HasSeenMore pass.old pass.new };
 }
 
@@ -56,8 +57,8 @@ impl<G: Gate> RootCrew for Alone<'_, G> {
         self.gate
     }
 
-    fn searched(&self, round: &Round, _workers: &mut [RootWorker], _pass: &mut Pass) -> Searched {
-        Ok(Vec::new(round.alloc))
+    fn searched(&self, task: &Task, _workers: &mut [RootWorker], _pass: &mut Pass) -> Searched {
+        Ok(Vec::new(task.round.alloc))
     }
 }
 
@@ -70,7 +71,7 @@ pub struct InThreads<'a, R, G, F> {
     pub search: F,
 }
 
-impl<R, G: Gate, F: Fn(&R, &Round, &G, &mut [RootWorker], &mut Pass) -> Searched + Drop> RootCrew
+impl<R, G: Gate, F: Fn(&R, &Task, &G, &mut [RootWorker], &mut Pass) -> Searched + Drop> RootCrew
     for InThreads<'_, R, G, F> {
     type Gate = G;
 
@@ -80,34 +81,49 @@ impl<R, G: Gate, F: Fn(&R, &Round, &G, &mut [RootWorker], &mut Pass) -> Searched
         self.gate
     }
 
-    fn searched(&self, round: &Round, workers: &mut [RootWorker], pass: &mut Pass) -> Searched {
-        (self.search)(self.rt, round, self.gate, workers, pass)
+    fn searched(&self, task: &Task, workers: &mut [RootWorker], pass: &mut Pass) -> Searched {
+        (self.search)(self.rt, task, self.gate, workers, pass)
     }
 }
 
-/// What the workers find together: nothing, if there is no work for two. No more workers begin than
-/// there are cards for them.
+// How many workers a task is for. With cuts two share the root cards at most: what is won after one
+// card spares most of the search after another, which workers side by side do again.
+fn most_workers(task: &Task) -> usize {
+    let cards = usize::from(task.round.shared_cards.count());
+    match task.help {
+        Help::Cards if task.round.rules.bound => cards.min(2),
+        Help::Cards => cards,
+        Help::Race(_) | Help::Layouts => usize::MAX,
+    }
+}
+
+/// What the workers find together: nothing, if there is no work for two.
 ///
 /// `threads` says again what the bounds say: a function that is handed over doesn't keep them.
 pub fn searched_in_threads<R: Threads + Sync, G: Gate>(
     rt: &R,
-    round: &Round,
+    task: &Task,
     gate: &G,
     workers: &mut [RootWorker],
     pass: &mut Pass,
 ) -> Searched
     requires threads { IsSync R.row × IsSync G.row }
-    requires round { IsRound round.now }
+    requires task { IsTask task.now }
     requires some { 1 ≤ length workers.old }
-    requires pass { IsPassOf round.now.table.now pass.old }
-    ensures right { IfOk result (λ findings. AreRight (IsKnownAt round.now) findings.items) }
-    ensures pass { IsPassOf round.now.table.now pass.new }
+    requires pass { IsPassOf task.now.round.now.table.now pass.old }
+    ensures right { IfOk result (λ findings. AreRight (IsKnownBy task.now) findings.items) }
+    ensures pass { IsPassOf task.now.round.now.table.now pass.new }
     ensures grown { HasSeenMore pass.old pass.new }
 {
-    let count = workers.len().min(usize::from(round.shared_cards.count()));
+    let alloc = task.round.alloc;
+    let count = workers.len().min(most_workers(task));
     if count < 2 {
-        return Ok(Vec::new(round.alloc));
+        return Ok(Vec::new(alloc));
     }
-    let work = RoundWork { round, gate };
-    work_side_by_side(rt, round.alloc, &work, &mut workers[..count], pass)
+    let work = RoundWork {
+        task,
+        gate,
+        count: u32::try_from(count).unwrap_or(u32::MAX),
+    };
+    work_side_by_side(rt, alloc, &work, &mut workers[..count], pass)
 }

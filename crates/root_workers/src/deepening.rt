@@ -8,15 +8,14 @@ ghost use Rattle.root_workers.specs.Rounds.{HasSeenMore};
 
 use crate::best_card::run_round;
 use crate::crew::RootCrew;
+use crate::first_round::first_front;
 use crate::question::Question;
 use crate::rounds::{Round, RoundFront};
-use crate::searches::double_dummy;
 use crate::shared_cards::next_shared_cards;
 use crate::workers::RootWorker;
 use alphamu_core::{Entered, RootFault};
 use card_sets::CardSet;
 use cut_rules::{CutRules, Stop};
-use front_table::NoStore;
 use pareto_fronts::Front;
 use shared_table::Pass;
 
@@ -51,7 +50,7 @@ fn deepened<C: RootCrew>(
     ensures grown { HasSeenMore pass.old pass.new }
 {
     let alloc = question.alloc;
-    let mut front = double_dummy(alloc, &mut NoStore, &mut workers[0].solver, question.node)?;
+    let mut front = first_front(crew, question, pass, workers)?;
     let mut shared_cards = CardSet::empty();
     let mut most = None;
     let moves = question.moves - 1;

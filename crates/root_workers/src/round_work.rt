@@ -1,30 +1,32 @@
 //! What the workers of a round do: the root cards that they share, and what is known of each.
-ghost use Rattle.std.specs.Prelude.{◌≡◌, IfOk, IfSome, Some, length, take, slice_get};
+ghost use Rattle.std.specs.Prelude.{◌≡◌, IfOk, IfSome, Some, slice_get};
 ghost use Rattle.trick_rules.specs.Nodes.{choices};
 ghost use Rattle.shared_table.specs.Passes.{IsPassOf};
-ghost use Rattle.root_workers.specs.Rounds.{IsRound, IsWonSoFar, AreWonAfter};
+ghost use Rattle.root_workers.specs.Rounds.{IsRound, IsWonSoFar};
 ghost use Rattle.root_workers.specs.Rounds.{IsKnownAt, HasSeenMore};
+ghost use Rattle.root_workers.specs.Tasks.{IsTask, IsCardSearch, IsKnownBy};
 
 use crate::alpha::{WonSoFar, is_enough_before, known_before, no_card};
 use crate::card_search::search_card;
-use crate::rounds::Round;
+use crate::rounds::{CardSearch, Help, Round, Task};
 use crate::worker_results::Known;
 use crate::workers::RootWorker;
 use alphamu_core::RootFault;
 use am_outside::Gate;
 use card_sets::Card;
 use dd_solver::Solver;
-use pareto_fronts::Front;
 use shared_table::{Pass, SharedTable};
 use std::alloc::AllocError;
 use trick_rules::Node;
 use worker_pool::Work;
 
-/// The root cards of a round as jobs for workers, who pass a gate.
+/// A task as jobs for this many workers, who pass a gate: the root cards, or for each worker its part in
+/// a race or in asking double dummy.
 #[derive(Drop)]
 pub struct RoundWork<'a, G: Gate> {
-    pub round: &'a Round<'a>,
+    pub task: &'a Task<'a, 'a>,
     pub gate: &'a G,
+    pub count: u32,
 }
 
 // The root card at a place.
@@ -56,21 +58,16 @@ fn known_after(
     round: &Round,
     solver: &mut Solver,
     pass: &mut Pass,
-    place: u32,
-    card: Card,
-    alpha: &Front,
+    at: &CardSearch,
 ) -> Result<Option<Known>, AllocError>
     requires round { IsRound round.now }
     requires pass { IsPassOf round.now.table.now pass.old }
-    requires card { slice_get (choices round.now.node.now) place ≡ Some card }
-    requires won { AreWonAfter round.now (take place (choices round.now.node.now))
-        alpha.now.vectors }
-    requires width { alpha.now.width ≡ length round.now.node.now.lefts }
-    ensures known { IfOk result (λ known. IfSome known (IsKnownAt round.now place)) }
+    requires at { IsCardSearch round.now at.now }
+    ensures known { IfOk result (λ known. IfSome known (IsKnownAt round.now at.now.place)) }
     ensures pass { IsPassOf round.now.table.now pass.new }
     ensures grown { HasSeenMore pass.old pass.new }
 {
-    match search_card(round, solver, card, alpha, pass) {
+    match search_card(round, solver, at.card, at.alpha, pass) {
         Ok(searched) => Ok(Some(Known::of(searched))),
         Err(RootFault::Spent(_)) if round.rules.bound => Ok(None),
         Err(RootFault::Spent(_)) => Ok(Some(Known::Spent)),
@@ -116,6 +113,18 @@ fn noted(
     }
 }
 
+// Asks double dummy about all layouts of a node, from the place on at which the solver begins.
+//
+// No clause: the solver remembers what it can.
+fn ask_layouts(node: &Node, solver: &mut Solver) {
+    let width = usize::from(node.width());
+    let start = solver.begins_at(width);
+    for step in 0..width {
+        let place = (start.wrapping_add(step) % width) as u16;
+        solver.makes(node.position(), node.left(place));
+    }
+}
+
 impl<G: Gate> Work for RoundWork<'_, G> {
     type Worker = RootWorker;
 
@@ -123,24 +132,27 @@ impl<G: Gate> Work for RoundWork<'_, G> {
 
     type Found = Known;
 
-    ghost shared = { λ it. it.round.now.table.now };
+    ghost shared = { λ it. it.task.now.round.now.table.now };
 
-    ghost sound = { λ it. IsRound it.round.now };
+    ghost sound = { λ it. IsTask it.task.now };
 
-    ghost noted = { λ it won. IsWonSoFar it.round.now won };
+    ghost noted = { λ it won. IsWonSoFar it.task.now.round.now won };
 
-    ghost right = { λ it place known. IsKnownAt it.round.now place known };
+    ghost right = { λ it place known. IsKnownBy it.task.now place known };
 
     fn table(&self) -> &SharedTable {
-        self.round.table
+        self.task.round.table
     }
 
     fn places(&self) -> u32 {
-        u32::from(self.round.node.choices().count())
+        match self.task.help {
+            Help::Cards => u32::from(self.task.round.node.choices().count()),
+            Help::Race(_) | Help::Layouts => self.count,
+        }
     }
 
     fn start(&self) -> WonSoFar {
-        no_card(self.round)
+        no_card(self.task.round)
     }
 
     fn work_at(
@@ -150,16 +162,33 @@ impl<G: Gate> Work for RoundWork<'_, G> {
         pass: &mut Pass,
         place: u32,
     ) -> Result<Option<Known>, AllocError> {
-        let Some(card) = shared_card_at(self.round, place) else {
-            return Ok(None);
-        };
-        let alpha = known_before(self.round, pass, place, notes)?;
-        if is_enough_before(self.round, &alpha) {
-            return Ok(None);
+        let round = self.task.round;
+        match &self.task.help {
+            Help::Cards => {
+                let Some(card) = shared_card_at(round, place) else {
+                    return Ok(None);
+                };
+                let alpha = &known_before(round, pass, place, notes)?;
+                if is_enough_before(round, alpha) {
+                    return Ok(None);
+                }
+                let at = CardSearch { place, card, alpha };
+                self.gate.enter(worker.number, card);
+                let known = known_after(round, &mut worker.solver, pass, &at);
+                self.gate.leave(worker.number, card);
+                noted(round, notes, place, known?)
+            }
+            Help::Race(at) => {
+                self.gate.enter(worker.number, at.card);
+                let known = known_after(round, &mut worker.solver, pass, at);
+                self.gate.leave(worker.number, at.card);
+                worker.solver.end_question();
+                known
+            }
+            Help::Layouts => {
+                ask_layouts(round.node, &mut worker.solver);
+                Ok(None)
+            }
         }
-        self.gate.enter(worker.number, card);
-        let known = known_after(self.round, &mut worker.solver, pass, place, card, &alpha);
-        self.gate.leave(worker.number, card);
-        noted(self.round, notes, place, known?)
     }
 }

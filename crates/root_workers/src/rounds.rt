@@ -38,3 +38,30 @@ pub struct RoundFront {
     pub founds: Vec<Found>,
     pub most: Entered,
 }
+
+/// What the workers do beside the caller, or before it goes on.
+#[derive(Drop)]
+pub enum Help<'a> {
+    /// They search root cards, each another one.
+    Cards,
+    /// All of them search after the same root card, each from another place on, until one has ended.
+    Race(&'a CardSearch<'a>),
+    /// They ask double dummy about the layouts of the root, each from another place on. They find
+    /// nothing to report, but their memo knows the answers.
+    Layouts,
+}
+
+/// A search after a root card: the card by its place, counted from 0, and what the cards before it win.
+#[derive(Drop)]
+pub struct CardSearch<'a> {
+    pub place: u32,
+    pub card: Card,
+    pub alpha: &'a Front,
+}
+
+/// A round, and what its workers do.
+#[derive(Drop)]
+pub struct Task<'a, 'b> {
+    pub round: &'a Round<'a>,
+    pub help: Help<'b>,
+}

@@ -2,8 +2,9 @@
 ghost use Rattle.std.specs.Prelude.{◌≤◌, IfOk, length};
 
 use crate::root::Options;
-use dd_solver::Solver;
+use dd_solver::{SharedMemo, Solver};
 use std::alloc::{AllocError, Global};
+use std::sync::Arc;
 use trick_rules::Node;
 
 /// A worker by its number, counted from 0, with a double-dummy solver of its own.
@@ -23,17 +24,18 @@ impl RootWorker {
     }
 }
 
-// How many workers may share a round. With cuts two at most: what is won after one root card spares
-// most of the search after another, which workers side by side do again.
-fn most_workers(options: &Options) -> u32 {
+// How many workers a root may have. Without cuts no more than there are root cards for them; with cuts
+// they can also race after one root card.
+fn most_workers(options: &Options, node: &Node) -> u32 {
     if options.cuts {
-        options.workers.min(2)
-    } else {
         options.workers
+    } else {
+        options.workers.min(u32::from(node.choices().count()))
     }
 }
 
-/// The workers that the options ask for, or as many as there are root cards, but at least one.
+/// The workers that the options ask for, or without cuts as many as there are root cards, but at least
+/// one.
 pub fn workers_for(
     alloc: Global,
     options: &Options,
@@ -41,10 +43,40 @@ pub fn workers_for(
 ) -> Result<Vec<RootWorker>, AllocError>
     ensures { IfOk result (λ workers. 1 ≤ length workers.items) }
 {
-    let count = most_workers(options).min(u32::from(node.choices().count()));
+    let count = most_workers(options, node);
     let mut workers = vec![in alloc; RootWorker::new(alloc, 0)]?;
     for number in 1..count {
         workers.push(RootWorker::new(alloc, number))?;
     }
     Ok(workers)
+}
+
+// Gives all workers one memo of double dummy in place of their own. If there is no memory for it, each
+// keeps its own.
+fn share_memo(alloc: Global, workers: &mut [RootWorker]) {
+    let Ok(memo) = SharedMemo::new(alloc, workers.len()) else {
+        return;
+    };
+    let Ok(memo) = Arc::new(alloc, memo) else {
+        return;
+    };
+    for place in 0..workers.len() {
+        if let Ok(shared) = Arc::try_clone(&memo) {
+            workers[place].solver = Solver::sharing(alloc, shared, place);
+        }
+    }
+}
+
+/// Whether the help of the other workers pays by now. If so, all of them have one memo, and none of
+/// them has answered yet.
+///
+/// No clause: no answer depends on it.
+pub fn wants_help(alloc: Global, workers: &mut [RootWorker]) -> bool {
+    if workers.len() < 2 || !workers[0].solver.wants_help() {
+        return false;
+    }
+    if !workers[0].solver.is_in_team() {
+        share_memo(alloc, workers);
+    }
+    true
 }

@@ -2,7 +2,8 @@
 ghost use Rattle.std.specs.Prelude.{◌≡◌, ◌≤◌, true, IfOk, IfErr, length};
 ghost use Rattle.std.specs.Thread.{IsSync};
 ghost use Rattle.shared_table.specs.Passes.{IsPassOf};
-ghost use Rattle.root_workers.specs.Rounds.{IsRound, IsKnownAt, HasSeenMore};
+ghost use Rattle.root_workers.specs.Rounds.{HasSeenMore};
+ghost use Rattle.root_workers.specs.Tasks.{IsTask, IsKnownBy};
 ghost use Rattle.worker_pool.specs.Findings.{AreRight};
 ghost use Rattle.job_words.specs.Asks.{IsMoves, IsSearchWithinLimits};
 ghost use Rattle.am_answer.specs.Answers.{has_choice};
@@ -13,7 +14,7 @@ use am_outside::OpenGate;
 use byte_text::Text;
 use job_search::solve;
 use job_words::Search;
-use root_workers::{InThreads, RootWorker, Round, Searched, searched_in_threads};
+use root_workers::{InThreads, RootWorker, Searched, Task, searched_in_threads};
 use shared_table::Pass;
 use std::alloc::Global;
 use std::thread::Threads;
@@ -21,24 +22,23 @@ use std::thread::Threads;
 // The most bytes that the file of a report may have.
 const MOST_BYTES: usize = 16_777_216;
 
-// The root cards that workers in threads search in a round: a crate can hand over a function of its
-// own alone.
-fn search_round<R: Threads + Sync>(
+// What workers in threads report of root cards: a crate can hand over a function of its own alone.
+fn help_in_threads<R: Threads + Sync>(
     rt: &R,
-    round: &Round,
+    task: &Task,
     gate: &OpenGate,
     workers: &mut [RootWorker],
     pass: &mut Pass,
 ) -> Searched
     requires threads { IsSync R.row }
-    requires round { IsRound round.now }
+    requires task { IsTask task.now }
     requires some { 1 ≤ length workers.old }
-    requires pass { IsPassOf round.now.table.now pass.old }
-    ensures right { IfOk result (λ findings. AreRight (IsKnownAt round.now) findings.items) }
-    ensures pass { IsPassOf round.now.table.now pass.new }
+    requires pass { IsPassOf task.now.round.now.table.now pass.old }
+    ensures right { IfOk result (λ findings. AreRight (IsKnownBy task.now) findings.items) }
+    ensures pass { IsPassOf task.now.round.now.table.now pass.new }
     ensures grown { HasSeenMore pass.old pass.new }
 {
-    searched_in_threads(rt, round, gate, workers, pass)
+    searched_in_threads(rt, task, gate, workers, pass)
 }
 
 /// The report that `solve` gives at a root, for `moves` moves of declarer's side. Errors: those of
@@ -60,7 +60,7 @@ pub fn solved_report<R: Threads + Sync>(
     let crew = InThreads {
         rt,
         gate: &OpenGate,
-        search: search_round,
+        search: help_in_threads,
     };
     let report = solve(&crew, alloc, root, moves, search)?;
     if report.bytes().len() > MOST_BYTES {

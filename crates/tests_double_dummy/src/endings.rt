@@ -2,10 +2,14 @@
 ghost use Rattle.std.specs.Prelude.{◌≤◌};
 
 use card_sets::{CardSet, Seat, Suit};
-use dd_solver::Solver;
+use dd_solver::{SharedMemo, Solver};
 use double_dummy::makes_plain;
-use std::alloc::Global;
+use std::alloc::{AllocError, Global};
 use std::process::Abort;
+use std::sync::Arc;
+use std::test::Fail;
+use std::thread;
+use std::thread::Threads;
 use trick_rules::{Position, Trump, play};
 
 /// Numbers that follow one another without an order that shows.
@@ -105,10 +109,7 @@ fn needs_made(rt: &impl Abort, solver: &mut Solver, draws: &mut Draws, tricks: u
 }
 
 /// How many needs are made in this many endings, of three and of four tricks in turn.
-fn needs_of_endings(rt: &impl Abort, alloc: Global, limit: u32, endings: u8) -> u32
-    requires { limit ≤ 262144 }
-{
-    let mut solver = Solver::with_memo(alloc, limit);
+fn needs_of_endings(rt: &impl Abort, mut solver: Solver, endings: u8) -> u32 {
     let mut draws = Draws { state: 20_191_118 };
     let mut made: u32 = 0;
     for ending in 0..endings {
@@ -122,7 +123,7 @@ fn needs_of_endings(rt: &impl Abort, alloc: Global, limit: u32, endings: u8) -> 
 /// earlier ones.
 #[test]
 fn as_plain_minimax_on_random_endings(rt: HostRuntime) {
-    let made = needs_of_endings(&rt, rt.alloc(), 262_144, 240);
+    let made = needs_of_endings(&rt, Solver::new(rt.alloc()), 240);
     assert!(rt; made > 200);
     assert!(rt; made < 640);
 }
@@ -131,10 +132,32 @@ fn as_plain_minimax_on_random_endings(rt: HostRuntime) {
 /// place of another.
 #[test]
 fn as_plain_minimax_with_few_places(rt: HostRuntime) {
-    let all = needs_of_endings(&rt, rt.alloc(), 262_144, 60);
+    let all = needs_of_endings(&rt, Solver::new(rt.alloc()), 60);
     for limit in [0, 1, 2, 3, 16, 17, 100, 300] {
-        assert_eq!(rt; needs_of_endings(&rt, rt.alloc(), limit, 60), all);
+        let solver = Solver::with_memo(rt.alloc(), limit);
+        assert_eq!(rt; needs_of_endings(&rt, solver, 60), all);
     }
+}
+
+// Two threads, whose solvers share a memo, ask about the same endings.
+fn ask_in_two_threads<R: Threads + Abort + Sync>(rt: &R, alloc: Global) -> Result<(), AllocError> {
+    let memo = Arc::new(alloc, SharedMemo::new(alloc, 2)?)?;
+    let first = Solver::sharing(alloc, Arc::try_clone(&memo)?, 0);
+    let second = Solver::sharing(alloc, memo, 1);
+    let (ours, theirs) = thread::join(
+        rt,
+        move || needs_of_endings(rt, first, 60),
+        move || needs_of_endings(rt, second, 60),
+    );
+    assert_eq!(rt; ours, theirs);
+    Ok(())
+}
+
+/// So are solvers in two threads that share what they remember.
+#[test]
+fn as_plain_minimax_in_two_threads(rt: HostRuntime) -> Result<(), Fail> {
+    ask_in_two_threads(&rt, rt.alloc())?;
+    Ok(())
 }
 
 /// Endings of five tricks.

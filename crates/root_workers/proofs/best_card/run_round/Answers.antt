@@ -3,7 +3,7 @@ use Rattle.root_workers.proofs.RootEnds.{root_end}
 use Rattle.root_workers.proofs.best_card.run_round.Goals as goal
 
 pub returns-clause-grown : goal.returns-clause-grown
-returns-clause-grown g c = seen_more c.args.pass.now c.searched.new.pass c.best_over.new.pass c.searched.ensures.grown c.best_over.ensures.grown
+returns-clause-grown g c = seen_more c.args.pass.now c.shared_out.new.pass c.best_over.new.pass c.shared_out.ensures.grown c.best_over.ensures.grown
 
 pub returns-clause-end : goal.returns-clause-end
 returns-clause-end g c =
