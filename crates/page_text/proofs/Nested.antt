@@ -1,38 +1,40 @@
 -- The steps of a text of which the first line is taken, and the words of a text of which the first is.
-use Rattle.std.proofs.Common.{◌≡◌, ◌∙◌, ◌+◌, ◌<◌, ℕ, List, [], ◌∷◌, ◌++◌, length, Option, Some, None, MatchOption, Bor, sym, ap, append_assoc, flat_map, codes, arith}
+use Rattle.std.proofs.Common.{◌≡◌, ◌∙◌, ◌+◌, ◌<◌, ℕ, List, [], ◌∷◌, ◌++◌, length, slice_get, Option, Some, None, MatchOption, Bor, sym, ap, append_assoc, flat_map, codes, arith}
 use Rattle.std.specs.Option.{option_map}
 use Rattle.std.specs.List.{slice_split}
 use Rattle.byte_text.specs.Lines.{is_line_end}
 use Rattle.byte_text.specs.Blanks.{words}
+use Rattle.win_vectors.specs.Fronts.{Vector}
 use Rattle.html_text.specs.declared.page.Piece.{Piece}
 use Rattle.html_text.specs.Pages.{own}
 use Rattle.page_text.specs.Steps.{card_in, word_as, word_pieces, step, steps_after, level_after}
-
--- the steps of the text that is left
-abbrev pub steps_left : ℕ → Option (List ℕ) → List Piece
-steps_left level None = steps_after level []
-steps_left level (Some text) = steps_after level (slice_split is_line_end text)
 
 abbrev pub size_left : Option (List ℕ) → ℕ
 size_left None = 0
 size_left (Some text) = length text + 1
 
-first_taken : (level : ℕ) (text line : List ℕ) (after : Option (Bor (List ℕ)))
-    → MatchOption after (slice_split is_line_end text ≡ line ∷ []) (λ rest. slice_split is_line_end text ≡ line ∷ slice_split is_line_end rest.now)
-    → steps_left level (Some text) ≡ step level line ++ steps_left (level_after level line) (option_map (λ rest. rest.now) after)
-first_taken level text line None is = ap (steps_after level) is
-first_taken level text line (Some rest) is = ap (steps_after level) is
+module _ (line : ℕ) (reached : List Vector) where
+  -- the steps of the text that is left
+  abbrev pub steps_left : ℕ → ℕ → Option (List ℕ) → List Piece
+  steps_left place level None = steps_after line reached place level []
+  steps_left place level (Some text) = steps_after line reached place level (slice_split is_line_end text)
 
--- one step more
-pub step_more : (start now next : List Piece) (level : ℕ) (text line : List ℕ) (after : Option (Bor (List ℕ)))
-    → now ++ steps_left level (Some text) ≡ start
-    → MatchOption after (slice_split is_line_end text ≡ line ∷ []) (λ rest. slice_split is_line_end text ≡ line ∷ slice_split is_line_end rest.now)
-    → next ≡ now ++ step level line
-    → next ++ steps_left (level_after level line) (option_map (λ rest. rest.now) after) ≡ start
-step_more start now next level text line after so_far is grew =
-    let later = steps_left (level_after level line) (option_map (λ rest. rest.now) after) in
-    ap (λ pieces. pieces ++ later) grew ∙ append_assoc now (step level line) later
-    ∙ ap (λ pieces. now ++ pieces) (sym (first_taken level text line after is)) ∙ so_far
+  first_taken : (place level : ℕ) (text first : List ℕ) (after : Option (Bor (List ℕ)))
+      → MatchOption after (slice_split is_line_end text ≡ first ∷ []) (λ rest. slice_split is_line_end text ≡ first ∷ slice_split is_line_end rest.now)
+      → steps_left place level (Some text) ≡ step line place (slice_get reached place) level first ++ steps_left (place + 1) (level_after level first) (option_map (λ rest. rest.now) after)
+  first_taken place level text first None is = ap (steps_after line reached place level) is
+  first_taken place level text first (Some rest) is = ap (steps_after line reached place level) is
+
+  -- one step more
+  pub step_more : (start now next : List Piece) (place level : ℕ) (text first : List ℕ) (after : Option (Bor (List ℕ)))
+      → now ++ steps_left place level (Some text) ≡ start
+      → MatchOption after (slice_split is_line_end text ≡ first ∷ []) (λ rest. slice_split is_line_end text ≡ first ∷ slice_split is_line_end rest.now)
+      → next ≡ now ++ step line place (slice_get reached place) level first
+      → next ++ steps_left (place + 1) (level_after level first) (option_map (λ rest. rest.now) after) ≡ start
+  step_more start now next place level text first after so_far is grew =
+      let later = steps_left (place + 1) (level_after level first) (option_map (λ rest. rest.now) after) in
+      ap (λ pieces. pieces ++ later) grew ∙ append_assoc now (step line place (slice_get reached place) level first) later
+      ∙ ap (λ pieces. now ++ pieces) (sym (first_taken place level text first after is)) ∙ so_far
 
 -- one word more
 pub word_more : (start now begun next : List Piece) (rest word after : List ℕ) → now ++ flat_map word_pieces (words rest) ≡ start → words rest ≡ word ∷ words after
