@@ -1,4 +1,6 @@
 //! The layouts that can reach the steps of a line.
+ghost use Rattle.std.specs.Prelude.{◌≡◌};
+
 use std::marker::Model;
 use win_vectors::WinVector;
 
