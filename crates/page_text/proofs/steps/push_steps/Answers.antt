@@ -15,10 +15,10 @@ lines-preserved c =
     let first = c.split_line.result.0.now in
     let after = c.split_line.result.1 in
     let so_far = subst (λ (rest : Option (Bor (List ℕ))). c.lines.page ++ steps_left line reached place c.lines.level (option_map (λ t. t.now) rest) ≡ c.args.page.now ++ steps line reached words)
-        c.in-Some.is c.lines.invariant.so_far in
+    c.in-Some.is c.lines.invariant.so_far in
     let few = subst (λ (rest : Option (Bor (List ℕ))). place + size_left (option_map (λ t. t.now) rest) ≤ length words + 1) c.in-Some.is c.lines.invariant.few in
     let grew = c.in_ok-level.ensures.step
-        ∙ ap (λ (layouts : Option Vector). c.lines.page ++ step line place layouts c.lines.level first) (copied_is reached place c.get.result c.get.ensures.lookup) in
+    ∙ ap (λ (layouts : Option Vector). c.lines.page ++ step line place layouts c.lines.level first) (copied_is reached place c.get.result c.get.ensures.lookup) in
     record {
       so_far = subst (λ (level : ℕ). c.push_step.new.page ++ steps_left line reached (place + 1) level (option_map (λ t. t.now) after) ≡ c.args.page.now ++ steps line reached words)
           (sym c.in_ok-level.ensures.level)
