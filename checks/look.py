@@ -6,7 +6,9 @@ folder in EXAMPLES, by a search of MOVES moves. A page must load nothing, run no
 not be wider than the window, except for what scrolls by itself. The contrast of each text with what is behind it must be at least
 LEAST_CONTRAST, light and dark, of what is folded too. On paper nothing may be cut off. Each control must be reached by Tab, in the
 order of the page. With no script and by keys alone a layout is picked: its hands must be at the table, its columns marked and its
-item framed, on a small phone and on paper too. With --pictures it leaves pictures of each page in a folder.
+item framed, and exactly the steps must be hidden that it can't reach, on a small phone and on paper too; no button may be there then.
+With the page's script, and by keys too, CARDS cards of a line are played out, which must be struck out at the table, and taken back;
+and all but the report is unfolded. With --pictures it leaves pictures of each page in a folder.
 
 If there is no Chromium (Debian: `apt-get install chromium`), or it can't be driven here, it says so, and the status is 0."""
 import argparse
@@ -24,6 +26,8 @@ sys.dont_write_bytecode = True
 from cases import LAUNCHER, STUDY, TOP, is_ready
 
 EXAMPLES, MOVES = ("restricted-choice", "squeeze-or-finesse", "two-way-finesse"), "4"
+# How many cards of a line are played out.
+CARDS = 5
 # In pixels: a small phone, and a screen; and what A4 leaves between its margins.
 WIDTHS, PAPER = (360, 1280), 718
 LEAST_CONTRAST = 4.5
@@ -59,7 +63,7 @@ LOOK = """(() => {
   return [...new Set(wrong)].slice(0, 5);
 })()"""
 # The controls that can be seen, in order, and the one that has the focus.
-CONTROLS = "[...document.querySelectorAll('a[href],summary,select,[tabindex]')].filter(it => it.checkVisibility())"
+CONTROLS = "[...document.querySelectorAll('a[href],summary,select,button,[tabindex]')].filter(it => it.checkVisibility())"
 NAMED = "(it => it.tagName + ' ' + it.textContent.trim().split('\\n')[0].slice(0, 30))"
 # What is shown of the layout of a number: the hands at the table and in the list, the heads of the columns that are framed, and whether
 # its item is, alone, and each row as its head.
@@ -71,8 +75,14 @@ SHOWN = """(() => {
   return {
     told: hands([...item.querySelectorAll('.side')]), dealt: hands(all('.table>div:has(.one)')), heads: framed('thead th').map(words),
     framed: items.length === 1 && items[0] === item && framed('tr>*').length === all('#trade-offs tr,#sampling tr').length,
+    hidden: all('.words li').every(it => (getComputedStyle(it).display === 'none') === it.matches('.step:not(.lNUMBER)')),
+    buttons: all('button').filter(it => it.checkVisibility()).length,
   };
 })()"""
+# How many cards are struck out at the table, and what is said of them.
+STRUCK = "[document.querySelectorAll('.table .gone').length, document.getElementById('said').textContent]"
+# What is folded.
+FOLDED = "[...document.querySelectorAll('details:not([open])')].map(it => it.id)"
 
 
 class Browser:
@@ -188,6 +198,8 @@ def faults_of_picking(browser, address):
         wrong += [f"{name}: the table has {shown['dealt']}, and the list {shown['told']}"] * (shown["dealt"] != shown["told"])
         if shown["heads"] != [str(number)] * 2 or not shown["framed"]:
             wrong.append(f"{name}: the frames aren't round it, but round the columns {shown['heads']}")
+        wrong += [f"{name}: the steps that it can't reach aren't those that are hidden"] * (not shown["hidden"])
+        wrong += [f"{name}: there are {shown['buttons']} buttons without the script"] * (shown["buttons"] > 0)
     browser.show(WIDTHS[0])
     for _ in range(number):
         browser.press("ArrowUp", 38)
@@ -195,6 +207,28 @@ def faults_of_picking(browser, address):
         wrong.append("with nothing picked the page isn't as before")
     browser.ask("Emulation.setScriptExecutionDisabled", value=False)
     return wrong
+
+
+def faults_of_script(browser, address, dark):
+    """What is wrong with what the page's script does, by keys, on a small phone."""
+    browser.show(WIDTHS[0], dark)
+    browser.open(address)
+
+    def press(name, times):
+        browser.value(f"document.getElementById('{name}').focus()")
+        for _ in range(times):
+            browser.press(" ", 32)
+        return browser.value(STRUCK)
+    struck, said = press("next", CARDS)
+    wrong = [f"played out: {it}" for it in browser.look()]
+    if struck != CARDS or not said.startswith(f"{CARDS} of "):
+        wrong.append(f"of {CARDS} cards {struck} are struck out, and the page says {said}")
+    if press("back", CARDS + 1) != [0, ""]:
+        wrong.append("cards that are taken back stay struck out")
+    press("open", 1)
+    if browser.value(FOLDED) != ["report"]:
+        wrong.append(f"folded after all are opened: {browser.value(FOLDED)}")
+    return wrong + list(events_at_fault(browser, address))
 
 
 def faults_of(browser, page, pictures):
@@ -213,6 +247,8 @@ def faults_of(browser, page, pictures):
         browser.value("document.querySelectorAll('details').forEach(it => { it.open = true; })")
         wrong += [f"{tag}{' dark' * dark} unfolded: {it}" for it in browser.look(media)]
     wrong += faults_of_picking(browser, address)
+    for dark in (False, True):
+        wrong += faults_of_script(browser, address, dark)
     return [f"{name}: {it}" for it in dict.fromkeys(wrong)]
 
 

@@ -1,5 +1,5 @@
 #!/usr/bin/env python3
-"""page.py [--jobs N] [--seconds N] [--only PATTERN] [PROGRAM]
+"""page.py [--jobs N] [--seconds N] [--only PATTERN] [--folder FOLDER] [PROGRAM]
 
 Asks ./study for the page (`page`) of each case in cases/ that expects a report, of the same with hostile tags in its deal file, and
 of a report of MOVES moves for the board of each folder in EXAMPLES. A page must be well formed (each tag closed in order, and XML
@@ -15,8 +15,13 @@ in it end and go, trick by trick, as the games of the job `lines` do.
 A report that `check` refuses must be refused with the same line and status. The exit status is 0 only if nothing is wrong, and if
 at least LEAST pages were made.
 
+With --folder it asks for the pages of other cases in its place: a folder of folders with the words in `args`, the text that `solve`
+must give in `expect_out` and its status in `expect_code`. Each page must be well formed and marked as above, and hold its report.
+
 Both programs must be there and current: ./build makes them."""
+import base64
 import fnmatch
+import hashlib
 import os
 import re
 import subprocess
@@ -51,7 +56,7 @@ class Reader(HTMLParser):
 
     def __init__(self):
         super().__init__()
-        self.open, self.ids, self.links, self.wrong, self.texts = [], set(), [], [], {}
+        self.open, self.ids, self.links, self.wrong, self.texts, self.scripts = [], set(), [], [], {}, 0
 
     def handle_starttag(self, tag, attrs):
         self.open.append((tag, dict(attrs).get("id")))
@@ -72,7 +77,8 @@ class Reader(HTMLParser):
 
     def note(self, tag, attrs):
         names = dict(attrs)
-        if tag in ("script", "img", "link", "iframe", "object") or "src" in names or any(name.startswith("on") for name in names):
+        self.scripts += tag == "script"
+        if tag in ("img", "link", "iframe", "object") or "src" in names or any(name.startswith("on") for name in names) or self.scripts > 1:
             self.wrong.append(f"<{tag}> loads or runs something")
         if names.get("id") in self.ids:
             self.wrong.append(f"two elements are called {names['id']}")
@@ -92,6 +98,27 @@ def rows_of(page, name):
     """The rows of the table in a part of the page, below its head."""
     part = next(it for it in page.iter("section") if it.get("id") == name)
     return [[text_of(cell).strip() for cell in row] for row in part.find(".//tbody")]
+
+
+def faults_of_script(reader, page):
+    """What is wrong with the only script: the policy must name its digest, and what it shows must be hidden before it runs."""
+    digest = base64.b64encode(hashlib.sha256(reader.texts.get(("script", None), "").encode()).digest()).decode()
+    policy = next(it.get("content") for it in page.iter("meta") if it.get("http-equiv"))
+    wrong = [] if policy.split() == f"default-src 'none'; style-src 'unsafe-inline'; script-src 'sha256-{digest}'".split() else ["the policy isn't for the script"]
+    shown = [it for part in page.iter("p") if part.get("hidden") for it in part]
+    return wrong + ["a button is shown without the script"] * any(it not in shown for it in page.iter("button"))
+
+
+def faults_of_marks(page, width):
+    """What is wrong with the marks of steps: one that not every layout can reach must have a class for each that is made or fails from there."""
+    for line, part in enumerate((it for it in page.iter("div") if it.get("class") == "words"), 1):
+        for place, step in enumerate(part.iter("li")):
+            numbers = re.search(r"\((?:made in ([^;)]*))?(?:; )?(?:fails in ([^)]*))?\):", text_of(step))
+            reached = {number for it in numbers.groups() if it for span in it.split(", ") for ends in [list(map(int, span.split(" to ")))]
+                       for number in range(ends[0], ends[-1] + 1)}
+            wanted = ["step", *(f"l{it}" for it in sorted(reached))] if len(reached) < width else []
+            if step.get("id") != f"step-{line}-{place}" or step.get("class", "").split() != wanted:
+                yield f"line {line}, step {place}: called {step.get('id')} and marked {step.get('class')}"
 
 
 def steps_of(lists, depth=0):
@@ -235,8 +262,11 @@ def faults_of_picker(page, width):
         wrong.append(f"the choices are {choices}")
     rules = re.findall(r"^#table:has\(>p>select>option:nth-child\(.*", page.find(".//style").text, re.M)
     numbers = [list(map(int, re.findall(r"\((\d+)\)", it))) for it in rules]
-    if numbers != [[at + 1, at + 1, at + 1, at + 3, at + 1, at + 3, at + 1, at] for at in range(1, width + 1)]:
+    if numbers != [it for at in range(1, width + 1) for it in ([at + 1, at + 1, at + 1, at + 3, at + 1, at + 3, at + 1, at], [at + 1])]:
         wrong.append("the rules don't show the layouts")
+    if [list(map(int, it)) for it in re.findall(r"child\((\d+)\):checked\)~#lines \.step:not\(\.l(\d+)\)\{display:none\}$", "\n".join(rules), re.M)] != [
+            [at + 1, at] for at in range(1, width + 1)]:
+        wrong.append("the rules don't hide the steps")
     items = next(it for it in page.iter("ol") if it.get("class") == "layouts")
     listed = [dict(zip((side.find("b").text for side in item.iterfind("div")), hands_of(side.find("ul") for side in item.iterfind("div")))) for item in items]
     part = next(it for it in page.iter("div") if it.get("class") == "table")
@@ -278,8 +308,8 @@ def faults_of_plays(page, head, lines, games, fusion):
     return wrong
 
 
-def faults_of(text, deal, report, words, fusion, games):
-    """What is wrong with a page of this report for this deal, by the texts of the jobs words, fusion and lines."""
+def page_of(text, report):
+    """The page with this report, and what is wrong with it as a page; no page if it is no XML."""
     reader = Reader()
     text = text.decode()
     reader.feed(text)
@@ -289,9 +319,18 @@ def faults_of(text, deal, report, words, fusion, games):
     try:
         page = xml.etree.ElementTree.fromstring(text.split("\n", 1)[1])
     except xml.etree.ElementTree.ParseError as error:
-        return [*wrong, f"no XML: {error}"]
+        return None, [*wrong, f"no XML: {error}"]
     if reader.texts.get(("pre", "text"), "").encode() != report:
         wrong.append("the report on the page differs")
+    width = len(reading.report_of(report)[2][0][0])
+    return page, [*wrong, *faults_of_script(reader, page), *faults_of_marks(page, width)]
+
+
+def faults_of(text, deal, report, words, fusion, games):
+    """What is wrong with a page of this report for this deal, by the texts of the jobs words, fusion and lines."""
+    page, wrong = page_of(text, report)
+    if page is None:
+        return wrong
     head, _, entries = reading.report_of(report)
     if [row[3:] for row in rows_of(page, "trade-offs")] != [[SIGNS[bit] for bit in bits.decode()] for bits, _, _ in entries]:
         wrong.append("the signs differ from the vectors")
@@ -303,8 +342,9 @@ def faults_of(text, deal, report, words, fusion, games):
     wrong += faults_of_partings(page, entries, reading.board_of(reading.games_of(deal)[0]))
     wrong += faults_of_picker(page, len(entries[0][0])) + faults_of_plays(page, head, len(entries), games, fusion)
     best = max(weight for _, weight, _ in entries)
-    promised = re.search(r"<strong>(\d+) of", text)
-    if int(promised[1]) == best and "No line of this report makes more." not in text:
+    shown = text.decode()
+    promised = re.search(r"<strong>(\d+) of", shown)
+    if int(promised[1]) == best and "No line of this report makes more." not in shown:
         wrong.append("the best line is said not to be the best")
     return wrong
 
@@ -375,6 +415,35 @@ def judge(case, program, seconds):
     return [f"{case}: {it}" for it in wrong], 3
 
 
+def judge_other(folder, name, seconds):
+    """What is wrong with the page of a case in another folder, and whether there is one."""
+    room = os.path.join(folder, name)
+
+    def read(file):
+        with open(os.path.join(room, file), "rb") as content:
+            return content.read()
+    words = read("args").split(b"\n")[:-1]
+    if read("expect_code").strip() != b"0" or job_of(words) != "solve":
+        return [], 0
+    options = reading.ask_of([word.decode() for word in words])[1]
+    asked = [STUDY, "--job", "page", "--deal", options["deal"], "--layouts", options["layouts"], "--report", "expect_out"]
+    ran = subprocess.run(asked, cwd=room, capture_output=True, timeout=seconds, check=False)
+    wrong = [f"no page: {ran.stderr!r}"] if ran.returncode else page_of(ran.stdout, read("expect_out"))[1]
+    return [f"{name}: {it}" for it in wrong], 1
+
+
+def main_of_folder(given):
+    """The same for the cases of another folder."""
+    names = fnmatch.filter(sorted(it for it in os.listdir(given.folder) if os.path.isdir(os.path.join(given.folder, it))), given.only)
+    with ProcessPoolExecutor(given.jobs) as pool:
+        told = list(pool.map(judge_other, [given.folder] * len(names), names, [given.seconds] * len(names)))
+    wrong, number = [line for lines, _ in told for line in lines], sum(count for _, count in told)
+    for line in wrong:
+        print(line)
+    print(f"page: {number} pages of {len(names)} cases, {len(wrong)} wrong")
+    return 0 if number and not wrong else 1
+
+
 def judge_example(program, name, seconds):
     """What is wrong with the page of an example."""
     room = os.path.join(TOP, "examples", name)
@@ -403,9 +472,13 @@ def refusals(seconds):
 
 
 def main():
-    given = parser_of("Shows the reports of alphamu's cases as pages.").parse_args()
+    parser = parser_of("Shows the reports of alphamu's cases as pages.")
+    parser.add_argument("--folder", metavar="FOLDER")
+    given = parser.parse_args()
     if not is_ready(given.program, "page"):
         return 1
+    if given.folder:
+        return main_of_folder(given)
     cases = fnmatch.filter(names_of_cases(), given.only)
     with ProcessPoolExecutor(given.jobs) as pool:
         told = list(pool.map(judge, cases, [given.program] * len(cases), [given.seconds] * len(cases)))

@@ -12,7 +12,8 @@ use Rattle.html_text.specs.Pages.{own, piece_text, written}
 use Rattle.page_text.specs.declared.lines.Line.{Line}
 use Rattle.page_text.specs.declared.partings.Beside.{Beside}
 use Rattle.page_text.specs.declared.plays.PlayedLine.{PlayedLine}
-use Rattle.page_text.specs.declared.markup.TheConstants.{END, REPORT, REPORT_END}
+use Rattle.page_text.specs.declared.markup.TheConstants.{REPORT, REPORT_END}
+use Rattle.page_text.specs.declared.script.TheConstants.{END}
 use Rattle.page_text.specs.Frames.{report}
 use Rattle.page_text.specs.Cards.{cards}
 use Rattle.page_report.specs.ReportPages.{scale_of, top, middle, page, HoldsReport, HoldsItsReport}

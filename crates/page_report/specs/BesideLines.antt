@@ -1,4 +1,4 @@
--- The later lines of a report beside the first.
+-- The later lines of a report, compared with the first.
 use Rattle.std.specs.Prelude.{◌≡◌, ℕ, ◌+◌, ⊤, List, [], ◌∷◌, take, All}
 use Rattle.trick_rules.specs.Nodes.{NodeValue}
 use Rattle.strategy_games.specs.Plans.{Plan, Fits}

@@ -22,8 +22,9 @@ use Rattle.am_report.specs.declared.version.Version.TheVariants.{Counts, Weights
 use Rattle.am_report.specs.Answers.{ReadEntryValue}
 use Rattle.am_report.specs.Reading.{ReadReportValue}
 use Rattle.told_plans.specs.Told.{Told}
-use Rattle.told_layouts.specs.Looking.{step_layouts}
+use Rattle.told_layouts.specs.Looking.{step_layouts, reached}
 use Rattle.told_words.specs.Words.{told_text}
+use Rattle.told_words.specs.Reached.{lines_reached}
 use Rattle.told_report.specs.ToldReport.{AreToldOf}
 use Rattle.card_brackets.specs.declared.table.CardTable.{CardTable}
 use Rattle.html_text.specs.declared.page.Piece.{Piece}
@@ -31,7 +32,8 @@ use Rattle.html_text.specs.Pages.{own, told, written}
 use Rattle.html_text.specs.Escapes.{escape}
 use Rattle.page_text.specs.declared.beliefs.Belief.{Belief}
 use Rattle.page_text.specs.declared.lines.Line.{Line}
-use Rattle.page_text.specs.declared.markup.TheConstants.{NAVIGATION, END, REPORT, REPORT_END}
+use Rattle.page_text.specs.declared.markup.TheConstants.{NAVIGATION, REPORT, REPORT_END}
+use Rattle.page_text.specs.declared.script.TheConstants.{END}
 use Rattle.page_text.specs.declared.verdict.Rivals.{Rivals}
 use Rattle.page_text.specs.declared.verdict.Rivals.TheVariants.{Reported, Planned, All}
 use Rattle.page_text.specs.declared.verdict.Scale.{Scale}
@@ -58,7 +60,8 @@ first_card Stop = None
 first_card (Play card rest) = Some card
 first_card (Hear replies) = None
 
--- a strategy of the report, by its number, with what decides its vector, and its told plan in words
+-- a strategy of the report, by its number, with what decides its vector, its told plan in words, and the layouts that can reach
+-- each line of these
 abbrev pub line_of : Compass → NodeValue → ℕ → ReadEntryValue → Told → Line
 line_of declarer node number read told = record {
   number = number;
@@ -67,6 +70,7 @@ line_of declarer node number read told = record {
   begins = first_card read.entry.plan;
   reason = what_decides node read.entry.vector;
   words = told_text declarer (step_layouts read.entry.plan node) told node;
+  reached = lines_reached (reached read.entry.plan node) told;
 }
 
 -- the strategies, numbered onwards from the first one's number
@@ -102,7 +106,7 @@ scale_of kept version = record { total = sum kept.weights; by_weight = is_weighe
 abbrev pub value_of : List ℕ → GameValue → Option (List ℕ)
 value_of name game = option_map (λ tag. tag.value) (tag_named name game)
 
--- what the page tells of a game's tags
+-- what the page shows of a game's tags
 abbrev pub tags_of : GameValue → TagValues
 tags_of game = record { event = value_of (codes "Event") game; board = value_of (codes "Board") game; contract = value_of (codes "Contract") game }
 

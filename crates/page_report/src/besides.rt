@@ -1,4 +1,4 @@
-//! The later lines of a report beside the first.
+//! The later lines of a report, compared with the first.
 ghost use Rattle.std.specs.Prelude.{◌≡◌, All, IfOk};
 ghost use Rattle.line_partings.specs.Partings.{FitOneNode, IsWhereTheyPart};
 ghost use Rattle.page_report.specs.BesideLines.{FitTogether, BesideFrom, AreBeside};
@@ -11,7 +11,7 @@ use std::alloc::{AllocError, Global};
 // The most lines that are compared with the first.
 const MOST_BESIDES: usize = 5;
 
-// A later strategy by its number, beside the first.
+// A later strategy by its number, compared with the first.
 fn beside_of(
     alloc: Global,
     number: u64,
@@ -27,7 +27,7 @@ fn beside_of(
     Ok(Beside { number, parting })
 }
 
-// The later strategies beside the first, numbered from 2.
+// The later strategies compared with the first, numbered from 2.
 fn each_beside(
     alloc: Global,
     first: &ReadEntry,

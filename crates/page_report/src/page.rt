@@ -40,7 +40,7 @@ use win_vectors::{Weights, WinVector};
 /// A report at a root, to be shown.
 #[derive(Drop)]
 pub struct Shown<'a> {
-    /// The deal file's first game, whose tags are told.
+    /// The deal file's first game, whose tags are shown.
     pub game: &'a Game,
     /// Its board.
     pub board: &'a Board,
@@ -256,9 +256,9 @@ fn page_of(alloc: Global, shown: &Shown, found: &Found) -> Result<Page, AllocErr
     Ok(page)
 }
 
-/// The page of a report at a root, where declarer's side is to play.
+/// The page of a report at a root at which declarer's side is to play.
 ///
-/// Each strategy is told in words, and each told plan, cut down at the node, is the report's plan.
+/// Each strategy is put into words, and each told plan, cut down at the node, is the report's plan.
 /// The first strategy and each of the next five are compared, and the first four are played out in
 /// each layout, against a defence that beats them if there is one.
 /// The report itself stands at the end of the page, byte for byte.

@@ -1,4 +1,4 @@
--- What plain sampling believes of each card, beside what the lines make that begin with it.
+-- What plain sampling believes of each card, next to what the lines make that begin with it.
 use Rattle.std.specs.Prelude.{ℕ, ◌==◌, Bool, List, [], ◌++◌, map, flat_map, nat_lt, codes, if◌then◌else◌}
 use Rattle.std.specs.List.{list_any, range_with_len}
 use Rattle.std.specs.Fmt.{decimal}

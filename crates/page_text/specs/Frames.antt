@@ -20,7 +20,7 @@ unfoldable pub fact : List ℕ → Option (List ℕ) → List Piece
 fact front None = []
 fact front (Some value) = own front ++ told (utf8_lossy value) ++ own (codes "</li>\n")
 
--- the event, the board and the contract of the deal file, if it tells them
+-- the event, the board and the contract of the deal file, if it has them
 pub record TagValues : Type 0 where
   pub event : Option (List ℕ)
   pub board : Option (List ℕ)

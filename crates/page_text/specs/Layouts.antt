@@ -43,7 +43,7 @@ makes_at place line = get_or line.vector place false
 abbrev pub maker : ℕ → Line → List Piece
 maker place line = if makes_at place line then own (codes " ") ++ link line.number else []
 
--- how the lines that make a layout are told, if there is one
+-- the words before the lines that make a layout, or that none does
 abbrev pub made_by : Bool → List ℕ
 made_by is_made = if is_made then codes "Made by line" else codes "No line makes it"
 

@@ -57,7 +57,7 @@ line_start number = own LINE.now ++ told (decimal number) ++ own (opening number
 
 -- what decides which layouts a line makes, and its words as nested lists
 unfoldable pub line_words : Compass → Line → List Piece
-line_words declarer line = own WORDS.now ++ decided DECIDED.now declarer line.reason ++ steps line.words ++ own WORDS_END.now
+line_words declarer line = own WORDS.now ++ decided DECIDED.now declarer line.reason ++ steps line.number line.reached line.words ++ own WORDS_END.now
 
 -- a line with what it makes, and its words
 unfoldable pub line_pieces : Compass → Scale → Line → List Piece

@@ -1,4 +1,4 @@
--- Where the lines part: the first line beside the later ones.
+-- Where the lines part: the first line compared with the later ones.
 use Rattle.std.specs.Prelude.{ℕ, ◌==◌, Option, None, Some, List, [], ◌∷◌, ◌++◌, length, flat_map, nat_lt, codes, if◌then◌else◌}
 use Rattle.std.specs.Fmt.{decimal}
 use Rattle.card_sets.specs.declared.seat.Compass.{Compass}
@@ -82,7 +82,7 @@ abbrev pub where_apart : Compass → PositionValue → ℕ → Option PartingVal
 where_apart declarer t number None = own ALIKE.now
 where_apart declarer t number (Some place) = parting declarer t number place
 
--- a line beside the first
+-- a line compared with the first
 unfoldable pub beside : Compass → PositionValue → Beside → List Piece
 beside declarer t line = both_lines line.number ++ where_apart declarer t line.number line.parting
 
@@ -92,7 +92,7 @@ beside declarer t line = both_lines line.number ++ where_apart declarer t line.n
 abbrev pub first_few : ℕ → List ℕ
 first_few lines = if nat_lt 6 lines then ONLY_SIX.now else []
 
--- the lines beside the first, if there are any
+-- the lines compared with the first, if there are any
 unfoldable pub list : Compass → PositionValue → List Beside → List Piece
 list declarer t besides =
     if length besides == 0 then own NO_SECOND.now

@@ -4,7 +4,7 @@ use Rattle.std.specs.List.{range_with_len}
 use Rattle.std.specs.Fmt.{decimal}
 use Rattle.html_text.specs.declared.page.Piece.{Piece}
 use Rattle.html_text.specs.Pages.{own, told}
-use Rattle.page_text.specs.declared.markup.TheConstants.{PICKER, CHOICE, CHOICE_END, PICKER_END, PICKED, HANDS, CELLS, HEADS, ITEMS, SHOWN}
+use Rattle.page_text.specs.declared.markup.TheConstants.{PICKER, CHOICE, CHOICE_END, PICKER_END, PICKED, HANDS, CELLS, HEADS, ITEMS, SHOWN, STEPS, HIDDEN}
 use Rattle.page_text.specs.Shared.{numbered}
 
 -- the number of a layout, which can be picked
@@ -24,9 +24,16 @@ unfoldable pub columns_if : ℕ → List Piece
 columns_if number = part_if number CELLS.now (number + 3) ++ own (codes ",") ++ part_if number HEADS.now (number + 3)
 
 -- if the layout is picked, its hands are shown at the table, behind those of any, and its columns and its item in the list are framed
-unfoldable pub rule : ℕ → List Piece
-rule number =
+unfoldable pub shown_if : ℕ → List Piece
+shown_if number =
     part_if number HANDS.now (number + 1) ++ own (codes ",") ++ columns_if number ++ own (codes ",") ++ part_if number ITEMS.now number ++ own SHOWN.now
+
+-- and the steps that it can't reach are hidden: those that are marked, but not with this layout
+unfoldable pub hidden_if : ℕ → List Piece
+hidden_if number = part_if number STEPS.now number ++ own HIDDEN.now
+
+abbrev pub rule : ℕ → List Piece
+rule number = shown_if number ++ hidden_if number
 
 -- a rule for each of this many layouts
 abbrev pub rules : ℕ → List Piece

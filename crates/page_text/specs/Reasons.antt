@@ -48,7 +48,7 @@ abbrev pub reason_pieces : Compass → Reason → List Piece
 reason_pieces declarer (One fact) = fact_pieces declarer fact
 reason_pieces declarer (Two first joint second) = fact_pieces declarer first ++ own (joint_word joint) ++ fact_pieces declarer second
 
--- in which layouts a line makes, after the start of the sentence, if a reason tells
+-- in which layouts a line makes, after the start of the sentence, if there is a reason
 unfoldable pub decided : List ℕ → Compass → Option Reason → List Piece
 decided start declarer None = []
 decided start declarer (Some reason) = own start ++ reason_pieces declarer reason ++ own DECIDED_END.now

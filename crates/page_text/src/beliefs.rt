@@ -1,4 +1,4 @@
-//! What plain sampling believes, beside the lines.
+//! What plain sampling believes, next to the lines.
 ghost use Rattle.std.specs.Prelude.{◌≡◌, ◌++◌, flat_map, OnOk};
 ghost use Rattle.page_text.specs.Beliefs.{most_believed, favourite, favourites, summary, has_line};
 ghost use Rattle.page_text.specs.Beliefs.{shortfall, best_line, figures, belief_row, sampling};
@@ -139,7 +139,7 @@ fn push_beliefs(page: &mut Page, lines: &[Line], beliefs: &[Belief]) -> Result<(
     Ok(())
 }
 
-/// Adds what plain sampling believes of each card, beside the best line that begins with it: a row
+/// Adds what plain sampling believes of each card, next to the best line that begins with it: a row
 /// for each, and this many columns, one for each layout.
 #[tactic(auto, unfolding(crate::specs::Beliefs::sampling))]
 pub fn push_sampling(

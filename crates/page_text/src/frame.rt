@@ -1,14 +1,16 @@
 //! What stands round the parts of a page.
 ghost use Rattle.std.specs.Prelude.{◌≡◌, ◌++◌, OnOk, option_copied};
 ghost use Rattle.html_text.specs.Pages.{own};
-ghost use Rattle.page_text.specs.declared.markup.TheConstants.{NAVIGATION, END};
+ghost use Rattle.page_text.specs.declared.markup.TheConstants.{NAVIGATION};
+ghost use Rattle.page_text.specs.declared.script.TheConstants.{END};
 ghost use Rattle.page_text.specs.Frames.{start, told_by, fact, tags as tag_pieces, facts, report};
 
 use crate::markup::{
-    BOARD, CONTRACT, END, EVENT, FACTS, FACTS_END, HEAD, HEAD_END, NAVIGATION, REPORT, REPORT_END,
+    BOARD, CONTRACT, EVENT, FACTS, FACTS_END, HEAD, HEAD_END, NAVIGATION, REPORT, REPORT_END,
     STYLE, TITLE_END,
 };
 use crate::picking::push_rules;
+use crate::script::END;
 use crate::signs::compass_word;
 use card_letters::letters_of;
 use card_sets::{Card, Compass};

@@ -9,6 +9,7 @@ use crate::markup::{
     COLUMN, DECIDED, FIRST_CARD, LINE, LINES, LINK, ROW, ROWS, ROWS_END, SECTION_END, SUMMARY,
     TRADE_OFFS, WEIGHT, WORDS, WORDS_END,
 };
+use crate::reached::Reached;
 use crate::reasons::push_decided;
 use crate::shared::push_each_numbered;
 use crate::signs::push_card;
@@ -36,6 +37,8 @@ pub struct Line {
     pub reason: Option<Reason>,
     /// The line in words.
     pub words: Text,
+    /// The layouts that can reach each line of these words.
+    pub reached: Reached,
 }
 
 fn sign(made: bool) -> &'static [u8]
@@ -159,7 +162,7 @@ fn push_words(page: &mut Page, declarer: Compass, line: &Line) -> Result<(), All
 {
     page.own(WORDS)?;
     push_decided(page, DECIDED, declarer, &line.reason)?;
-    push_steps(page, line.words.bytes())?;
+    push_steps(page, line.number, line.reached.steps(), line.words.bytes())?;
     page.own(WORDS_END)
 }
 

@@ -8,7 +8,8 @@ pub const HEAD: &[u8] = b"<!DOCTYPE html>
 <meta charset='utf-8'/>
 <meta name='viewport' content='width=device-width, initial-scale=1'/>
 <meta http-equiv='Content-Security-Policy'
- content='default-src &#39;none&#39;; style-src &#39;unsafe-inline&#39;'/>
+ content='default-src &#39;none&#39;; style-src &#39;unsafe-inline&#39;;
+ script-src &#39;sha256-PXkT0BpgMm8DWo5mCVi450a/vmP/VHCNQ/LjxHAv8ZE=&#39;'/>
 <title>Play ";
 
 pub const STYLE: &[u8] = b"
@@ -32,8 +33,7 @@ p{margin:.4rem 0;max-width:46rem}
 color:var(--soft);overflow-wrap:anywhere}
 a{color:var(--green)}
 nav a{display:inline-block;margin-right:1rem}
-a:focus-visible,summary:focus-visible,select:focus-visible,[tabindex]:focus-visible{
-outline:3px solid var(--orange);outline-offset:2px}
+:is(a,summary,select,button,[tabindex]):focus-visible{outline:3px solid var(--orange);outline-offset:2px}
 .h{color:var(--red)}.d{color:var(--orange)}.c{color:var(--green)}
 .table{display:grid;grid-template-areas:'. n .' 'w m e' '. f .';grid-template-columns:1fr auto 1fr;
 gap:.6rem;width:max-content;max-width:100%;background:var(--card);border:1px solid var(--edge);
@@ -54,8 +54,9 @@ text-align:center;font-size:.9rem}
 .one,.layout{outline-offset:.2rem}tr>*{outline-offset:-2px}
 @supports selector(:has(a)){.pick{display:block}}
 #table:has(option:nth-child(n+2):checked) .any{display:none}
-select{font:inherit;color:inherit;background:var(--card);border:1px solid var(--soft);
+select,button{font:inherit;color:inherit;background:var(--card);border:1px solid var(--soft);
 border-radius:.4rem;padding:.3rem .5rem;min-height:2.4rem}
+.gone{color:var(--soft);text-decoration:line-through}
 table{border-collapse:collapse;font-variant-numeric:tabular-nums}
 th,td{border-bottom:1px solid var(--edge);padding:.25rem .55rem;text-align:center}
 .y{background:var(--yes);color:var(--green)}.x{background:var(--no);color:var(--red)}
@@ -71,7 +72,7 @@ font:.85rem/1.5 ui-monospace,monospace}
 @media (max-width:34rem){.table{gap:.3rem;padding:.5rem;font-size:.9rem}h1{font-size:1.6rem}
 .side{min-width:0;display:block}.words ul{padding-left:.5rem}.words>ul{padding:0}
 .few th,.few td{padding:.25rem .3rem}}
-@media print{body{background:#fff}header{background:none}nav,footer{display:none}
+@media print{body{background:#fff}header{background:none}nav,footer,button,.play{display:none}
 .pick:has(option:first-child:checked){display:none}
 .m{background:none;color:#000;border:1px solid}.wide{overflow:visible}
 .wide table,.wide thead,.wide tbody{display:block}.wide tr{display:flex;flex-wrap:wrap}
@@ -84,14 +85,9 @@ pub const NAVIGATION: &[u8] =
     b"<nav><a href='#table'>The table</a> <a href='#trade-offs'>Side by side</a>
 <a href='#sampling'>Sampling</a> <a href='#lines'>In words</a>
 <a href='#partings'>Where they part</a> <a href='#layouts'>The layouts</a> <a href='#report'>The report</a></nav>
+<p hidden='hidden'><button type='button' id='open'>Open all</button></p>
 </header>
 <main>
-";
-
-pub const END: &[u8] = b"</main>
-<footer><p>Nothing on this page is loaded from a network.</p></footer>
-</body>
-</html>
 ";
 
 pub const TITLE_END: &[u8] = b"</title>\n<style>";
@@ -172,6 +168,9 @@ pub const TABLE_START: &[u8] = b"<section id='table'>
 ";
 
 pub const TABLE_END: &[u8] = b"</div>
+<p class='play' hidden='hidden'><label for='line'>Play out line</label> <select id='line'></select>
+<button type='button' id='back'>Back</button> <button type='button' id='next'>Next card</button>
+<span id='said' role='status'></span></p>
 <p class='note'><span class='any'>A defender&#8217;s hand has every card that may be in it. </span>Bold:
 held in every layout.</p>
 </section>
@@ -218,6 +217,10 @@ pub const HEADS: &[u8] = b"):checked)~:is(#trade-offs,#sampling) th:nth-child(";
 
 pub const ITEMS: &[u8] = b"):checked)~#layouts .layout:nth-child(";
 
+pub const STEPS: &[u8] = b"):checked)~#lines .step:not(.l";
+
+pub const HIDDEN: &[u8] = b"{display:none}\n";
+
 pub const SHOWN: &[u8] = b"{display:revert;outline:2px solid var(--orange)}\n";
 
 // ---- the lines
@@ -254,7 +257,7 @@ pub const LINES: &[u8] = b"<section id='lines'>
 <p class='note'>Replies after which a line goes on alike are told together. In brackets are the
 <a href='#layouts'>layouts</a> that are made from there, and those that fail. A card gives up a
 layout if the contract could be made there before it, with all hands seen, and no longer after
-it.</p>
+it. If a layout is picked at the table, the steps that can&#8217;t be reached in it are hidden.</p>
 ";
 
 pub const COLUMN: &[u8] = b"<th scope='col'>";
@@ -279,13 +282,20 @@ pub const WORDS: &[u8] = b"</summary>\n<div class='words'>";
 
 pub const WORDS_END: &[u8] = b"</div></details>\n";
 
-// From one step to the next: a list within it, the end of such a list, and the next in the same.
+// From one step to the next: a list within it and further lists within that, the end of such a list,
+// and the next in the same. The tag of the next step goes on with its name and its classes.
 
-pub const LIST: &[u8] = b"\n<ul>\n<li>";
+pub const LIST: &[u8] = b"\n<ul>\n<li";
+
+pub const INNER_LIST: &[u8] = b">\n<ul>\n<li";
 
 pub const LIST_END: &[u8] = b"</li>\n</ul>\n";
 
-pub const NEXT_STEP: &[u8] = b"</li>\n<li>";
+pub const NEXT_STEP: &[u8] = b"</li>\n<li";
+
+pub const STEP: &[u8] = b" id='step-";
+
+pub const CLASSES: &[u8] = b" class='step ";
 
 pub const SECTION_END: &[u8] = b"</section>\n";
 

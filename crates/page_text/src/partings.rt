@@ -18,7 +18,7 @@ use line_partings::Parting;
 use std::alloc::AllocError;
 use trick_rules::{Position, Trick, Trump};
 
-/// A line of a report beside the first.
+/// A later line of a report, compared with the first.
 #[derive(Debug, Drop)]
 pub struct Beside {
     /// Its number, from 2.

@@ -1,9 +1,11 @@
 //! The picker of a layout, and the rules by which a page shows the one that is picked.
 ghost use Rattle.std.specs.Prelude.{◌≡◌, ◌++◌, OnOk};
-ghost use Rattle.page_text.specs.Picking.{picker, part_if, columns_if, rule, rules};
+ghost use Rattle.page_text.specs.Picking.{picker, part_if, columns_if, shown_if, hidden_if};
+ghost use Rattle.page_text.specs.Picking.{rule, rules};
 
 use crate::markup::{
-    CELLS, CHOICE, CHOICE_END, HANDS, HEADS, ITEMS, PICKED, PICKER, PICKER_END, SHOWN,
+    CELLS, CHOICE, CHOICE_END, HANDS, HEADS, HIDDEN, ITEMS, PICKED, PICKER, PICKER_END, SHOWN,
+    STEPS,
 };
 use crate::shared::push_each_numbered;
 use html_text::Page;
@@ -44,9 +46,9 @@ fn push_columns_if(page: &mut Page, number: u16) -> Result<(), AllocError>
     push_part_if(page, number, HEADS, place)
 }
 
-#[tactic(auto, unfolding(crate::specs::Picking::rule))]
-fn push_rule(page: &mut Page, number: u16) -> Result<(), AllocError>
-    ensures { OnOk result (page.new ≡ page.old ++ rule number) }
+#[tactic(auto, unfolding(crate::specs::Picking::shown_if))]
+fn push_shown_if(page: &mut Page, number: u16) -> Result<(), AllocError>
+    ensures { OnOk result (page.new ≡ page.old ++ shown_if number) }
 {
     push_part_if(page, number, HANDS, u64::from(number) + 1)?;
     page.own(b",")?;
@@ -54,6 +56,21 @@ fn push_rule(page: &mut Page, number: u16) -> Result<(), AllocError>
     page.own(b",")?;
     push_part_if(page, number, ITEMS, u64::from(number))?;
     page.own(SHOWN)
+}
+
+#[tactic(auto, unfolding(crate::specs::Picking::hidden_if))]
+fn push_hidden_if(page: &mut Page, number: u16) -> Result<(), AllocError>
+    ensures { OnOk result (page.new ≡ page.old ++ hidden_if number) }
+{
+    push_part_if(page, number, STEPS, u64::from(number))?;
+    page.own(HIDDEN)
+}
+
+fn push_rule(page: &mut Page, number: u16) -> Result<(), AllocError>
+    ensures { OnOk result (page.new ≡ page.old ++ rule number) }
+{
+    push_shown_if(page, number)?;
+    push_hidden_if(page, number)
 }
 
 /// Adds a rule of style for each of this many layouts: what is shown if that one is picked.

@@ -6,8 +6,9 @@ ghost use Rattle.page_text.specs.Shared.{numbered};
 use html_text::Page;
 use std::alloc::AllocError;
 
+/// Adds a number between two texts.
 #[tactic(auto, unfolding(crate::specs::Shared::numbered))]
-fn push_numbered(
+pub fn push_numbered(
     page: &mut Page,
     number: u16,
     before: &'static [u8],

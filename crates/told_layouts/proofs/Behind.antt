@@ -12,9 +12,9 @@ use Rattle.strategy_games.proofs.Lists.{Contains-here, Contains-there}
 use Rattle.strategy_tree.specs.Bridge.{bridge}
 use Rattle.strategy_check.specs.Following.{CanFollow}
 use Rattle.told_layouts.specs.Places.{CanReach, IsWonFrom, IsLostFrom, GivesUp, IsGivenUpAt}
-use Rattle.told_layouts.specs.Looking.{somewhere, loses, gives_up, is_won, step_layouts}
+use Rattle.told_layouts.specs.Looking.{somewhere, loses, gives_up, is_won, step_layouts, reached}
 use Rattle.told_layouts.specs.Behind.{AreThose}
-use Rattle.told_layouts.specs.Losing.{StepLayoutsAreBehind}
+use Rattle.told_layouts.specs.Losing.{StepLayoutsAreBehind, ReachedCanReach}
 use Rattle.told_layouts.proofs.Placed.{found_place, passes_somewhere}
 
 pub those : (f : State → Bool) (IsSo : State → Type 0) (layouts : List State) → ((s : State) → Contains layouts s → (f s ≡ true) ↔ IsSo s) → AreThose IsSo layouts (map f layouts)
@@ -93,3 +93,9 @@ step_layouts_are_behind plan n moves sets sound fits =
       lost = those (λ s. somewhere loses sets plan s) (λ s. IsLostFrom sets plan s) (states n) (λ s among. lost_from sets plan s (follow s among));
       given_up = those (λ s. somewhere gives_up sets plan s) (λ s. IsGivenUpAt sets plan s) (states n) (λ s among. given_up_at sets plan s (follow s among));
     }
+
+pub reached_are_behind : ReachedCanReach
+unfolding reached
+reached_are_behind plan n moves sets sound fits =
+    let follow : (s : State) → Contains (states n) s → CanFollow plan s = λ s among. record { node = n; moves = moves; sound = sound; among = among; fits = fits } in
+    those (λ s. somewhere (λ rest place. true) sets plan s) (λ s. CanReach sets plan s) (states n) (λ s among. reaches sets plan s (follow s among))

@@ -43,3 +43,7 @@ step_layouts plan n sets = record {
   lost = map (λ s. somewhere loses sets plan s) (states n);
   given_up = map (λ s. somewhere gives_up sets plan s) (states n);
 }
+
+-- the layouts that can reach the step, looked at one after another
+unfoldable pub reached : Plan ℕ → NodeValue → List (List ℕ) → List Bool
+reached plan n sets = map (λ s. somewhere (λ rest place. true) sets plan s) (states n)

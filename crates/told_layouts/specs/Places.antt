@@ -7,7 +7,7 @@ use Rattle.strategy_games.specs.Plans.{Plan, Stop, Play, Hear, wins}
 use Rattle.strategy_tree.specs.Bridge.{bridge}
 use Rattle.told_plans.specs.Follows.{rest_after}
 
--- A step is told after one card of each of these sets. A place of the step is what such cards lead to: a state of the
+-- A step comes after one card of each of these sets. A place of the step is what such cards lead to: a state of the
 -- layout, and the rest of the plan there. Each of the cards is legal, and the plan foresees it
 abbrev pub IsPlace : List (List ℕ) → Plan ℕ → State → Plan ℕ → State → Type 0
 IsPlace [] plan s rest place = (plan ≡ rest) × (s ≡ place)

@@ -5,6 +5,7 @@ ghost use Rattle.strategy_games.specs.Plans.{Plan, wins};
 ghost use Rattle.strategy_tree.specs.Bridge.{bridge};
 ghost use Rattle.told_layouts.specs.Places.{CanReach, IsWonFrom};
 ghost use Rattle.told_layouts.specs.Losing.{LosesWhatItGivesUp, StepLayoutsAreBehind};
+ghost use Rattle.told_layouts.specs.Losing.{ReachedCanReach};
 
 /// Every layout reaches the first step of a plan, and is won from there exactly if the plan wins
 /// it.
@@ -26,4 +27,10 @@ pub fn a_strategy_loses_what_it_gives_up()
 /// Of every step of a strategy, the layouts that are looked up are those behind it.
 pub fn step_layouts_are_behind()
     ensures { StepLayoutsAreBehind }
+{}
+
+/// Of every step of a strategy, the layouts that are marked as reaching it are those that can.
+#[tactic(auto, using(crate::proofs::Behind::reached_are_behind))]
+pub fn reached_layouts_can_reach()
+    ensures { ReachedCanReach }
 {}

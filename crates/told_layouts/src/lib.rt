@@ -5,7 +5,8 @@
 #![tactic(auto)]
 
 pub mod laws;
+mod reaching;
 mod standing;
 mod steps;
 
-pub use steps::{StepLayouts, layouts_at};
+pub use steps::{StepLayouts, layouts_at, reached_at};

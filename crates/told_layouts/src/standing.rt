@@ -57,7 +57,7 @@ impl Standing {
     }
 }
 
-/// What is so at the places of the step after one card of each set, where Left holds these cards.
+/// What is so at the places of the step after one card of each set, if Left holds these cards.
 #[cycle(standing)]
 pub fn standing_at(
     solver: &mut Solver,

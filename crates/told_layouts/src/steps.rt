@@ -3,9 +3,12 @@ ghost use Rattle.std.specs.Prelude.{◌≡◌, ℕ};
 ghost use Rattle.strategy_games.specs.Plans.{Fits};
 ghost use Rattle.strategy_tree.specs.Bridge.{bridge};
 ghost use Rattle.strategy_tree.specs.PlanMeaning.{plan_of};
-ghost use Rattle.told_layouts.specs.Behind.{AreBehind};
-ghost use Rattle.told_layouts.specs.Looking.{step_layouts};
+ghost use Rattle.trick_rules.specs.Nodes.{states};
+ghost use Rattle.told_layouts.specs.Places.{CanReach};
+ghost use Rattle.told_layouts.specs.Behind.{AreThose, AreBehind};
+ghost use Rattle.told_layouts.specs.Looking.{step_layouts, reached};
 
+use crate::reaching::reaches;
 use crate::standing::standing_at;
 use card_sets::CardSet;
 use dd_solver::Solver;
@@ -25,7 +28,7 @@ pub struct StepLayouts {
     pub given_up: WinVector,
 }
 
-/// The layouts behind the step of a strategy at a node that is told after one card of each of these
+/// The layouts behind the step of a strategy at a node that comes after one card of each of these
 /// sets.
 ///
 /// The solver remembers what it finds, so one should be used for all steps.
@@ -49,4 +52,21 @@ pub fn layouts_at(solver: &mut Solver, plan: &Plan, node: &Node, sets: &[CardSet
         lost,
         given_up,
     }
+}
+
+/// The layouts that can reach the step of a strategy at a node that comes after one card of each of
+/// these sets, a bit a layout, in the order of the layouts.
+pub fn reached_at(plan: &Plan, node: &Node, sets: &[CardSet]) -> WinVector
+    requires { (moves : ℕ) × Fits bridge (plan_of plan.now) node.now moves }
+    ensures value { result ≡ reached (plan_of plan.now) node.now sets.now }
+    ensures those { AreThose (λ s. CanReach sets.now (plan_of plan.now) s)
+        (states node.now) result }
+{
+    let width = node.width();
+    let mut reached = WinVector::none(width);
+    for place in 0..width {
+        let can_reach = reaches(plan, node.position(), node.left(place), sets);
+        reached = reached.set(place, can_reach);
+    }
+    reached
 }

@@ -1,5 +1,5 @@
 -- Phrases and branches, one after another.
-use Rattle.std.proofs.Common.{◌≡◌, ◌∙◌, ◌<◌, ◌+◌, ◌++◌, Bool, false, cond, ℕ, suc, List, [], ◌∷◌, drop, length, get_or, refl, sym, ap, ap₂, append_assoc, arith}
+use Rattle.std.proofs.Common.{◌≡◌, ◌∙◌, ◌<◌, ◌+◌, ◌++◌, Bool, true, false, not, cond, ℕ, suc, List, [], ◌∷◌, drop, length, get_or, refl, sym, ap, ap₂, append_assoc, arith}
 use Rattle.std.proofs.Math.Seq.{drop-cons}
 use Rattle.card_sets.specs.declared.seat.Compass.{Compass}
 use Rattle.trick_rules.specs.Nodes.{NodeValue}
@@ -35,6 +35,15 @@ not_one : (bs : List Branch) → (length bs ≡ 1 → ⊥) → is_one (branches_
 not_one [] other = refl
 not_one (b ∷ []) other = absurd (other refl)
 not_one (b ∷ d ∷ bs) other = refl
+
+-- one branch goes on in the same line
+pub one_begins : (bs : List Branch) → length bs ≡ 1 → not (is_one (branches_of bs)) ≡ false
+one_begins [] one = absurd (omega (arith, one))
+one_begins (b ∷ []) one = refl
+one_begins (b ∷ d ∷ bs) one = absurd (omega (arith, one))
+
+pub several_begin : (bs : List Branch) → (length bs ≡ 1 → ⊥) → not (is_one (branches_of bs)) ≡ true
+several_begin bs other = ap not (not_one bs other)
 
 pub several_lines : (layouts : Layouts) (bs : List Branch) (line : Line) (step : StepValue) → (length bs ≡ 1 → ⊥)
     → steps_text layouts (ToldHear (branches_of bs)) line step ≡ line_end line ++ branch_lines layouts (branches_of bs) (further_in line) step

@@ -3,4 +3,5 @@ pub mod Phrases
 pub mod Numbers
 pub mod Steps
 pub mod Words
+pub mod Reached
 pub mod Strategies

@@ -18,8 +18,8 @@ has_layout bits number = has_place (false ∷ bits) number
 abbrev pub has_one : Vector → Bool
 has_one bits = list_any (λ bit. bit) bits
 
--- What is told of a number, if it has begun with a lower one or not. Of three or more in a row the first and the last are
--- told, as "8 to 10"
+-- What is written of a number, if a lower one is written before it or not. Of three or more in a row the first and the last
+-- are written, as "8 to 10"
 abbrev pub number_text : Vector → Bool → ℕ → List ℕ
 number_text bits begun number =
     if not (has_layout bits number) then []
@@ -27,7 +27,7 @@ number_text bits begun number =
     else if has_layout bits (number - 1) && has_layout bits (number - 2) then codes " to " ++ decimal number
     else (if begun then codes ", " else []) ++ decimal number
 
--- what is told of the numbers up to this one
+-- what is written of the numbers up to this one
 abbrev pub numbers_upto : Vector → ℕ → List ℕ
 numbers_upto bits zero = []
 numbers_upto bits (suc number) = numbers_upto bits number ++ number_text bits (has_one (take number bits)) (suc number)

@@ -3,7 +3,7 @@ use Rattle.std.specs.Prelude.{ℕ, List, [], ◌∷◌, ◌++◌}
 use Rattle.trick_rules.specs.Nodes.{NodeValue}
 use Rattle.told_words.specs.Turns.{after_cards}
 
--- it is told after one card of each of these sets, and stands for these nodes
+-- it comes after one card of each of these sets, and stands for these nodes
 pub record StepValue : Type 0 where
   pub sets : List (List ℕ)
   pub places : List NodeValue

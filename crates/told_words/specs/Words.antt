@@ -47,7 +47,7 @@ is_one NoBranch = false
 is_one (Branch cards told NoBranch) = true
 is_one (Branch cards told (Branch others next later)) = false
 
--- the layouts behind each step, by the sets of cards after which it is told
+-- the layouts behind each step, by the sets of cards after which it comes
 abbrev pub Layouts : Type 0
 Layouts = List (List ℕ) → StepLayouts
 

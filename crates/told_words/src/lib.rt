@@ -6,9 +6,11 @@
 mod layouts;
 mod lines;
 mod phrases;
+mod reached;
 mod steps;
 mod turns;
 mod words;
 
+pub use reached::lines_reached;
 pub use steps::Strategy;
 pub use words::Writer;

@@ -20,7 +20,7 @@ pub struct Turn {
     pub manner: Manner,
 }
 
-/// The turns in the order in which they are told.
+/// The turns in the order of the text.
 pub const TURNS: [Turn; 16] = [
     Turn {
         seat: Seat::Declarer,

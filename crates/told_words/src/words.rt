@@ -212,7 +212,7 @@ impl Writer {
         self.push_steps(strategy, line.after_winner(winner), told, step)
     }
 
-    // Appends what is told of a defender's cards.
+    // Appends what follows on a defender's cards.
     #[cycle(steps)]
     fn push_hear(
         &mut self,
