@@ -422,10 +422,14 @@ def judge_other(folder, name, seconds):
     def read(file):
         with open(os.path.join(room, file), "rb") as content:
             return content.read()
-    words = read("args").split(b"\n")[:-1]
+    words = read("args").removesuffix(b"\n").split(b"\n")
     if read("expect_code").strip() != b"0" or job_of(words) != "solve":
         return [], 0
-    options = reading.ask_of([word.decode() for word in words])[1]
+    asked = reading.ask_of([word.decode() for word in words])
+    if not asked:
+        # Words that alphamu refuses, such as a table that is too large.
+        return [], 0
+    options = asked[1]
     asked = [STUDY, "--job", "page", "--deal", options["deal"], "--layouts", options["layouts"], "--report", "expect_out"]
     ran = subprocess.run(asked, cwd=room, capture_output=True, timeout=seconds, check=False)
     wrong = [f"no page: {ran.stderr!r}"] if ran.returncode else page_of(ran.stdout, read("expect_out"))[1]
