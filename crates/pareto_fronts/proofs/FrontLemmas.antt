@@ -1,8 +1,9 @@
 -- Steps of the calls of a front.
-use Rattle.std.proofs.Common.{◌≡◌, ◌≢◌, ℕ, suc, zero, ◌+◌, ◌<◌, ◌≤◌, true, false, List, [], ◌∷◌, ◌++◌, length, refl, sym, ap, subst, ◌∙◌, arith, add-zero, get_or, inl, inr, AllPairs, All, insert, take, drop, not, Any, Contains, Result, Ok, Err, IsOk, OnOk}
-use Rattle.std.proofs.lemmas.Bool.{false≢true, cases_Bool, cases_order}
-use Rattle.std.proofs.lemmas.List.Elements.{Contains-get_or, All-contains, All-filter, All-more, All-nil, Contains-append_cases}
-use Rattle.std.proofs.lemmas.List.{get_or_default, get_or-take, length-take, take_more, append_assoc, take-append-drop, drop_all, get_or-drop, length-drop}
+use Rattle.std.proofs.Common.{◌≡◌, ◌≢◌, ◌==◌, ◌&&◌, Bool, ℕ, suc, zero, ◌+◌, ◌<◌, ◌≤◌, true, false, List, [], ◌∷◌, ◌++◌, length, refl, sym, ap, subst, ◌∙◌, arith, get_or, inl, inr, AllPairs, All, insert, take, drop, not, Any, Result, Ok, Err, IsOk, OnOk}
+use Rattle.std.proofs.lemmas.Bool.{false≢true, cases_Bool, cases_order, cases_lt, and_parts, eq-eqb}
+use Rattle.std.specs.List.Sorted.{IsPartitionedBy, IsPartitionPoint}
+use Rattle.std.proofs.lemmas.List.Elements.{Contains-get_or, All-contains, All-filter}
+use Rattle.std.proofs.lemmas.List.{get_or_default, get_or-take, length-take, take_more, append_assoc, get_or-drop, length-drop}
 use Rattle.win_vectors.specs.Vectors.{dominates}
 use Rattle.win_vectors.specs.Fronts.{Vector, Dominates, Precedes, Covers, HaveWidth, IsReduced, IsFirstAbove}
 use Rattle.pareto_fronts.specs.FrontValue.{FrontValue, IsSoundFront}
@@ -81,53 +82,46 @@ undominated-all v (u ∷ us) (suc place) within before none =
 
 -- ---- a search for the place
 
--- this many vectors of the list are printed before v, and none of them dominates it
-pub record Passed (us : List Vector) (v : Vector) (place : ℕ) : Type 0 where
-  pub before : All (λ u. Precedes u v) (take place us)
-  pub clear : All (λ u. ¬ Dominates u v) (take place us)
+-- whether a vector of this width is printed before v
+abbrev pub stands_before : Vector → Vector → Bool
+stands_before v u = (length u == length v) && is_before u v
 
-pub Passed-more : (us : List Vector) (v : Vector) (place : ℕ) (u : Vector) → place < length us → u ≡ get_or us place u → is_before u v ≡ true → ¬ Dominates u v → Passed us v place → Passed us v (place + 1)
-Passed-more us v place u within is before clear h = record {
-  before = All-more (λ (x : Vector). Precedes x v) us place u within h.before (subst (λ (x : Vector). Precedes x v) is ((Decides-is_before u v).0 before));
-  clear = All-more (λ (x : Vector). ¬ Dominates x v) us place u within h.clear (subst (λ (x : Vector). ¬ Dominates x v) is clear);
-}
-
--- no vector before or behind the place dominates v
-place-new : (us : List Vector) (v : Vector) (place : ℕ) → Passed us v place → All (λ u. Precedes v u) (drop place us) → ¬ Covers us v
-place-new us v place h after (u, member, above) =
-    let parts : take place us ++ drop place us ≡ us = take-append-drop place us in
-    let split : Contains (take place us ++ drop place us) u = rw parts member in
-    elim (Contains-append_cases (take place us) (drop place us) u split) [
-      | inl before ↦ All-contains (λ (x : Vector). ¬ Dominates x v) (take place us) u h.clear before above
-      | inr behind ↦
-          let later = All-contains (λ (x : Vector). Precedes v x) (drop place us) u after behind in
-          elim (Dominates-precedes u v above) [
-            | inl same ↦ Precedes-irrefl v (subst (λ (x : Vector). Precedes v x) same later)
-            | inr earlier ↦ Precedes-asym u v earlier later
-          ]
+-- the vectors that are printed before v come first
+pub parted-by_order : (us : List Vector) (v : Vector) → HaveWidth (length v) us → AllPairs Precedes us → IsPartitionedBy (stands_before v) us
+parted-by_order us v widths ordered i j d low within holds =
+    elim (cases_lt i j) [
+      | inl under ↦
+          let parts = and_parts (length (get_or us j d) == length v) (is_before (get_or us j d) v) holds in
+          let first = Precedes-trans (get_or us i d) (get_or us j d) v (ordered i j d under within) ((Decides-is_before (get_or us j d) v).0 parts.1) in
+          rw (eq-eqb (length (get_or us i d)) (length v) (widths i d (omega arith)), (Decides-is_before (get_or us i d) v).1 first) refl
+      | inr over ↦ let same : i ≡ j = omega arith in rw same holds
     ]
 
-pub place-end : (us : List Vector) (v : Vector) (place : ℕ) → length us ≤ place → place ≤ length us → Passed us v place → IsPlaceFor us v place
-place-end us v place low high h =
-    let none : drop place us ≡ [] = drop_all place us low in
-    let after : All (λ u. Precedes v u) (drop place us) = rw none (All-nil (λ u. Precedes v u)) in
-    record { within = high; before = h.before; after = after; new = place-new us v place h after }
-
-pub place-found : (us : List Vector) (v : Vector) (place : ℕ) (u : Vector) → place < length us → u ≡ get_or us place u → is_before u v ≡ false → ¬ Dominates u v → AllPairs Precedes us → Passed us v place → IsPlaceFor us v place
-place-found us v place u within is not_before clear ordered h =
-    let first : Precedes v u = elim (Precedes-cases v u) [
+-- a vector that is not printed before v, and does not dominate it, is printed after it
+printed-after : (u v : Vector) → length u ≡ length v → stands_before v u ≡ false → ¬ Dominates u v → Precedes v u
+printed-after u v width not_before clear =
+    elim (Precedes-cases v u) [
       | inl same ↦ absurd (clear (subst (λ (x : Vector). Dominates x v) same (Dominates-refl v)))
       | inr (inl before) ↦ before
-      | inr (inr after) ↦ absurd (false≢true (sym not_before ∙ (Decides-is_before u v).1 after))
-    ] in
-    let after : All (λ x. Precedes v x) (drop place us) = λ k d low. behind_first k d low first in
-    record { within = omega arith; before = h.before; after = after; new = place-new us v place h after } where
-      behind_first : (k : ℕ) (d : Vector) → k < length (drop place us) → Precedes v u → Precedes v (get_or (drop place us) k d)
-      behind_first zero d low first = rw (get_or-drop place us 0 d, add-zero, get_or_default us place d u within, ← is) first
-      behind_first (suc k) d low first =
-          let far : place + suc k < length us = omega (arith, length-drop place us) in
-          let step = ordered place (place + suc k) u (omega arith) far in
-          rw (get_or-drop place us (suc k) d, get_or_default us (place + suc k) d u far) (Precedes-trans v u (get_or us (place + suc k) u) first (subst (λ (x : Vector). Precedes x (get_or us (place + suc k) u)) (sym is) step))
+      | inr (inr after) ↦ absurd (false≢true (sym not_before ∙ rw (eq-eqb (length u) (length v) width, (Decides-is_before u v).1 after) refl))
+    ]
+
+-- the place where they end
+pub place-parted : (us : List Vector) (v : Vector) (place : ℕ) → HaveWidth (length v) us → ¬ Covers us v → place ≤ length us
+    → IsPartitionPoint (λ u. stands_before v u ≡ true) (λ u. stands_before v u ≡ false) us place → IsPlaceFor us v place
+place-parted us v place widths new within point = record {
+  within = within;
+  before = λ k d low.
+      let inside : k < place = omega (arith, length-take place us) in
+      let holds = point.0 k d (omega arith) inside in
+      rw (get_or-take place us k d inside) ((Decides-is_before (get_or us k d) v).0 (and_parts (length (get_or us k d) == length v) (is_before (get_or us k d) v) holds).1);
+  after = λ k d low.
+      let inside : place + k < length us = omega (arith, length-drop place us) in
+      let fails = point.1 (place + k) d (omega arith) inside in
+      let u = get_or us (place + k) d in
+      rw (get_or-drop place us k d) (printed-after u v (widths (place + k) d inside) fails (λ above. new (u, Contains-get_or us (place + k) d inside, above)));
+  new = new;
+}
 
 -- the reduced list has the widths of the list
 pub HaveWidth-reduced : (width : ℕ) (all front : List Vector) → IsReduced all front → HaveWidth width all → HaveWidth width front

@@ -1,10 +1,11 @@
 //! `Front`: an ordered list of vectors of one width.
 
-ghost use Rattle.std.specs.Prelude.{◌≡◌, ◌↔◌, ◌≤◌, ◌<◌, ◌+◌, ◌++◌, ◌∷◌, [], IsTrue, IsOk, IsSome, IfOk, IfSome, OnOk, OnErr, length, slice_get, Any, AllPairs, IsNone, filter, not};
+ghost use Rattle.std.specs.Prelude.{◌≡◌, ◌==◌, ◌&&◌, ◌↔◌, ◌≤◌, ◌<◌, ◌+◌, ◌++◌, ◌∷◌, [], IsTrue, IsOk, IsSome, IfOk, IfSome, OnOk, OnErr, length, slice_get, Any, AllPairs, IsNone, filter, not};
 ghost use Rattle.pareto_fronts.specs.FrontValue.{IsSoundFront, HasSpareRoom, HaveSameVectors};
 ghost use Rattle.pareto_fronts.specs.Places.{IsPlaceFor};
 ghost use Rattle.win_vectors.specs.Fronts.{Covers, CoversAll, Dominates, HaveWidth, IsFirstAbove, IsReduced, Precedes};
-ghost use Rattle.win_vectors.specs.Vectors.{dominates as is_above, most_layouts};
+ghost use Rattle.std.specs.Ordering.{is_lt};
+ghost use Rattle.win_vectors.specs.Vectors.{dominates as is_above, most_layouts, vector_order};
 
 use smallvec::SmallVec;
 use std::alloc::{AllocError, Global};
@@ -281,21 +282,36 @@ fn dominates_alike(vector: WinVector, mine: WinVector) -> bool
     vector.width() == mine.width() && vector.dominates(mine)
 }
 
-// The place of a vector in an ordered list, if no vector of the list dominates it. Only those
-// before the place could.
+// The place of a vector in an ordered list, if no vector of the list dominates it.
+//
+// Many meets of a join are dominated. To see that takes a few instructions for each vector of the
+// list, and to compare two in printing order takes many, so only a vector that is new is placed.
 fn place_for(vectors: &[WinVector], vector: WinVector) -> Option<usize>
     requires widths { HaveWidth (length vector) vectors.now }
     requires ordered { AllPairs Precedes vectors.now }
     ensures covered { IsNone result → Covers vectors.now vector }
     ensures place { IfSome result (IsPlaceFor vectors.now vector) }
 {
-    for (place, mine) in vectors.iter().enumerate() {
-        if mine.dominates(vector) {
-            return None;
-        }
-        if !mine.order(vector).is_lt() {
-            return Some(place);
-        }
+    if is_covered(vectors, vector) {
+        None
+    } else {
+        Some(place_in_order(vectors, vector))
     }
-    Some(vectors.len())
+}
+
+// How many vectors of an ordered list are printed before a vector that none of them dominates.
+fn place_in_order(vectors: &[WinVector], vector: WinVector) -> usize
+    requires widths { HaveWidth (length vector) vectors.now }
+    requires ordered { AllPairs Precedes vectors.now }
+    requires new { ¬ Covers vectors.now vector }
+    ensures { IsPlaceFor vectors.now vector result }
+{
+    vectors.partition_point(|mine| is_before(*mine, vector))
+}
+
+// Whether the two are of one width, and the first is printed before the second.
+fn is_before(mine: WinVector, vector: WinVector) -> bool
+    ensures { result ≡ (length mine == length vector && is_lt (vector_order mine vector)) }
+{
+    mine.width() == vector.width() && mine.order(vector).is_lt()
 }
