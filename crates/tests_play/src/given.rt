@@ -110,23 +110,6 @@ pub fn vector(rt: &impl Abort, text: &str) -> WinVector {
     vector
 }
 
-/// The front of the vectors of a text, in which blanks divide them.
-/// No clause, as at `card`.
-pub fn front_of(rt: &impl Abort, alloc: Global, text: &str) -> Result<Front, AllocError> {
-    let mut front = None;
-    for word in text.split(' ') {
-        let vector = vector(rt, word);
-        let mut longer = match front {
-            Some(front) => front,
-            None => Front::new(alloc, vector.width()),
-        };
-        assert!(rt; vector.width() == longer.width());
-        longer.insert(vector)?;
-        front = Some(longer);
-    }
-    Ok(front.expect(rt, "a front has a vector"))
-}
-
 /// Fails if a front hasn't exactly the vectors of a text, in this order.
 /// No clause: a test that goes on has seen it.
 pub fn assert_vectors(rt: &impl Abort, front: &Front, text: &str) {

@@ -4,7 +4,7 @@ ghost use Rattle.std.specs.Prelude.{IfOk};
 ghost use Rattle.front_table.specs.Proven.{IsFrontAt};
 
 use crate::endings::ENUMERATED;
-use crate::given::{GUESS, assert_vectors, card, front_of, node_of, number};
+use crate::given::{GUESS, assert_vectors, card, node_of, number};
 use crate::stores::Useless;
 use alphamu_core::{Budget, Found, SearchFault, search};
 use cut_rules::{CutRules, Stop};
@@ -94,37 +94,6 @@ fn cut_search<S: FrontStore>(
 }
 
 #[test]
-fn what_was_found_is_found_again_at_once(rt: HostRuntime) -> Result<(), Fail> {
-    let alloc = rt.alloc();
-    let node = after_the_two(&rt, alloc)?;
-    let none = Front::new(alloc, node.width());
-    let mut store = LocalStore::new(alloc, 64);
-    for left in [0, 9] {
-        let mut budget = Budget::new(10);
-        let Found::Exact(front) = cut_search(&rt, alloc, &mut store, &mut budget, &node, 1, &none)
-        else {
-            return Err(Fail::from("a front that isn't covered was left out"));
-        };
-        assert_vectors(&rt, &front, "10 01");
-        assert!(rt; budget.left() >= left);
-    }
-    Ok(())
-}
-
-#[test]
-fn a_front_that_alpha_covers_may_be_left_out(rt: HostRuntime) -> Result<(), Fail> {
-    let alloc = rt.alloc();
-    let node = after_the_two(&rt, alloc)?;
-    let alpha = front_of(&rt, alloc, "10 01")?;
-    let budget = &mut Budget::new(10);
-    match cut_search(&rt, alloc, &mut NoStore, budget, &node, 1, &alpha) {
-        Found::Exact(front) => assert_vectors(&rt, &front, "10 01"),
-        Found::Below => {}
-    }
-    Ok(())
-}
-
-#[test]
 fn cuts_and_a_store_change_no_front(rt: HostRuntime) -> Result<(), Fail> {
     let alloc = rt.alloc();
     for line in ENUMERATED {
@@ -172,15 +141,5 @@ fn a_store_with_room_for_one(rt: HostRuntime) -> Result<(), Fail> {
     let entries = store.entries().as_slice();
     assert_eq!(rt; entries.len(), 1);
     assert_vectors(&rt, &entries[0].front(alloc)?, "10 01");
-    Ok(())
-}
-
-#[test]
-fn no_store_misses_and_leaves_the_front(rt: HostRuntime) -> Result<(), Fail> {
-    let node = node_of(&rt, rt.alloc(), GUESS)?;
-    let mut out = Front::new(rt.alloc(), node.width());
-    out.reserve(64)?;
-    assert_eq!(rt; NoStore.look(&node, 1, &mut out), Look::Miss);
-    assert!(rt; out.is_empty());
     Ok(())
 }

@@ -4,9 +4,6 @@ ghost use Rattle.front_table.specs.Entries.{most_entry_vectors};
 ghost use Rattle.shared_table.specs.Passes.{IsPassOf};
 
 use super::endings::{after_two, guess};
-use alphamu_core::{Budget, Found, search};
-use cut_rules::{CutRules, Stop};
-use dd_solver::Solver;
 use front_table::{FrontStore, Look, ProvenFront, Put};
 use pareto_fronts::Front;
 use plain_fronts::plain_front;
@@ -96,35 +93,5 @@ fn a_table_as_a_store(rt: HostRuntime) -> Result<(), Fail> {
     assert!(rt; matches!(&store.put(entry_of(alloc, &node, 1)?), Put::Kept));
     assert!(rt; store.look(&node, 1, &mut out) == Look::Hit);
     assert!(rt; store.look(&node, 2, &mut out) == Look::Miss);
-    Ok(())
-}
-
-#[test]
-fn a_search_over_a_table_is_found_again_at_once(rt: HostRuntime) -> Result<(), Fail> {
-    let alloc = rt.alloc();
-    let (node, table, mut pass) = after_two_and_table(&rt, alloc, 1)?;
-    let mut store = SharedStore::new(&table, &mut pass);
-    let mut solver = Solver::new(alloc);
-    let alpha = Front::new(alloc, node.width());
-    let rules = CutRules::all(Stop::Never);
-    for left in [0, 9] {
-        let mut budget = Budget::new(10);
-        let found = search(
-            alloc,
-            &mut store,
-            &mut solver,
-            &mut budget,
-            &node,
-            1,
-            &alpha,
-            rules,
-        );
-        let Ok(Found::Exact(front)) = found else {
-            return Err(Fail::from("the search gave no front"));
-        };
-        assert!(rt; front.len() == 2 && front.get(0) == WinVector::none(2).set(0, true));
-        assert!(rt; front.get(1) == WinVector::none(2).set(1, true));
-        assert!(rt; budget.left() >= left);
-    }
     Ok(())
 }

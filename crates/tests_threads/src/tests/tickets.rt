@@ -3,16 +3,6 @@ use std::test::Fail;
 use work_tickets::Tickets;
 
 #[test]
-fn two_tickets(rt: HostRuntime) -> Result<(), Fail> {
-    let (tickets, mut pass) = Tickets::new(rt.alloc(), 2)?;
-    assert_eq!(rt; tickets.draw(&mut pass), Some(0));
-    assert_eq!(rt; tickets.draw(&mut pass), Some(1));
-    assert_eq!(rt; tickets.draw(&mut pass), None);
-    assert_eq!(rt; tickets.close(&mut pass), 2);
-    Ok(())
-}
-
-#[test]
 fn passes_that_part_and_join(rt: HostRuntime) -> Result<(), Fail> {
     let (tickets, mut pass) = Tickets::new(rt.alloc(), 3)?;
     assert_eq!(rt; tickets.draw(&mut pass), Some(0));
