@@ -3,7 +3,8 @@ use Rattle.std.specs.List.{AllZip}
 use Rattle.trick_rules.specs.Nodes.{choices}
 use Rattle.bit_answers.specs.Answers.{IsWorth}
 use Rattle.flat_plans.proofs.Listed.{zip_next}
-use Rattle.bit_answers.proofs.Sampled.{within, entry_card, entry_choice, entry_vector}
+use Rattle.fusion_base.proofs.Entries.{within, entry_card, entry_vector}
+use Rattle.bit_answers.proofs.Sampled.{entry_choice}
 use Rattle.bit_answers.proofs.worths.worths.Goals as goal
 
 pub front_after-requires-clause-card : goal.front_after-requires-clause-card

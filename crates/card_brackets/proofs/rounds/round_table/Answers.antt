@@ -8,7 +8,8 @@ use Rattle.alphamu_core.specs.declared.answers.RootFault.TheVariants.{Spent}
 use Rattle.root_workers.proofs.Stops.{passed_on}
 use Rattle.card_brackets.specs.declared.rows.CardRow.{CardRow}
 use Rattle.card_brackets.specs.Rows.{IsRow, is_final, are_final}
-use Rattle.card_brackets.proofs.Sampled.{within, entry_card, entry_choice, entry_vector, all_entries}
+use Rattle.fusion_base.proofs.Entries.{within, entry_card, entry_vector}
+use Rattle.card_brackets.proofs.Sampled.{entry_choice, all_entries}
 use Rattle.card_brackets.proofs.Leading.{finals_more, final_if_not_open, Leads, RowsSoFar, rows_none, rows_more, named_of, some_leads}
 use Rattle.card_brackets.proofs.rounds.round_table.Goals as goal
 

@@ -1,8 +1,7 @@
-use Rattle.std.proofs.Common.{◌≡◌, ◌==◌, ◌∷◌, true, false, not, eqb, filter, ap, sym, subst, ◌∙◌, rules}
+use Rattle.std.proofs.Common.{◌≡◌, ◌==◌, true, false, not, eqb, filter, ap, sym, subst, ◌∙◌, rules}
 use Rattle.card_sets.specs.SetWords.{has_card}
 use Rattle.trick_rules.specs.Positions.{FitsLeft}
 use Rattle.trick_rules.specs.Play.{CanPlay, after_card}
-use Rattle.trick_rules.specs.Nodes.{choices}
 use Rattle.trick_rules.proofs.CardLists.{first_has, or_true}
 use Rattle.trick_rules.proofs.PlayLaws.{a_choice_can_be_played}
 use Rattle.fusion_base.proofs.Sampled.{makes_there, sifted, sifted-start, sifted-made, sifted-failed, sifted-all, fits_after}

@@ -1,7 +1,6 @@
-use Rattle.std.proofs.Common.{◌≡◌, ◌<◌, ◌≤◌, ◌∙◌, length, get_or, map, set, [], ap, sym, subst, arith, rules}
-use Rattle.card_sets.specs.SetWords.{has_card}
+use Rattle.std.proofs.Common.{◌≡◌, ◌<◌, ◌∙◌, length, get_or, map, set, ap, subst, arith, rules}
 use Rattle.fusion_base.specs.Sampling.{cards_that_make}
-use Rattle.fusion_base.proofs.Sampled.{made, made_here, made_upto, made_upto-more, made_upto-all}
+use Rattle.fusion_base.proofs.Sampled.{made_here, made_upto, made_upto-more, made_upto-all}
 use Rattle.fusion_base.proofs.table.vector_of.Goals as goal
 
 pub loop-place-preserved : goal.loop-place-preserved
