@@ -1,5 +1,5 @@
 -- What a round asks, and what a worker may know of a root card.
-use Rattle.std.specs.Prelude.{◌≡◌, ◌≢◌, ◌<◌, ◌≤◌, ◌-◌, ℕ, false, List, Some, take, slice_get, length, Contains}
+use Rattle.std.specs.Prelude.{◌≡◌, ◌≢◌, ◌<◌, ◌≤◌, ◌-◌, ⊤, ℕ, false, List, Result, Ok, Err, Some, take, slice_get, length, Contains}
 use Rattle.win_vectors.specs.Fronts.{Vector}
 use Rattle.trick_rules.specs.Nodes.{choices, child}
 use Rattle.strategy_games.specs.Plans.{IsFront, tree_size}
@@ -12,6 +12,8 @@ use Rattle.alphamu_core.specs.Costs.{IsWithin}
 use Rattle.alphamu_core.specs.Findings.{IsFound, IsExact}
 use Rattle.alphamu_core.specs.declared.answers.Found.{Found}
 use Rattle.alphamu_core.specs.declared.answers.Found.TheVariants as found
+use Rattle.alphamu_core.specs.declared.answers.RootFault.{RootFault}
+use Rattle.alphamu_core.specs.declared.answers.RootFault.TheVariants as fault
 use Rattle.alphamu_core.specs.declared.budget.Entered.{Entered}
 use Rattle.shared_table.specs.declared.Pass.{Pass}
 use Rattle.shared_table.specs.Passes.{view_of}
@@ -43,6 +45,12 @@ pub record IsSearchedAfter (r : Round) (card : ℕ) (alpha : List Vector) (s : S
   pub found : IsFound (child r.node.now card) (r.moves - 1) alpha s.found
   pub exact : r.rules ≡ no_cuts → IsExact s.found
   pub within : IsWithin r.nodes s.entered
+
+-- how a search after a root card may end: with what it found, or with too large a tree
+abbrev pub IsCardEnd : Round → ℕ → List Vector → Result SearchResult RootFault → Type 0
+IsCardEnd r card alpha (Ok s) = IsSearchedAfter r card alpha s × (IsPlainRound r → size_after r card ≤ r.nodes)
+IsCardEnd r card alpha (Err (fault.Spent other)) = (other ≡ card) × (r.nodes < size_after r card)
+IsCardEnd r card alpha (Err fault.Memory) = ⊤
 
 -- each of the vectors is won after one of the cards
 abbrev pub AreWonAfter : Round → List ℕ → List Vector → Type 0

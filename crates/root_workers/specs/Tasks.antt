@@ -1,6 +1,9 @@
 -- What workers are given to do, and what they may report.
-use Rattle.std.specs.Prelude.{◌≡◌, ⊤, ℕ, Some, take, slice_get, length}
+use Rattle.std.specs.Prelude.{◌≡◌, ◌-◌, ⊤, ℕ, Some, take, slice_get, length}
+use Rattle.win_vectors.specs.Fronts.{IsFrontOf}
 use Rattle.trick_rules.specs.Nodes.{choices}
+use Rattle.strategy_games.specs.Joins.{WinsByCard}
+use Rattle.strategy_tree.specs.Bridge.{bridge}
 use Rattle.root_workers.specs.declared.rounds.Help.{Help}
 use Rattle.root_workers.specs.declared.rounds.Help.TheVariants.{Cards, Race, Layouts}
 use Rattle.root_workers.specs.declared.rounds.CardSearch.{CardSearch}
@@ -13,6 +16,12 @@ use Rattle.root_workers.specs.Rounds.{IsRound, IsKnownAt, AreWonAfter}
 pub record IsCardSearch (r : Round) (it : CardSearch) : Type 0 where
   pub card : slice_get (choices r.node.now) it.place ≡ Some it.card
   pub won : AreWonAfter r (take it.place (choices r.node.now)) it.alpha.now.vectors
+  pub width : it.alpha.now.width ≡ length r.node.now.lefts
+
+-- the same, if alpha is the front of all that they win
+pub record IsFrontSearch (r : Round) (it : CardSearch) : Type 0 where
+  pub card : slice_get (choices r.node.now) it.place ≡ Some it.card
+  pub won : IsFrontOf (WinsByCard bridge r.node.now (r.moves - 1) (take it.place (choices r.node.now))) it.alpha.now.vectors
   pub width : it.alpha.now.width ≡ length r.node.now.lefts
 
 -- the round may be asked, and the help is for it

@@ -1,9 +1,5 @@
 //! A round: what workers know of the root cards, put together in card order.
-ghost use Rattle.std.specs.Prelude.{◌≡◌, ◌≢◌, ◌<◌, ◌≤◌, ◌-◌, ℕ};
-ghost use Rattle.std.specs.Prelude.{length, take, slice_get, Contains, Some, IfOk, IfSome, IsErrOf};
-ghost use Rattle.win_vectors.specs.Fronts.{IsFrontOf};
-ghost use Rattle.trick_rules.specs.Nodes.{choices};
-ghost use Rattle.strategy_games.specs.Joins.{WinsByCard};
+ghost use Rattle.std.specs.Prelude.{◌≢◌, ◌≤◌, ℕ, length, IfOk, IfSome, IsErrOf};
 ghost use Rattle.strategy_games.specs.Choosing.{IsBestWeight, IsNamedByWeight};
 ghost use Rattle.strategy_tree.specs.Bridge.{bridge};
 ghost use Rattle.cut_rules.specs.Rules.{no_cuts};
@@ -14,8 +10,8 @@ ghost use Rattle.strategy_tree.specs.RootTrees.{IsSpentAt, IsFirstSpentAt, AllFi
 ghost use Rattle.root_workers.specs.Founds.{AreFound};
 ghost use Rattle.root_workers.specs.Questions.{IsRoundEnd};
 ghost use Rattle.root_workers.specs.Rounds.{IsRound, IsPlainRound, IsKnownAt};
-ghost use Rattle.root_workers.specs.Rounds.{HasSeenMore, IsSearchedAfter, size_after};
-ghost use Rattle.root_workers.specs.Tasks.{IsCardSearch};
+ghost use Rattle.root_workers.specs.Rounds.{HasSeenMore, IsCardEnd};
+ghost use Rattle.root_workers.specs.Tasks.{IsCardSearch, IsFrontSearch};
 ghost use Rattle.worker_pool.specs.Findings.{AreRight};
 
 use crate::card_search::search_card;
@@ -88,33 +84,6 @@ fn raced<'a, C: RootCrew>(
     Some(found)
 }
 
-// What the workers have reported of a root card, or tell after a race.
-fn known_of<'a, C: RootCrew>(
-    crew: &C,
-    round: &Round,
-    workers: &mut [RootWorker],
-    pass: &mut Pass,
-    findings: &mut Vec<Finding<Known>>,
-    at: &'a CardSearch<'a>,
-) -> Option<Known>
-    requires ready { C.ready crew.now }
-    requires round { IsRound round.now }
-    requires some { 1 ≤ length workers.old }
-    requires pass { IsPassOf round.now.table.now pass.old }
-    requires right { AreRight (IsKnownAt round.now) findings.old.items }
-    requires at { IsCardSearch round.now at.now }
-    ensures known { IfSome result (IsKnownAt round.now at.now.place) }
-    ensures right { AreRight (IsKnownAt round.now) findings.new.items }
-    ensures pass { IsPassOf round.now.table.now pass.new }
-    ensures grown { HasSeenMore pass.old pass.new }
-{
-    let known = reported(round, crew.gate(), findings, at.place);
-    if known.is_some() {
-        return known;
-    }
-    raced(crew, round, workers, pass, at)
-}
-
 // What is found after a root card: by what the workers know, or else by a search now.
 fn after_place<'a, C: RootCrew>(
     crew: &C,
@@ -129,51 +98,33 @@ fn after_place<'a, C: RootCrew>(
     requires some { 1 ≤ length workers.old }
     requires pass { IsPassOf round.now.table.now pass.old }
     requires right { AreRight (IsKnownAt round.now) findings.old.items }
-    requires card { slice_get (choices round.now.node.now) at.now.place ≡ Some at.now.card }
-    requires won { IsFrontOf (WinsByCard bridge round.now.node.now
-        (round.now.moves - 1) (take at.now.place (choices round.now.node.now)))
-        at.now.alpha.now.vectors }
-    requires width { at.now.alpha.now.width ≡ length round.now.node.now.lefts }
-    ensures searched { IfOk result (IsSearchedAfter round.now at.now.card at.now.alpha.now.vectors) }
-    ensures fits { IsPlainRound round.now
-        → IfOk result (λ _. size_after round.now at.now.card ≤ round.now.nodes) }
-    ensures spent { (other : ℕ) → IsErrOf result (RootFault.Spent other)
-        → (other ≡ at.now.card) × (round.now.nodes < size_after round.now at.now.card) }
+    requires at { IsFrontSearch round.now at.now }
+    ensures end { IsCardEnd round.now at.now.card at.now.alpha.now.vectors result }
     ensures right { AreRight (IsKnownAt round.now) findings.new.items }
     ensures pass { IsPassOf round.now.table.now pass.new }
     ensures grown { HasSeenMore pass.old pass.new }
 {
-    match known_of(crew, round, workers, pass, findings, at) {
-        Some(Known::Exact(won, entered)) => Ok(SearchResult {
-            found: Found::Exact(won),
-            entered,
-        }),
-        Some(Known::Below(entered)) => Ok(SearchResult {
-            found: Found::Below,
-            entered,
-        }),
-        Some(Known::Spent) => Err(RootFault::Spent(at.card)),
-        None => search_alone(crew.gate(), round, &mut workers[0], pass, at),
+    if let Some(known) = reported(round, crew.gate(), findings, at.place) {
+        return known.result(at.card);
     }
+    if let Some(known) = raced(crew, round, workers, pass, at) {
+        return known.result(at.card);
+    }
+    search_alone(crew.gate(), round, at, &mut workers[0], pass)
 }
 
 // What a search by the caller alone finds, between the gate's `enter` and `leave`.
 fn search_alone<G: Gate>(
     gate: &G,
     round: &Round,
+    at: &CardSearch,
     worker: &mut RootWorker,
     pass: &mut Pass,
-    at: &CardSearch,
 ) -> Result<SearchResult, RootFault>
     requires round { IsRound round.now }
     requires pass { IsPassOf round.now.table.now pass.old }
-    requires card { Contains (choices round.now.node.now) at.now.card }
-    requires width { at.now.alpha.now.width ≡ length round.now.node.now.lefts }
-    ensures searched { IfOk result (IsSearchedAfter round.now at.now.card at.now.alpha.now.vectors) }
-    ensures fits { IsPlainRound round.now
-        → IfOk result (λ _. size_after round.now at.now.card ≤ round.now.nodes) }
-    ensures spent { (other : ℕ) → IsErrOf result (RootFault.Spent other)
-        → (other ≡ at.now.card) × (round.now.nodes < size_after round.now at.now.card) }
+    requires at { IsFrontSearch round.now at.now }
+    ensures end { IsCardEnd round.now at.now.card at.now.alpha.now.vectors result }
     ensures pass { IsPassOf round.now.table.now pass.new }
     ensures grown { HasSeenMore pass.old pass.new }
 {

@@ -6,6 +6,7 @@ ghost use Rattle.root_workers.specs.Questions.{IsQuestion};
 ghost use Rattle.root_workers.specs.Rounds.{IsRound, HasSeenMore};
 
 use crate::crew::RootCrew;
+use crate::deepening::Rounds;
 use crate::question::Question;
 use crate::rounds::{Help, Round, Task};
 use crate::searches::double_dummy;
@@ -34,31 +35,6 @@ fn ask_about<C: RootCrew>(crew: &C, round: &Round, pass: &mut Pass, workers: &mu
     let _reports = crew.searched(&task, workers, pass);
 }
 
-// All workers ask double dummy about the layouts of the root.
-fn all_ask<C: RootCrew>(crew: &C, question: &Question, pass: &mut Pass, workers: &mut [RootWorker])
-    requires ready { C.ready crew.now }
-    requires question { IsQuestion question.now }
-    requires pass { IsPassOf question.now.table.now pass.old }
-    requires some { 1 ≤ length workers.old }
-    ensures pass { IsPassOf question.now.table.now pass.new }
-    ensures grown { HasSeenMore pass.old pass.new }
-{
-    let previous = Front::new(question.alloc, question.node.width());
-    let round = Round {
-        alloc: question.alloc,
-        node: question.node,
-        weights: question.weights,
-        moves: question.moves,
-        nodes: question.options.nodes,
-        rules: CutRules::none(),
-        previous: &previous,
-        table: question.table,
-        uses_table: false,
-        shared_cards: CardSet::empty(),
-    };
-    ask_about(crew, &round, pass, workers);
-}
-
 // The caller asks double dummy about one layout of the root after another, until the help of the
 // other workers pays. Whether it does.
 fn asks_until_help_pays(question: &Question, workers: &mut [RootWorker]) -> bool
@@ -74,46 +50,53 @@ fn asks_until_help_pays(question: &Question, workers: &mut [RootWorker]) -> bool
     false
 }
 
-// The workers ask double dummy about the layouts of the root, as far as that pays.
-fn ask_ahead<C: RootCrew>(
-    crew: &C,
-    question: &Question,
-    pass: &mut Pass,
-    workers: &mut [RootWorker],
-)
-    requires ready { C.ready crew.now }
-    requires question { IsQuestion question.now }
-    requires pass { IsPassOf question.now.table.now pass.old }
-    requires some { 1 ≤ length workers.old }
-    ensures pass { IsPassOf question.now.table.now pass.new }
-    ensures grown { HasSeenMore pass.old pass.new }
-{
-    if workers.len() > 1 && asks_until_help_pays(question, workers) {
-        return all_ask(crew, question, pass, workers);
+impl<C: RootCrew> Rounds<'_, C> {
+    // The workers ask double dummy about the layouts of the root, as far as that pays.
+    fn ask_ahead(&self, pass: &mut Pass, workers: &mut [RootWorker])
+        requires ready { C.ready self.now.crew.now }
+        requires question { IsQuestion self.now.question.now }
+        requires pass { IsPassOf self.now.question.now.table.now pass.old }
+        requires some { 1 ≤ length workers.old }
+        ensures pass { IsPassOf self.now.question.now.table.now pass.new }
+        ensures grown { HasSeenMore pass.old pass.new }
+    {
+        let question = self.question;
+        if workers.len() < 2 || !asks_until_help_pays(question, workers) {
+            return;
+        }
+        let previous = Front::new(question.alloc, question.node.width());
+        let round = Round {
+            alloc: question.alloc,
+            node: question.node,
+            weights: question.weights,
+            moves: question.moves,
+            nodes: question.options.nodes,
+            rules: CutRules::none(),
+            previous: &previous,
+            table: question.table,
+            uses_table: false,
+            shared_cards: CardSet::empty(),
+        };
+        ask_about(self.crew, &round, pass, workers);
     }
-}
 
-/// The front of the root with no moves: double dummy's result in each layout.
-pub fn first_front<C: RootCrew>(
-    crew: &C,
-    question: &Question,
-    pass: &mut Pass,
-    workers: &mut [RootWorker],
-) -> Result<Front, RootFault>
-    requires ready { C.ready crew.now }
-    requires question { IsQuestion question.now }
-    requires pass { IsPassOf question.now.table.now pass.old }
-    requires some { 1 ≤ length workers.old }
-    ensures front { IfOk result (IsFrontAt question.now.node.now 0) }
-    ensures never_spent { (card : ℕ) → IsErrOf result (RootFault.Spent card) → ⊥ }
-    ensures pass { IsPassOf question.now.table.now pass.new }
-    ensures grown { HasSeenMore pass.old pass.new }
-{
-    ask_ahead(crew, question, pass, workers);
-    double_dummy(
-        question.alloc,
-        &mut NoStore,
-        &mut workers[0].solver,
-        question.node,
-    )
+    /// The front of the root with no moves: double dummy's result in each layout.
+    pub fn first(&self, pass: &mut Pass, workers: &mut [RootWorker]) -> Result<Front, RootFault>
+        requires ready { C.ready self.now.crew.now }
+        requires question { IsQuestion self.now.question.now }
+        requires pass { IsPassOf self.now.question.now.table.now pass.old }
+        requires some { 1 ≤ length workers.old }
+        ensures front { IfOk result (IsFrontAt self.now.question.now.node.now 0) }
+        ensures never_spent { (card : ℕ) → IsErrOf result (RootFault.Spent card) → ⊥ }
+        ensures pass { IsPassOf self.now.question.now.table.now pass.new }
+        ensures grown { HasSeenMore pass.old pass.new }
+    {
+        self.ask_ahead(pass, workers);
+        double_dummy(
+            self.question.alloc,
+            &mut NoStore,
+            &mut workers[0].solver,
+            self.question.node,
+        )
+    }
 }

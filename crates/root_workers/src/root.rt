@@ -13,7 +13,7 @@ ghost use Rattle.root_workers.specs.Rounds.{HasSeenMore};
 ghost use Rattle.root_workers.specs.Reports.{AreReports, course_of};
 
 use crate::crew::{InThreads, RootCrew, searched_in_threads};
-use crate::deepening::rounds;
+use crate::deepening::Rounds;
 use crate::question::Question;
 use crate::reports::{CardReport, reports};
 use crate::workers::{RootWorker, workers_for};
@@ -240,7 +240,12 @@ impl Question<'_> {
         ensures pass { IsPassOf self.now.table.now pass.new }
         ensures grown { HasSeenMore pass.old pass.new }
     {
-        let found = rounds(crew, self, pass, workers, Stop::SameFront)?;
+        let rounds = Rounds {
+            crew,
+            question: self,
+            stop: Stop::SameFront,
+        };
+        let found = rounds.last(pass, workers)?;
         let cards = reports(self, pass, &found.founds)?;
         Ok(RootFront {
             front: found.front,
@@ -269,7 +274,12 @@ impl Question<'_> {
         ensures grown { HasSeenMore pass.old pass.new }
     {
         let mut workers = self.workers()?;
-        let found = rounds(crew, self, pass, &mut workers, Stop::SameWeight)?;
+        let rounds = Rounds {
+            crew,
+            question: self,
+            stop: Stop::SameWeight,
+        };
+        let found = rounds.last(pass, &mut workers)?;
         Ok(RootCard {
             card: found.card,
             weight: found.weight,

@@ -1,4 +1,4 @@
-use Rattle.std.proofs.Common.{◌≡◌, ◌∙◌, ◌-◌, ℕ, suc, List, length, Err, arith, ap, refl, sym, subst, inl, inr}
+use Rattle.std.proofs.Common.{◌≡◌, ◌∙◌, ◌-◌, ℕ, suc, List, length, arith, ap, refl, sym, subst, inl, inr}
 use Rattle.trick_rules.specs.Nodes.{choices, child}
 use Rattle.card_sets.proofs.SetCounts.{length-le_52}
 use Rattle.card_sets.proofs.Sets.{IsCardSet-cards_where}
@@ -12,6 +12,7 @@ use Rattle.alphamu_core.specs.Findings.{IsFound, IsExact}
 use Rattle.root_workers.specs.Rounds.{IsPlainRound}
 use Rattle.strategy_tree.specs.RootTrees.{IsSpentAt, IsFirstSpentAt}
 use Rattle.root_workers.proofs.RootSoFar.{root_next, root_spent, root_here, root_won, root_below, root_none_at, root_with, root_with_at, root_covered_at, root_width, root_filled, root_front, root_some, best_of_all, front_here}
+use Rattle.root_workers.proofs.KnownCards.{card_spent}
 use Rattle.root_workers.proofs.Founds.{AreFoundSoFar, none_found, found_after}
 use Rattle.root_workers.proofs.Stopped.{MakesCuts, founds_more, counted_push, founds_at_stop, founds_of_all}
 use Rattle.root_workers.proofs.Stops.{passed_on, stop_front, stop_best}
@@ -31,13 +32,13 @@ cards-init g c =
       so = root_none_at r.node.now (r.moves - 1) r.weights.now r.nodes (IsPlainRound r) c.choices-cards.result c.new-front.result c.choices-cards.ensures c.new-front.ensures.empty (c.new-front.ensures.width ∙ c.width.ensures.value);
     }
 
-pub after_place-requires-clause-card : goal.after_place-requires-clause-card
-after_place-requires-clause-card g c = λ κs outlives.
-    root_here c.args.round.now.node.now (c.args.round.now.moves - 1) c.args.round.now.weights.now c.cards.invariant.so.0 c.in-Some.ensures.value c.cards.place c.cards.invariant.so.1
-
-pub after_place-requires-clause-won : goal.after_place-requires-clause-won
-after_place-requires-clause-won g c = λ κs outlives.
-    root_won c.args.round.now.node.now (c.args.round.now.moves - 1) c.args.round.now.weights.now c.cards.invariant.so.0 c.in-Some.ensures.value c.cards.place c.cards.invariant.so.1
+pub after_place-requires-clause-at : goal.after_place-requires-clause-at
+after_place-requires-clause-at g c = λ κs outlives.
+    let r = c.args.round.now in record {
+      card = root_here r.node.now (r.moves - 1) r.weights.now c.cards.invariant.so.0 c.in-Some.ensures.value c.cards.place c.cards.invariant.so.1;
+      won = root_won r.node.now (r.moves - 1) r.weights.now c.cards.invariant.so.0 c.in-Some.ensures.value c.cards.place c.cards.invariant.so.1;
+      width = c.cards.invariant.so.0.width;
+    }
 
 pub overflow_add-place : goal.overflow_add-place
 overflow_add-place g c =
@@ -56,7 +57,7 @@ returns-then-is_enough-clause-grown g c = seen_more c.args.pass.now c.cards.pass
 pub returns-in_err-below-clause-spent : goal.returns-in_err-below-clause-spent
 returns-in_err-below-clause-spent g c = λ card e.
     let fault = passed_on c.from_residual.result c.in_err-below.field-0.0 (Spent card) c.from_residual.ensures.1 e in
-    let spent = c.in_err-below.ensures.spent card (ap Err fault) in
+    let spent = card_spent c.args.round.now c.in-Some.card c.cards.front.vectors c.in_err-below.field-0.0 card fault c.in_err-below.ensures.end in
     subst (λ (named : ℕ). IsSpentAt c.args.round.now.node.now c.args.round.now.moves c.args.round.now.nodes named) (sym spent.0)
     (root_next c.args.round.now.node.now (c.args.round.now.moves - 1) c.args.round.now.weights.now c.cards.invariant.so.0 c.in-Some.ensures.value, spent.1)
 
@@ -64,20 +65,20 @@ pub with_card-requires-clause-width : goal.with_card-requires-clause-width
 with_card-requires-clause-width g c =
     let n = c.args.round.now.node.now in
     root_width n (c.args.round.now.moves - 1) c.args.round.now.weights.now c.cards.invariant.so.0 c.in-Some.ensures.value (child n c.in-Some.card) c.in-Exact.won c.requires.round.asked.ours refl
-    (subst (λ (f : Found). IsFound (child n c.in-Some.card) (c.args.round.now.moves - 1) c.cards.front.vectors f) c.in-Exact.is c.in_ok-below.ensures.searched.found)
+    (subst (λ (f : Found). IsFound (child n c.in-Some.card) (c.args.round.now.moves - 1) c.cards.front.vectors f) c.in-Exact.is c.in_ok-below.ensures.end.0.found)
 
 pub with_card-requires-clause-filled : goal.with_card-requires-clause-filled
 with_card-requires-clause-filled g c =
     let n = c.args.round.now.node.now in
     root_filled n (c.args.round.now.moves - 1) c.args.round.now.weights.now c.cards.invariant.so.0 c.in-Some.ensures.value (child n c.in-Some.card) c.in-Exact.won c.width.ensures.a_node refl
-    (subst (λ (f : Found). IsFound (child n c.in-Some.card) (c.args.round.now.moves - 1) c.cards.front.vectors f) c.in-Exact.is c.in_ok-below.ensures.searched.found)
+    (subst (λ (f : Found). IsFound (child n c.in-Some.card) (c.args.round.now.moves - 1) c.cards.front.vectors f) c.in-Exact.is c.in_ok-below.ensures.end.0.found)
 
 pub returns-then-is_enough-clause-front : goal.returns-then-is_enough-clause-front
 returns-then-is_enough-clause-front g c = λ other.
     let n = c.args.round.now.node.now in
     let so = root_with n (c.args.round.now.moves - 1) c.args.round.now.weights.now c.cards.invariant.so.0 c.in-Some.ensures.value (child n c.in-Some.card) c.in-Exact.won c.with_card.new.front c.in_ok-lead-in-Exact.lead refl
-    (subst (λ (f : Found). IsFound (child n c.in-Some.card) (c.args.round.now.moves - 1) c.cards.front.vectors f) c.in-Exact.is c.in_ok-below.ensures.searched.found)
-    c.in_ok-below.ensures.fits c.in_ok-lead-in-Exact.ensures.leads c.in_ok-lead-in-Exact.ensures.union c.in_ok-lead-in-Exact.ensures.width in
+    (subst (λ (f : Found). IsFound (child n c.in-Some.card) (c.args.round.now.moves - 1) c.cards.front.vectors f) c.in-Exact.is c.in_ok-below.ensures.end.0.found)
+    c.in_ok-below.ensures.end.1 c.in_ok-lead-in-Exact.ensures.leads c.in_ok-lead-in-Exact.ensures.union c.in_ok-lead-in-Exact.ensures.width in
     let moves : suc (c.args.round.now.moves - 1) ≡ c.args.round.now.moves = omega arith in
     subst (λ front. IsFrontAt n c.args.round.now.moves front) (sym c.found.ensures.front)
     (front_here n (c.args.round.now.moves - 1) c.args.round.now.weights.now so c.width.ensures.a_node c.requires.round.asked.goes_on c.requires.round.asked.ours c.args.round.now.moves moves
@@ -88,8 +89,8 @@ pub returns-then-is_enough-clause-weight : goal.returns-then-is_enough-clause-we
 returns-then-is_enough-clause-weight g c =
     let n = c.args.round.now.node.now in
     let so = root_with n (c.args.round.now.moves - 1) c.args.round.now.weights.now c.cards.invariant.so.0 c.in-Some.ensures.value (child n c.in-Some.card) c.in-Exact.won c.with_card.new.front c.in_ok-lead-in-Exact.lead refl
-    (subst (λ (f : Found). IsFound (child n c.in-Some.card) (c.args.round.now.moves - 1) c.cards.front.vectors f) c.in-Exact.is c.in_ok-below.ensures.searched.found)
-    c.in_ok-below.ensures.fits c.in_ok-lead-in-Exact.ensures.leads c.in_ok-lead-in-Exact.ensures.union c.in_ok-lead-in-Exact.ensures.width in
+    (subst (λ (f : Found). IsFound (child n c.in-Some.card) (c.args.round.now.moves - 1) c.cards.front.vectors f) c.in-Exact.is c.in_ok-below.ensures.end.0.found)
+    c.in_ok-below.ensures.end.1 c.in_ok-lead-in-Exact.ensures.leads c.in_ok-lead-in-Exact.ensures.union c.in_ok-lead-in-Exact.ensures.width in
     let moves : suc (c.args.round.now.moves - 1) ≡ c.args.round.now.moves = omega arith in
     let best = stop_best n (c.args.round.now.moves - 1) c.args.round.now.weights.now so c.width.ensures.a_node c.requires.round.asked.goes_on c.requires.round.asked.ours c.in_ok-lead-in-Exact.lead refl c.args.round.now.previous.now.vectors c.args.round.now.rules.stop c.requires.round.previous c.is_enough.result c.if-is_enough.true
     c.is_enough.ensures.never c.is_enough.ensures.front c.is_enough.ensures.weight c.args.round.now.moves moves in
@@ -99,8 +100,8 @@ pub returns-then-is_enough-clause-card : goal.returns-then-is_enough-clause-card
 returns-then-is_enough-clause-card g c =
     let n = c.args.round.now.node.now in
     let so = root_with n (c.args.round.now.moves - 1) c.args.round.now.weights.now c.cards.invariant.so.0 c.in-Some.ensures.value (child n c.in-Some.card) c.in-Exact.won c.with_card.new.front c.in_ok-lead-in-Exact.lead refl
-    (subst (λ (f : Found). IsFound (child n c.in-Some.card) (c.args.round.now.moves - 1) c.cards.front.vectors f) c.in-Exact.is c.in_ok-below.ensures.searched.found)
-    c.in_ok-below.ensures.fits c.in_ok-lead-in-Exact.ensures.leads c.in_ok-lead-in-Exact.ensures.union c.in_ok-lead-in-Exact.ensures.width in
+    (subst (λ (f : Found). IsFound (child n c.in-Some.card) (c.args.round.now.moves - 1) c.cards.front.vectors f) c.in-Exact.is c.in_ok-below.ensures.end.0.found)
+    c.in_ok-below.ensures.end.1 c.in_ok-lead-in-Exact.ensures.leads c.in_ok-lead-in-Exact.ensures.union c.in_ok-lead-in-Exact.ensures.width in
     let moves : suc (c.args.round.now.moves - 1) ≡ c.args.round.now.moves = omega arith in
     let best = stop_best n (c.args.round.now.moves - 1) c.args.round.now.weights.now so c.width.ensures.a_node c.requires.round.asked.goes_on c.requires.round.asked.ours c.in_ok-lead-in-Exact.lead refl c.args.round.now.previous.now.vectors c.args.round.now.rules.stop c.requires.round.previous c.is_enough.result c.if-is_enough.true
     c.is_enough.ensures.never c.is_enough.ensures.front c.is_enough.ensures.weight c.args.round.now.moves moves in
@@ -111,7 +112,7 @@ returns-in_err-below-clause-first_spent g c = λ plain card e.
     let r = c.args.round.now in
     let n = r.node.now in
     let fault = passed_on c.from_residual.result c.in_err-below.field-0.0 (Spent card) c.from_residual.ensures.1 e in
-    let spent = c.in_err-below.ensures.spent card (ap Err fault) in
+    let spent = card_spent c.args.round.now c.in-Some.card c.cards.front.vectors c.in_err-below.field-0.0 card fault c.in_err-below.ensures.end in
     subst (λ (named : ℕ). IsFirstSpentAt n r.moves r.nodes named) (sym spent.0)
     (root_spent n (r.moves - 1) r.weights.now c.cards.invariant.so.0 c.in-Some.ensures.value plain (child n c.in-Some.card) refl spent.1)
 
@@ -120,7 +121,7 @@ with_card-requires-clause-weights g c =
     let r = c.args.round.now in
     let n = r.node.now in
     let same = root_width n (r.moves - 1) r.weights.now c.cards.invariant.so.0 c.in-Some.ensures.value (child n c.in-Some.card) c.in-Exact.won c.requires.round.asked.ours refl
-    (subst (λ (f : Found). IsFound (child n c.in-Some.card) (r.moves - 1) c.cards.front.vectors f) c.in-Exact.is c.in_ok-below.ensures.searched.found) in
+    (subst (λ (f : Found). IsFound (child n c.in-Some.card) (r.moves - 1) c.cards.front.vectors f) c.in-Exact.is c.in_ok-below.ensures.end.0.found) in
     c.requires.round.asked.weights ∙ sym (same ∙ c.cards.invariant.so.0.width)
 
 pub returns-in_err-push-in-Exact-clause-grown : goal.returns-in_err-push-in-Exact-clause-grown
@@ -134,12 +135,12 @@ returns-then-is_enough-clause-founds g c = λ other.
     let r = c.args.round.now in
     let n = r.node.now in
     let so = root_with_at n (r.moves - 1) r.weights.now c.cards.invariant.so.0 c.in-Some.ensures.value (child n c.in-Some.card) c.in-Exact.won c.with_card.new.front c.in_ok-lead-in-Exact.lead c.cards.place c.cards.invariant.so.1 refl
-    (subst (λ (f : Found). IsFound (child n c.in-Some.card) (r.moves - 1) c.cards.front.vectors f) c.in-Exact.is c.in_ok-below.ensures.searched.found)
-    c.in_ok-below.ensures.fits c.in_ok-lead-in-Exact.ensures.leads c.in_ok-lead-in-Exact.ensures.union c.in_ok-lead-in-Exact.ensures.width in
+    (subst (λ (f : Found). IsFound (child n c.in-Some.card) (r.moves - 1) c.cards.front.vectors f) c.in-Exact.is c.in_ok-below.ensures.end.0.found)
+    c.in_ok-below.ensures.end.1 c.in_ok-lead-in-Exact.ensures.leads c.in_ok-lead-in-Exact.ensures.union c.in_ok-lead-in-Exact.ensures.width in
     let here = found_after n r.moves (MakesCuts r) c.cards.place c.in-Some.card c.cards.front.vectors (Exact c.in-Exact.won)
     (root_here n (r.moves - 1) r.weights.now c.cards.invariant.so.0 c.in-Some.ensures.value c.cards.place c.cards.invariant.so.1)
     (root_won n (r.moves - 1) r.weights.now c.cards.invariant.so.0 c.in-Some.ensures.value c.cards.place c.cards.invariant.so.1)
-    (subst (λ (f : Found). IsFound (child n c.in-Some.card) (r.moves - 1) c.cards.front.vectors f) c.in-Exact.is c.in_ok-below.ensures.searched.found)
+    (subst (λ (f : Found). IsFound (child n c.in-Some.card) (r.moves - 1) c.cards.front.vectors f) c.in-Exact.is c.in_ok-below.ensures.end.0.found)
     (λ e. let no : Exact c.in-Exact.won ≡ Below = e in cc) in
     let more = founds_more r c.cards.founds.items c.push.new.self.items (Exact c.in-Exact.won) c.cards.place c.in_ok-push-in-Exact.ensures.items c.cards.invariant.founds c.cards.invariant.counted here in
     let counted = counted_push r c.cards.founds.items c.push.new.self.items (Exact c.in-Exact.won) c.cards.place c.in_ok-push-in-Exact.ensures.items c.cards.invariant.counted in
@@ -153,26 +154,26 @@ cards-preserved-in-Exact g c =
     let here = found_after n r.moves (MakesCuts r) c.cards.place c.in-Some.card c.cards.front.vectors (Exact c.in-Exact.won)
     (root_here n (r.moves - 1) r.weights.now c.cards.invariant.so.0 c.in-Some.ensures.value c.cards.place c.cards.invariant.so.1)
     (root_won n (r.moves - 1) r.weights.now c.cards.invariant.so.0 c.in-Some.ensures.value c.cards.place c.cards.invariant.so.1)
-    (subst (λ (f : Found). IsFound (child n c.in-Some.card) (r.moves - 1) c.cards.front.vectors f) c.in-Exact.is c.in_ok-below.ensures.searched.found)
+    (subst (λ (f : Found). IsFound (child n c.in-Some.card) (r.moves - 1) c.cards.front.vectors f) c.in-Exact.is c.in_ok-below.ensures.end.0.found)
     (λ e. let no : Exact c.in-Exact.won ≡ Below = e in cc) in record {
       pass = c.after_place.ensures.pass;
       grown = seen_more c.args.pass.now c.cards.pass c.after_place.new.pass c.cards.invariant.grown c.after_place.ensures.grown;
       right = c.after_place.ensures.right;
       founds = founds_more r c.cards.founds.items c.push.new.self.items (Exact c.in-Exact.won) c.cards.place c.in_ok-push-in-Exact.ensures.items c.cards.invariant.founds c.cards.invariant.counted here;
       counted = counted_push r c.cards.founds.items c.push.new.self.items (Exact c.in-Exact.won) c.cards.place c.in_ok-push-in-Exact.ensures.items c.cards.invariant.counted;
-      most = c.larger-entered.ensures.within r.nodes c.in_ok-below.ensures.searched.within c.cards.invariant.most;
+      most = c.larger-entered.ensures.within r.nodes c.in_ok-below.ensures.end.0.within c.cards.invariant.most;
       searched = inr refl;
       so = root_with_at n (r.moves - 1) r.weights.now c.cards.invariant.so.0 c.in-Some.ensures.value (child n c.in-Some.card) c.in-Exact.won c.with_card.new.front c.in_ok-lead-in-Exact.lead c.cards.place c.cards.invariant.so.1 refl
-          (subst (λ (f : Found). IsFound (child n c.in-Some.card) (r.moves - 1) c.cards.front.vectors f) c.in-Exact.is c.in_ok-below.ensures.searched.found)
-          c.in_ok-below.ensures.fits c.in_ok-lead-in-Exact.ensures.leads c.in_ok-lead-in-Exact.ensures.union c.in_ok-lead-in-Exact.ensures.width;
+          (subst (λ (f : Found). IsFound (child n c.in-Some.card) (r.moves - 1) c.cards.front.vectors f) c.in-Exact.is c.in_ok-below.ensures.end.0.found)
+          c.in_ok-below.ensures.end.1 c.in_ok-lead-in-Exact.ensures.leads c.in_ok-lead-in-Exact.ensures.union c.in_ok-lead-in-Exact.ensures.width;
     }
 
 pub cards-preserved : goal.cards-preserved
 cards-preserved g c =
     let r = c.args.round.now in
     let n = r.node.now in
-    let below = subst (λ (f : Found). IsFound (child n c.in-Some.card) (r.moves - 1) c.cards.front.vectors f) c.in-Below.is c.in_ok-below.ensures.searched.found in
-    let cut : MakesCuts r = λ none. subst (λ (f : Found). IsExact f) c.in-Below.is (c.in_ok-below.ensures.searched.exact none) in
+    let below = subst (λ (f : Found). IsFound (child n c.in-Some.card) (r.moves - 1) c.cards.front.vectors f) c.in-Below.is c.in_ok-below.ensures.end.0.found in
+    let cut : MakesCuts r = λ none. subst (λ (f : Found). IsExact f) c.in-Below.is (c.in_ok-below.ensures.end.0.exact none) in
     let here = found_after n r.moves (MakesCuts r) c.cards.place c.in-Some.card c.cards.front.vectors Below
     (root_here n (r.moves - 1) r.weights.now c.cards.invariant.so.0 c.in-Some.ensures.value c.cards.place c.cards.invariant.so.1)
     (root_won n (r.moves - 1) r.weights.now c.cards.invariant.so.0 c.in-Some.ensures.value c.cards.place c.cards.invariant.so.1)
@@ -182,7 +183,7 @@ cards-preserved g c =
       right = c.after_place.ensures.right;
       founds = founds_more r c.cards.founds.items c.push-in-Below.new.self.items Below c.cards.place c.in_ok-push-in-Below.ensures.items c.cards.invariant.founds c.cards.invariant.counted here;
       counted = counted_push r c.cards.founds.items c.push-in-Below.new.self.items Below c.cards.place c.in_ok-push-in-Below.ensures.items c.cards.invariant.counted;
-      most = c.larger-entered.ensures.within r.nodes c.in_ok-below.ensures.searched.within c.cards.invariant.most;
+      most = c.larger-entered.ensures.within r.nodes c.in_ok-below.ensures.end.0.within c.cards.invariant.most;
       searched = inr refl;
       so = root_covered_at n (r.moves - 1) r.weights.now c.cards.invariant.so.0 c.in-Some.ensures.value c.width.ensures.a_node (child n c.in-Some.card) c.cards.place c.cards.invariant.so.1 refl
           below (λ plain. cut plain.cuts);
@@ -232,4 +233,4 @@ unwrap-requires g c = elim c.cards.invariant.searched [
 
 pub returns-then-is_enough-clause-within : goal.returns-then-is_enough-clause-within
 returns-then-is_enough-clause-within g c =
-    rw (c.found.ensures.most) (c.larger-entered.ensures.within c.args.round.now.nodes c.in_ok-below.ensures.searched.within c.cards.invariant.most)
+    rw (c.found.ensures.most) (c.larger-entered.ensures.within c.args.round.now.nodes c.in_ok-below.ensures.end.0.within c.cards.invariant.most)

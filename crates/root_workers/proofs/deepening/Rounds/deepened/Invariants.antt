@@ -3,12 +3,12 @@ use Rattle.alphamu_core.specs.Costs.{IsWithin}
 use Rattle.front_table.specs.Proven.{IsFrontAt}
 use Rattle.shared_table.specs.Passes.{IsPassOf}
 use Rattle.root_workers.specs.Rounds.{HasSeenMore}
-use Rattle.root_workers.proofs.deepening.deepened.Given as goal
+use Rattle.root_workers.proofs.deepening.Rounds.deepened.Given as goal
 
 abbrev pub invariant-loop-fewer : goal.invariant-loop-fewer
 invariant-loop-fewer g l = record {
-  pass : IsPassOf l.question.table.now l.pass;
+  pass : IsPassOf l.self.question.now.table.now l.pass;
   grown : HasSeenMore l.fn.pass l.pass;
-  front : IsFrontAt l.question.node.now l.fewer l.front;
-  most : IfSome l.most (IsWithin l.question.options.now.nodes);
+  front : IsFrontAt l.self.question.now.node.now l.fewer l.front;
+  most : IfSome l.most (IsWithin l.self.question.now.options.now.nodes);
 }
