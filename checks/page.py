@@ -5,8 +5,10 @@ Asks ./study for the page (`page`) of each case in cases/ that expects a report,
 of a report of MOVES moves for the board of each folder in EXAMPLES. A page must be well formed (each tag closed in order, and XML
 after its document type), its links must lead to parts of it, nothing on it may be loaded, its element `text` must hold the report
 byte for byte, and its signs must say what the report's vectors say. Its steps must be those of the job `words`, and what sampling
-believes must be what the job `fusion` says; the weights of the layouts, and the lines that make each, must agree with the report. What
-is said to decide a vector must be the first fact, or the first two, that by the hands on the page are so in exactly its layouts.
+believes must be what the job `fusion` says. Where it believes in more than the best line makes, the layouts that this line fails must
+be named, each with a card that gives it up by the words of the line. The weights of the layouts, and the lines that make each, must
+agree with the report. What is said to decide a vector must be the first fact, or the first two, that by the hands on the page are so
+in exactly its layouts.
 Where the lines part must be where the report's plans, walked through level by level, first play different cards.
 If the study searches for the report of a case, its page must be the same but for two things: it promises that no line makes more,
 and it has a table of all cards, which must say what the job `cards` says.
@@ -109,13 +111,18 @@ def faults_of_script(reader, page):
     return wrong + ["a button is shown without the script"] * any(it not in shown for it in page.iter("button"))
 
 
+def numbers_in(words):
+    """The layouts that these words name, as "1, 3, 8 to 10"."""
+    spans = [list(map(int, it.split(" to "))) for it in words.split(", ")]
+    return {number for ends in spans for number in range(ends[0], ends[-1] + 1)}
+
+
 def faults_of_marks(page, width):
     """What is wrong with the marks of steps: one that not every layout can reach must have a class for each that is made or fails from there."""
     for line, part in enumerate((it for it in page.iter("div") if it.get("class") == "words"), 1):
         for place, step in enumerate(part.iter("li")):
             numbers = re.search(r"\((?:made in ([^;)]*))?(?:; )?(?:fails in ([^)]*))?\):", text_of(step))
-            reached = {number for it in numbers.groups() if it for span in it.split(", ") for ends in [list(map(int, span.split(" to ")))]
-                       for number in range(ends[0], ends[-1] + 1)}
+            reached = {number for it in numbers.groups() if it for number in numbers_in(it)}
             wanted = ["step", *(f"l{it}" for it in sorted(reached))] if len(reached) < width else []
             if step.get("id") != f"step-{line}-{place}" or step.get("class", "").split() != wanted:
                 yield f"line {line}, step {place}: called {step.get('id')} and marked {step.get('class')}"
@@ -143,6 +150,55 @@ def faults_of_beliefs(page, entries, fusion):
     part = next(it for it in page.iter("section") if it.get("id") == "sampling")
     if f"It believes most in {named} with {most} of " not in text_of(part):
         wrong.append("the cards of which sampling believes most differ from the job fusion")
+    return wrong
+
+
+def plays_of(item):
+    """The lines that are played out in a layout of the list, with suits as letters."""
+    return [text_of(it).translate({ord(sign): letter for sign, letter in LETTERS.items()}).strip() for it in item.iterfind("details/p")]
+
+
+def refutations_in(part):
+    """Why beliefs aren't true: of each card its line, and the layouts by the card that gives them up; none if it can't be read."""
+    found = []
+    for line in steps_of(part):
+        head, given = (re.fullmatch(pattern, line) for pattern in (r"(..): line (\d+) gives up layouts", r"  with (..):((?: \d+)+)"))
+        if head:
+            found.append((head[1], int(head[2]), {}))
+        elif given:
+            found[-1][2][given[1]] = list(map(int, given[2].split()))
+        else:
+            return None
+    return found
+
+
+def faults_of_refutations(page, entries, fusion, told):
+    """What is wrong with why beliefs aren't true: the layouts that are believed in and fail, each once. Their cards must give them up
+    by the words of the line, and be those of the list of layouts, if the line is played out there."""
+    wanted, wrong = [], []
+    for card, bits, weight in re.findall(r"^card (..) vector ([01]+) (?:count|weight) (\d+)$", fusion.decode(), re.M):
+        kept = [(worth, -number, vector.decode()) for number, (vector, worth, plan) in enumerate(entries, 1) if plan is None or plan[0] == card_named(card.encode())]
+        worth, number, vector = max(kept, default=(int(weight), 0, ""))
+        if worth < int(weight):
+            wanted.append((card, -number, [at for at, both in enumerate(zip(bits, vector), 1) if both == ("1", "0")]))
+    part = next(it for it in page.iter("section") if it.get("id") == "sampling")
+    found = refutations_in(part)
+    if found is None:
+        return ["why beliefs aren't true can't be read"]
+    if [(card, line, sorted(sum(given.values(), []))) for card, line, given in found] != wanted:
+        wrong.append(f"the layouts that refute what sampling believes are {found} in place of {wanted}")
+    if any(list(given) != sorted(given, key=lambda it: card_named(it.encode())) or any(it != sorted(it) for it in given.values()) for _, _, given in found):
+        wrong.append("what refutes a belief isn't in order")
+    if bool(found) != any("isn\u2019t true" in text_of(it) for it in part.iter("h3")):
+        wrong.append("why a belief isn't true has no head, or nothing below it")
+    items = list(map(plays_of, next(it for it in page.iter("ol") if it.get("class") == "layouts")))
+    for _, line, given in found:
+        phrases = re.findall(r" (..) from (?:hand|dummy), giving up ([\d, to]*\d)", " ".join(told[line - 1]))
+        for card, numbers in given.items():
+            if not set(numbers) <= set().union(*(numbers_in(words) for it, words in phrases if it == card)):
+                wrong.append(f"line {line} doesn't give up {numbers} with {card} by its words")
+            if line <= PLAYED and any(not items[at - 1][line - 1].endswith(f" (given up with {card})") for at in numbers):
+                wrong.append(f"line {line} gives up {numbers} with another card than {card} in the list of layouts")
     return wrong
 
 
@@ -291,7 +347,7 @@ def faults_of_plays(page, head, lines, games, fusion):
     begun = len(re.search(r"^trick .(.*)$", head.decode(), re.M)[1].replace("-", "").split())
     items = next(it for it in page.iter("ol") if it.get("class") == "layouts")
     for place, item in enumerate(items):
-        shown = [text_of(it).translate({ord(sign): letter for sign, letter in LETTERS.items()}).strip() for it in item.iterfind("details/p")]
+        shown = plays_of(item)
         wanted = [(f"Line {line + 1}", *games[line * len(items) + place]) for line in range(min(lines, PLAYED))]
         for text, (line, ending, tricks) in zip(shown, wanted):
             text, _, card = text.partition(" (given up with ")
@@ -339,6 +395,7 @@ def faults_of(text, deal, report, words, fusion, games):
     if shown != told:
         wrong.append("the steps of the lines differ from those of the job words")
     wrong += faults_of_beliefs(page, entries, fusion) + faults_of_layouts(page, entries) + faults_of_reasons(page, entries)
+    wrong += faults_of_refutations(page, entries, fusion, told)
     wrong += faults_of_partings(page, entries, reading.board_of(reading.games_of(deal)[0]))
     wrong += faults_of_picker(page, len(entries[0][0])) + faults_of_plays(page, head, len(entries), games, fusion)
     best = max(weight for _, weight, _ in entries)

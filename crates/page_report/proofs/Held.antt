@@ -12,6 +12,7 @@ use Rattle.html_text.specs.Pages.{own, piece_text, written}
 use Rattle.page_text.specs.declared.lines.Line.{Line}
 use Rattle.page_text.specs.declared.partings.Beside.{Beside}
 use Rattle.page_text.specs.declared.plays.PlayedLine.{PlayedLine}
+use Rattle.page_text.specs.declared.refutations.Refutation.{Refutation}
 use Rattle.page_text.specs.declared.markup.TheConstants.{REPORT, REPORT_END}
 use Rattle.page_text.specs.declared.script.TheConstants.{END}
 use Rattle.page_text.specs.Frames.{report}
@@ -31,11 +32,11 @@ holds front back bytes =
     joined (front ++ report bytes) back ∙ ap (λ t. t ++ written back) (joined front (report bytes)) ∙ append_assoc (written front) (written (report bytes)) (written back)
     ∙ ap (λ t. written front ++ t) (three REPORT.now (escape bytes) REPORT_END.now (written back))
 
-text_holds : (game : GameValue) (board : BoardValue) (kept : KeptValue) (read : ReadReportValue) (bytes : List ℕ) (known : Option CardTable) (lines : List Line) (besides : List Beside) (played : List PlayedLine) (text : List ℕ)
-    → text ≡ written (page game board kept read bytes known lines besides played) → HoldsReport bytes text
+text_holds : (game : GameValue) (board : BoardValue) (kept : KeptValue) (read : ReadReportValue) (bytes : List ℕ) (known : Option CardTable) (lines : List Line) (refuted : List (Option Refutation)) (besides : List Beside) (played : List PlayedLine) (text : List ℕ)
+    → text ≡ written (page game board kept read bytes known lines refuted besides played) → HoldsReport bytes text
 unfolding page
-text_holds game board kept read bytes known lines besides played text is =
-    let front = top game board kept read (is_some known) lines ++ cards (scale_of kept read.version) known ++ middle board kept read lines besides played in
+text_holds game board kept read bytes known lines refuted besides played text is =
+    let front = top game board kept read (is_some known) lines ++ cards (scale_of kept read.version) known ++ middle board kept read lines refuted besides played in
     record {
       before = written front;
       after = written (own END.now);
@@ -43,4 +44,4 @@ text_holds game board kept read bytes known lines besides played text is =
     }
 
 pub page_holds : HoldsItsReport
-page_holds game board kept read bytes known text is = text_holds game board kept read bytes known is.lines is.besides is.played text is.is_text
+page_holds game board kept read bytes known text is = text_holds game board kept read bytes known is.lines is.refuted is.besides is.played text is.is_text

@@ -3,3 +3,4 @@ pub mod MoreBesides
 pub mod Held
 pub mod Believed
 pub mod Zipped
+pub mod Lost

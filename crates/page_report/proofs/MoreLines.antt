@@ -1,5 +1,5 @@
 -- The lines of a page with one line more.
-use Rattle.std.proofs.Common.{◌≡◌, ◌∙◌, ◌++◌, ◌<◌, ◌+◌, ℕ, List, [], ◌∷◌, take, length, get_or, sym, ap, subst, arith}
+use Rattle.std.proofs.Common.{◌≡◌, ◌∙◌, ◌++◌, ◌<◌, ◌+◌, ℕ, suc, List, [], ◌∷◌, take, length, get_or, refl, sym, ap, subst, arith}
 use Rattle.std.proofs.lemmas.List.{take_more, length-take-le}
 use Rattle.card_sets.specs.declared.seat.Compass.{Compass}
 use Rattle.trick_rules.specs.Nodes.{NodeValue}
@@ -27,6 +27,16 @@ module _ (declarer : Compass) (node : NodeValue) where
   told-push (e ∷ entries) [] read told are is = absurd are
   told-push [] (t ∷ tolds) read told are is = absurd are
   told-push [] [] read told are is = (is, tt)
+
+  as_long : (number : ℕ) (entries : List ReadEntryValue) (tolds : List Told) → AreToldOf node entries tolds → length (lines_from declarer node number entries tolds) ≡ length entries
+  as_long number (e ∷ entries) (t ∷ tolds) are = ap suc (as_long (number + 1) entries tolds are.1)
+  as_long number (e ∷ entries) [] are = absurd are
+  as_long number [] (t ∷ tolds) are = absurd are
+  as_long number [] [] are = refl
+
+  -- there is a line for each strategy
+  pub one_each : (entries : List ReadEntryValue) (lines : List Line) → AreLines declarer node entries lines → length lines ≡ length entries
+  one_each entries lines are = ap length are.are_lines ∙ as_long 1 entries are.tolds are.are_told
 
   -- one line more
   pub line_more : (entries : List ReadEntryValue) (i : ℕ) (read : ReadEntryValue) (told : Told) (line : Line) (lines now : List Line) → i < length entries → read ≡ get_or entries i read → IsToldOf node read told

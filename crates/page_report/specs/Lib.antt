@@ -1,3 +1,4 @@
 pub mod BesideLines
 pub mod Played
+pub mod Refuted
 pub mod ReportPages

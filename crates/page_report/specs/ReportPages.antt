@@ -47,8 +47,10 @@ use Rattle.page_text.specs.declared.partings.Beside.{Beside}
 use Rattle.page_text.specs.Partings.{partings}
 use Rattle.page_text.specs.Beliefs.{sampling}
 use Rattle.page_text.specs.declared.plays.PlayedLine.{PlayedLine}
+use Rattle.page_text.specs.declared.refutations.Refutation.{Refutation}
 use Rattle.page_text.specs.Layouts.{LayoutsShown, layouts, file_numbers}
 use Rattle.page_report.specs.Played.{ArePlayed}
+use Rattle.page_report.specs.Refuted.{AreRefuted}
 use Rattle.page_report.specs.BesideLines.{AreBeside}
 use Rattle.page_report.specs.declared.markup.TheConstants.{DROPPED, AT_CARD, DROPPED_END}
 
@@ -143,9 +145,9 @@ top game board kept read is_best lines =
     ++ verdict is_best board.declarer kept read lines ++ own NAVIGATION.now
 
 -- the lines side by side, with what plain sampling believes, and in words
-unfoldable pub play : Compass → KeptValue → ReadReportValue → List Line → List Piece
-play declarer kept read lines =
-    trade_offs (length kept.node.lefts) lines ++ sampling (scale_of kept read.version) (length kept.node.lefts) (beliefs_of kept) lines
+unfoldable pub play : Compass → KeptValue → ReadReportValue → List Line → List (Option Refutation) → List Piece
+play declarer kept read lines refuted =
+    trade_offs (length kept.node.lefts) lines ++ sampling (scale_of kept read.version) (length kept.node.lefts) (beliefs_of kept) lines refuted
     ++ lines_pieces declarer (scale_of kept read.version) lines
 
 -- what the page shows of the layouts that are kept
@@ -165,19 +167,19 @@ all_layouts board kept read lines played =
     layouts (layouts_shown board kept read lines played) ++ file_numbers kept.numbers ++ left_out kept.dropped
 
 -- the table, the lines and where they part, and the layouts
-unfoldable pub middle : BoardValue → KeptValue → ReadReportValue → List Line → List Beside → List PlayedLine → List Piece
-middle board kept read lines besides played =
-    table board.declarer kept.node ++ play board.declarer kept read lines ++ partings board.declarer kept.node.position (length lines) besides
+unfoldable pub middle : BoardValue → KeptValue → ReadReportValue → List Line → List (Option Refutation) → List Beside → List PlayedLine → List Piece
+middle board kept read lines refuted besides played =
+    table board.declarer kept.node ++ play board.declarer kept read lines refuted ++ partings board.declarer kept.node.position (length lines) besides
     ++ all_layouts board kept read lines played
 
 -- the page, which ends with the report: with every legal card, if the report was searched for
-unfoldable pub page : GameValue → BoardValue → KeptValue → ReadReportValue → List ℕ → Option CardTable → List Line → List Beside → List PlayedLine → List Piece
-page game board kept read bytes known lines besides played =
-    top game board kept read (is_some known) lines ++ cards (scale_of kept read.version) known ++ middle board kept read lines besides played
+unfoldable pub page : GameValue → BoardValue → KeptValue → ReadReportValue → List ℕ → Option CardTable → List Line → List (Option Refutation) → List Beside → List PlayedLine → List Piece
+page game board kept read bytes known lines refuted besides played =
+    top game board kept read (is_some known) lines ++ cards (scale_of kept read.version) known ++ middle board kept read lines refuted besides played
     ++ report bytes ++ own END.now
 
--- a page of a report, with its strategies in words, where they part, and the first of them played out; and with every legal card
--- if the report was searched for
+-- a page of a report, with its strategies in words, where they part, the first of them played out, and why sampling believes in
+-- more; and with every legal card if the report was searched for
 pub record IsReportPage (game : GameValue) (board : BoardValue) (kept : KeptValue) (read : ReadReportValue) (bytes : List ℕ) (known : Option CardTable) (text : List ℕ) : Type 0 where
   pub lines : List Line
   pub besides : List Beside
@@ -185,7 +187,9 @@ pub record IsReportPage (game : GameValue) (board : BoardValue) (kept : KeptValu
   pub are_beside : AreBeside read.entries besides
   pub played : List PlayedLine
   pub are_played : ArePlayed kept.node read.entries played
-  pub is_text : text ≡ written (page game board kept read bytes known lines besides played)
+  pub refuted : List (Option Refutation)
+  pub are_refuted : AreRefuted kept.node read.entries lines (beliefs_of kept) refuted
+  pub is_text : text ≡ written (page game board kept read bytes known lines refuted besides played)
 
 -- a text has these bytes, escaped and nothing else, in the element that the report stands in
 pub record HoldsReport (bytes text : List ℕ) : Type 0 where

@@ -11,5 +11,6 @@ mod lines;
 mod markup;
 mod page;
 mod plays;
+mod refuted;
 
 pub use page::{Shown, report_page};

@@ -19,6 +19,7 @@ use crate::besides::besides_of;
 use crate::dropped::push_left_out;
 use crate::lines::lines_of;
 use crate::plays::played_lines;
+use crate::refuted::refuted_of;
 use am_report::{ReadReport, Version};
 use byte_text::Text;
 use card_brackets::CardTable;
@@ -26,10 +27,10 @@ use card_sets::Compass;
 use html_text::Page;
 use layout_list::Kept;
 use page_text::{
-    Belief, Beside, Layouts, Line, PlayedLine, Rivals, Scale, Tags, plans_all, push_cards,
-    push_end, push_facts, push_headline, push_horizon, push_kept_reason, push_layouts, push_lines,
-    push_navigation, push_numbers, push_partings, push_promise, push_report, push_sampling,
-    push_start, push_table, push_trade_offs,
+    Belief, Beside, Layouts, Line, PlayedLine, Refutation, Rivals, Scale, Tags, plans_all,
+    push_cards, push_end, push_facts, push_headline, push_horizon, push_kept_reason, push_layouts,
+    push_lines, push_navigation, push_numbers, push_partings, push_promise, push_report,
+    push_sampling, push_start, push_table, push_trade_offs,
 };
 use pbn_deal::Board;
 use pbn_text::{Game, Tag};
@@ -164,13 +165,14 @@ fn push_top(page: &mut Page, alloc: Global, shown: &Shown, lines: &[Line]) -> Re
     push_navigation(page)
 }
 
-// The lines of a report, where they part, what plain sampling believes, and the first lines played
-// out.
+// The lines of a report, where they part, what plain sampling believes, why it isn't true, and the
+// first lines played out.
 #[derive(Drop)]
 struct Found {
     lines: Vec<Line>,
     besides: Vec<Beside>,
     beliefs: Vec<Belief>,
+    refuted: Vec<Option<Refutation>>,
     played: Vec<PlayedLine>,
 }
 
@@ -184,12 +186,20 @@ fn push_play(
 ) -> Result<(), AllocError>
     requires { found.now.beliefs.items ≡ beliefs_at kept.now }
     ensures { OnOk result (page.new
-        ≡ page.old ++ play declarer kept.now (report_of report.now) found.now.lines.items) }
+        ≡ page.old ++ play declarer kept.now (report_of report.now) found.now.lines.items
+        found.now.refuted.items) }
 {
     let scale = scale_of(kept, report.version);
     let width = kept.node.width();
     push_trade_offs(page, width, &found.lines)?;
-    push_sampling(page, scale, width, &found.beliefs, &found.lines)?;
+    push_sampling(
+        page,
+        scale,
+        width,
+        &found.beliefs,
+        &found.lines,
+        &found.refuted,
+    )?;
     push_lines(page, declarer, scale, &found.lines)
 }
 
@@ -220,7 +230,7 @@ fn push_middle(page: &mut Page, shown: &Shown, found: &Found) -> Result<(), Allo
     requires beliefs { found.now.beliefs.items ≡ beliefs_at shown.now.kept.now }
     ensures { OnOk result (page.new ≡ page.old ++ middle shown.now.board.now
         shown.now.kept.now (report_of shown.now.report.now) found.now.lines.items
-        found.now.besides.items found.now.played.items) }
+        found.now.refuted.items found.now.besides.items found.now.played.items) }
 {
     let kept = shown.kept;
     let declarer = shown.board.declarer();
@@ -242,8 +252,8 @@ fn page_of(alloc: Global, shown: &Shown, found: &Found) -> Result<Page, AllocErr
     requires beliefs { found.now.beliefs.items ≡ beliefs_at shown.now.kept.now }
     ensures { IfOk result (λ page. page ≡ page_of shown.now.game.now shown.now.board.now
         shown.now.kept.now (report_of shown.now.report.now) shown.now.bytes.now
-        (option_copied shown.now.cards) found.now.lines.items found.now.besides.items
-        found.now.played.items) }
+        (option_copied shown.now.cards) found.now.lines.items found.now.refuted.items
+        found.now.besides.items found.now.played.items) }
 {
     let bytes = shown.bytes;
     let scale = scale_of(shown.kept, shown.report.version);
@@ -276,10 +286,13 @@ pub fn report_page(alloc: Global, shown: &Shown) -> Result<Text, AllocError>
     let board = shown.board;
     let kept = shown.kept;
     let report = shown.report;
+    let lines = lines_of(alloc, board.declarer(), &kept.node, &report.entries)?;
+    let beliefs = beliefs_of(alloc, kept)?;
     let found = Found {
-        lines: lines_of(alloc, board.declarer(), &kept.node, &report.entries)?,
+        refuted: refuted_of(alloc, &kept.node, &report.entries, &lines, &beliefs)?,
+        lines,
         besides: besides_of(alloc, &report.entries)?,
-        beliefs: beliefs_of(alloc, kept)?,
+        beliefs,
         played: played_lines(alloc, &kept.node, &report.entries)?,
     };
     let page = page_of(alloc, shown, &found)?;

@@ -54,8 +54,8 @@ fn plays_of(
     Ok(plays)
 }
 
-// A strategy of a number, so played out.
-fn played_line(
+/// A strategy of a number, so played out.
+pub fn played_line(
     alloc: Global,
     solver: &mut Solver,
     node: &Node,

@@ -1,6 +1,8 @@
 -- Pieces and numbers that have grown by one more.
-use Rattle.std.proofs.Common.{◌≡◌, ℕ, zero, suc, ◌+◌, ◌-◌, ◌<◌, Bool, Some, List, [], ◌∷◌, ◌++◌, length, take, map, flat_map, slice_get, get_or, max, arith, sym, ap, ◌∙◌, append_assoc}
-use Rattle.std.specs.List.{range_with_len}
+use Rattle.std.proofs.Common.{◌≡◌, ℕ, zero, suc, ◌+◌, ◌-◌, ◌<◌, Bool, true, false, Some, List, [], ◌∷◌, ◌++◌, length, take, map, flat_map, slice_get, get_or, max, arith, refl, sym, ap, ap₂, ◌∙◌, append_assoc}
+use Rattle.std.specs.Prelude.{◌||◌}
+use Rattle.std.specs.List.{list_any, range_with_len}
+use Rattle.std.proofs.lemmas.List.Folds.{list_any-append}
 use Rattle.std.proofs.lemmas.List.{append-nil, take_more, map-append}
 use Rattle.std.proofs.lemmas.Grind.{take_at_read, flat_map-append}
 use Rattle.std.proofs.lemmas.Option.{slice_get_within, get_or_from_slice_get}
@@ -48,6 +50,19 @@ place_more f start now next k so_far grew =
     let at : 0 + k ≡ k = omega arith in
     piece_more f start now next (range_with_len 0 k) (range_with_len 0 (k + 1)) k
     (ap (range_with_len 0) one ∙ range_more 0 k ∙ ap (λ (x : ℕ). range_with_len 0 k ++ x ∷ []) at) so_far grew
+
+-- whether one of the places passes a test, with one place more
+pub any_more : (p : ℕ → Bool) (found here : Bool) (k : ℕ) → found ≡ list_any p (range_with_len 0 k) → here ≡ p k → (found || here) ≡ list_any p (range_with_len 0 (k + 1))
+any_more p found here k so_far is =
+    let one : k + 1 ≡ suc k = omega arith in
+    let at : 0 + k ≡ k = omega arith in
+    let last : list_any p (k ∷ []) ≡ p k = or_none (p k) in
+    ap₂ (λ (a b : Bool). a || b) so_far is ∙ ap (λ b. list_any p (range_with_len 0 k) || b) (sym last) ∙ sym (list_any-append p (range_with_len 0 k) (k ∷ []))
+    ∙ sym (ap (list_any p) (ap (range_with_len 0) one ∙ range_more 0 k ∙ ap (λ (x : ℕ). range_with_len 0 k ++ x ∷ []) at))
+  where
+    or_none : (b : Bool) → (b || false) ≡ b
+    or_none true = refl
+    or_none false = refl
 
 -- the mark of one rank more
 pub rank_more : (may sure : List ℕ) (suit : Suit) (start now next : List Piece) (k rank card : ℕ) → rank ≡ 14 - k → card ≡ card_of suit rank

@@ -1,16 +1,18 @@
 -- What plain sampling believes of each card, next to what the lines make that begin with it.
-use Rattle.std.specs.Prelude.{ℕ, ◌==◌, Bool, List, [], ◌++◌, map, flat_map, nat_lt, codes, if◌then◌else◌}
+use Rattle.std.specs.Prelude.{ℕ, ◌==◌, Bool, Option, List, [], ◌++◌, map, flat_map, nat_lt, codes, if◌then◌else◌}
 use Rattle.std.specs.List.{list_any, range_with_len}
 use Rattle.std.specs.Fmt.{decimal}
 use Rattle.html_text.specs.declared.page.Piece.{Piece}
 use Rattle.html_text.specs.Pages.{own, told}
-use Rattle.page_text.specs.declared.markup.TheConstants.{ROW, FIRST_CARD, WEIGHT, ROWS, ROWS_END, SAMPLING, NO_LINE_MAKES, BELIEVED, BELIEFS}
+use Rattle.page_text.specs.declared.markup.TheConstants.{ROW, FIRST_CARD, WEIGHT, ROWS, SECTION_END, SAMPLING, NO_LINE_MAKES, BELIEVED, BELIEFS, BELIEFS_END}
 use Rattle.page_text.specs.declared.lines.Line.{Line}
 use Rattle.page_text.specs.declared.beliefs.Belief.{Belief}
 use Rattle.page_text.specs.declared.verdict.Scale.{Scale}
 use Rattle.page_text.specs.Signs.{card_pieces}
 use Rattle.page_text.specs.Verdicts.{share, begins_with, greatest, best_from, best_of}
+use Rattle.page_text.specs.declared.refutations.Refutation.{Refutation}
 use Rattle.page_text.specs.Lines.{cell, column}
+use Rattle.page_text.specs.Refutations.{refutations}
 
 -- the most that sampling believes of a card
 abbrev pub most_believed : List Belief → ℕ
@@ -52,6 +54,11 @@ unfoldable pub belief_row : List Line → Belief → List Piece
 belief_row lines belief = figures lines belief ++ flat_map cell belief.vector ++ own (codes "</tr>\n")
 
 -- what sampling believes of each card, with this many columns, one for each layout
-unfoldable pub sampling : Scale → ℕ → List Belief → List Line → List Piece
-sampling scale width beliefs lines =
-    summary scale beliefs lines ++ own BELIEFS.now ++ flat_map column (range_with_len 1 width) ++ own ROWS.now ++ flat_map (belief_row lines) beliefs ++ own ROWS_END.now
+unfoldable pub beliefs_table : ℕ → List Belief → List Line → List Piece
+beliefs_table width beliefs lines =
+    own BELIEFS.now ++ flat_map column (range_with_len 1 width) ++ own ROWS.now ++ flat_map (belief_row lines) beliefs ++ own BELIEFS_END.now
+
+-- this, and why it isn't true of some cards
+unfoldable pub sampling : Scale → ℕ → List Belief → List Line → List (Option Refutation) → List Piece
+sampling scale width beliefs lines refuted =
+    summary scale beliefs lines ++ beliefs_table width beliefs lines ++ refutations refuted ++ own SECTION_END.now

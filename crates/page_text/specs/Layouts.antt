@@ -1,5 +1,5 @@
 -- The layouts of a node, with the defenders' hands, and the lines that make each.
-use Rattle.std.specs.Prelude.{ℕ, Bool, false, List, [], ◌++◌, length, get_or, flat_map, codes, if◌then◌else◌}
+use Rattle.std.specs.Prelude.{ℕ, ◌+◌, Bool, false, List, [], ◌++◌, length, get_or, flat_map, codes, if◌then◌else◌}
 use Rattle.std.specs.List.{list_any, range_with_len}
 use Rattle.std.specs.Fmt.{decimal}
 use Rattle.card_sets.specs.declared.seat.Compass.{Compass}
@@ -22,10 +22,10 @@ use Rattle.page_text.specs.Plays.{plays_at}
 unfoldable pub side : Compass → List ℕ → List Piece
 side place hand = own SIDE.now ++ own (compass_word place) ++ own SIDE_HAND.now ++ hand_pieces hand [] ++ own HAND_END.now
 
--- the hands of the defenders, if Left has this one
-unfoldable pub hands : Compass → PositionValue → List ℕ → List Piece
-hands declarer position left =
-    own ITEM.now ++ side (next_compass declarer) left
+-- the hands of the defenders in the layout of a place, if Left has this one
+unfoldable pub hands : ℕ → Compass → PositionValue → List ℕ → List Piece
+hands place declarer position left =
+    own ITEM.now ++ told (decimal (place + 1)) ++ own (codes "'>") ++ side (next_compass declarer) left
     ++ side (next_compass (next_compass (next_compass declarer))) (hand_of (record { position = position; left = left }) Right)
 
 unfoldable pub weight_note : ℕ → List Piece
@@ -73,7 +73,7 @@ shown_by shown = record {
 -- the layout at a place: the hands, what it weighs, the lines that make it, and lines played out there
 unfoldable pub layout_at : LayoutsShown → ℕ → List Piece
 layout_at shown place =
-    hands shown.declarer shown.node.position (get_or shown.node.lefts place []) ++ worth shown.by_weight (get_or shown.weights place 0)
+    hands place shown.declarer shown.node.position (get_or shown.node.lefts place []) ++ worth shown.by_weight (get_or shown.weights place 0)
     ++ makers place shown.lines ++ plays_at (length shown.node.position.trick.cards) place shown.played
 
 -- the layouts in order

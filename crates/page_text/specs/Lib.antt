@@ -7,8 +7,9 @@ pub mod Tables
 pub mod Reasons
 pub mod Lines
 pub mod Steps
-pub mod Beliefs
 pub mod Plays
+pub mod Refutations
+pub mod Beliefs
 pub mod Layouts
 pub mod Partings
 pub mod Frames

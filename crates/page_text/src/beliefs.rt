@@ -1,12 +1,15 @@
 //! What plain sampling believes, next to the lines.
 ghost use Rattle.std.specs.Prelude.{◌≡◌, ◌++◌, flat_map, OnOk};
 ghost use Rattle.page_text.specs.Beliefs.{most_believed, favourite, favourites, summary, has_line};
-ghost use Rattle.page_text.specs.Beliefs.{shortfall, best_line, figures, belief_row, sampling};
+ghost use Rattle.page_text.specs.Beliefs.{shortfall, best_line, figures, belief_row};
+ghost use Rattle.page_text.specs.Beliefs.{beliefs_table, sampling};
 
 use crate::lines::{Line, push_cells, push_columns};
 use crate::markup::{
-    BELIEFS, BELIEVED, FIRST_CARD, NO_LINE_MAKES, ROW, ROWS, ROWS_END, SAMPLING, WEIGHT,
+    BELIEFS, BELIEFS_END, BELIEVED, FIRST_CARD, NO_LINE_MAKES, ROW, ROWS, SAMPLING, SECTION_END,
+    WEIGHT,
 };
+use crate::refutations::{Refutation, push_refutations};
 use crate::signs::push_card;
 use crate::verdict::{Scale, begins_with, best_from, best_of, push_share};
 use card_sets::Card;
@@ -139,8 +142,25 @@ fn push_beliefs(page: &mut Page, lines: &[Line], beliefs: &[Belief]) -> Result<(
     Ok(())
 }
 
+// Adds a row for each card, and this many columns, one for each layout.
+#[tactic(auto, unfolding(crate::specs::Beliefs::beliefs_table))]
+fn push_table(
+    page: &mut Page,
+    width: u16,
+    beliefs: &[Belief],
+    lines: &[Line],
+) -> Result<(), AllocError>
+    ensures { OnOk result (page.new ≡ page.old ++ beliefs_table width beliefs.now lines.now) }
+{
+    page.own(BELIEFS)?;
+    push_columns(page, width)?;
+    page.own(ROWS)?;
+    push_beliefs(page, lines, beliefs)?;
+    page.own(BELIEFS_END)
+}
+
 /// Adds what plain sampling believes of each card, next to the best line that begins with it: a row
-/// for each, and this many columns, one for each layout.
+/// for each, and this many columns, one for each layout. Below it stands why a belief isn't true.
 #[tactic(auto, unfolding(crate::specs::Beliefs::sampling))]
 pub fn push_sampling(
     page: &mut Page,
@@ -148,13 +168,13 @@ pub fn push_sampling(
     width: u16,
     beliefs: &[Belief],
     lines: &[Line],
+    refuted: &[Option<Refutation>],
 ) -> Result<(), AllocError>
-    ensures { OnOk result (page.new ≡ page.old ++ sampling scale width beliefs.now lines.now) }
+    ensures { OnOk result
+        (page.new ≡ page.old ++ sampling scale width beliefs.now lines.now refuted.now) }
 {
     push_summary(page, scale, beliefs, lines)?;
-    page.own(BELIEFS)?;
-    push_columns(page, width)?;
-    page.own(ROWS)?;
-    push_beliefs(page, lines, beliefs)?;
-    page.own(ROWS_END)
+    push_table(page, width, beliefs, lines)?;
+    push_refutations(page, refuted)?;
+    page.own(SECTION_END)
 }

@@ -27,18 +27,19 @@ fn push_side(page: &mut Page, place: Compass, hand: CardSet) -> Result<(), Alloc
     page.own(HAND_END)
 }
 
-// Adds the hands of the defenders, if Left has this one.
+// Adds the hands of the defenders in the layout of a place, if Left has this one.
 #[tactic(auto, unfolding(crate::specs::Layouts::hands))]
 fn push_hands(
     page: &mut Page,
+    place: u16,
     declarer: Compass,
     position: &Position,
     left: CardSet,
 ) -> Result<(), AllocError>
-    ensures { OnOk result (page.new ≡ page.old ++ hands declarer position.now left) }
+    ensures { OnOk result (page.new ≡ page.old ++ hands place declarer position.now left) }
 {
     let right = position.hand(Seat::Right, left);
-    page.own(ITEM)?;
+    page.number_between(ITEM, u64::from(place) + 1, b"'>")?;
     push_side(page, declarer.next(), left)?;
     push_side(page, declarer.next().next().next(), right)
 }
@@ -139,7 +140,13 @@ fn push_layout(page: &mut Page, shown: &Layouts, place: u16) -> Result<(), Alloc
     ensures { OnOk result (page.new ≡ page.old ++ layout_at (shown_by shown.now) place) }
 {
     let position = shown.node.position();
-    push_hands(page, shown.declarer, position, shown.node.left(place))?;
+    push_hands(
+        page,
+        place,
+        shown.declarer,
+        position,
+        shown.node.left(place),
+    )?;
     push_worth(page, shown.by_weight, shown.weights.get(place))?;
     push_makers(page, place, shown.lines)?;
     push_plays(page, position, place, shown.played)

@@ -25,7 +25,7 @@ header,main,footer{padding:1rem max(1rem,calc(50vw - 36rem))}
 header{background:var(--head);border-bottom:1px solid var(--edge)}
 h1{font-size:2rem;line-height:1.2;margin:.25rem 0 .5rem}
 h2{font-size:1.35rem;margin:1.5rem 0 .5rem}
-h3{font-size:.85rem;margin:0}
+h3{font-size:.85rem;margin:0}section>h3{font-size:1.05rem;margin-top:1rem}
 p{margin:.4rem 0;max-width:46rem}
 .promise{font-size:1.15rem}
 .note,footer{color:var(--soft);font-size:.9rem}
@@ -252,6 +252,25 @@ pub const BELIEFS: &[u8] = b"</strong>.</p>
 <div class='wide' tabindex='0' role='region' aria-label='What sampling believes'><table>
 <thead><tr><th scope='col'>Card</th><th scope='col'>believed</th><th scope='col'>best line</th>";
 
+pub const BELIEFS_END: &[u8] = b"</tbody></table></div>\n";
+
+// ---- why a belief isn't true
+
+pub const REFUTATIONS: &[u8] = b"<h3>Why a belief isn&#8217;t true</h3>
+<p class='note'>Sampling believes in more than the best line makes that begins with one of these
+cards. Here are the layouts in which it believes and the line fails, by the card with which the line
+gives them up against the best defence: before this card the contract could still be made there with
+all hands seen, and after it no longer. Sampling sees the hands and takes another card; a line plays
+the same card in all layouts that look alike so far.</p>
+<ul>
+";
+
+pub const GIVES_UP: &[u8] = b" gives up layouts\n<ul>\n";
+
+pub const GIVEN_WITH: &[u8] = b"<li>with ";
+
+pub const TO_LAYOUT: &[u8] = b" <a href='#layout-";
+
 pub const LINES: &[u8] = b"<section id='lines'>
 <h2>The lines in words</h2>
 <p class='note'>Replies after which a line goes on alike are told together. In brackets are the
@@ -333,7 +352,7 @@ the tricks.</p>
 <ol class='layouts'>
 ";
 
-pub const ITEM: &[u8] = b"<li class='layout'>";
+pub const ITEM: &[u8] = b"<li class='layout' id='layout-";
 
 pub const SIDE: &[u8] = b"<div class='side'><b>";
 

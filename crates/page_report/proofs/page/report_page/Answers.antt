@@ -1,9 +1,10 @@
-use Rattle.std.proofs.Common.{◌≡◌, ℕ, List, All, ap, sym, subst}
+use Rattle.std.proofs.Common.{◌≡◌, ◌∙◌, ℕ, List, All, length, ap, sym, subst}
 use Rattle.trick_rules.specs.Nodes.{NodeValue}
 use Rattle.layout_list.specs.Kept.{KeptValue}
 use Rattle.strategy_games.specs.Plans.{Fits}
 use Rattle.strategy_tree.specs.Bridge.{bridge}
 use Rattle.am_report.specs.Answers.{ReadEntryValue}
+use Rattle.page_report.proofs.MoreLines.{one_each}
 use Rattle.page_report.proofs.page.report_page.Goals as goal
 
 -- the same entries fit the same node
@@ -19,6 +20,13 @@ lines_of-requires c = record {
       (λ i d low. (c.args.shown.now.report.now.moves, c.requires.fit i d low));
 }
 
+pub refuted_of-requires : goal.refuted_of-requires
+refuted_of-requires c = record {
+  fit = fit_there _ _ _ _ (sym c.deref-2.ensures.value) (sym (ap (λ (k : KeptValue). k.node) c.kept.view_is))
+      (λ i d low. (c.args.shown.now.report.now.moves, c.requires.fit i d low));
+  one_each = ap length c.deref-3.ensures.value ∙ one_each _ _ _ _ c.in_ok-lines.ensures ∙ ap length (c.deref.ensures.value ∙ sym c.deref-2.ensures.value);
+}
+
 pub besides_of-requires : goal.besides_of-requires
 besides_of-requires c =
     let node = c.args.shown.now.kept.now.node in
@@ -26,11 +34,11 @@ besides_of-requires c =
     record {
       node = node;
       moves = moves;
-      fit = subst (λ (es : List ReadEntryValue). All (λ read. Fits bridge read.entry.plan node moves) es) (sym c.deref-2.ensures.value) c.requires.fit;
+      fit = subst (λ (es : List ReadEntryValue). All (λ read. Fits bridge read.entry.plan node moves) es) (sym c.deref-5.ensures.value) c.requires.fit;
     }
 
 pub played_lines-requires : goal.played_lines-requires
 played_lines-requires c = record {
-  fit = fit_there _ _ _ _ (sym c.deref-3.ensures.value) (sym (ap (λ (k : KeptValue). k.node) c.kept.view_is))
+  fit = fit_there _ _ _ _ (sym c.deref-6.ensures.value) (sym (ap (λ (k : KeptValue). k.node) c.kept.view_is))
       (λ i d low. (c.args.shown.now.report.now.moves, c.requires.fit i d low));
 }
