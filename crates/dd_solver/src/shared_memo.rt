@@ -72,6 +72,8 @@ fn shard_of(key: &Key) -> usize
 
 impl SharedMemo {
     /// A memo without an answer, for this many solvers. It takes memory for answers as they come.
+    ///
+    /// No clause: each answer that it will hold carries its own proof.
     pub fn new(alloc: Global, solvers: usize) -> Result<SharedMemo, AllocError> {
         let words = Vec::from_elem(alloc, 0u64, SHARDS)?;
         let shards = empty_shards(alloc)?;

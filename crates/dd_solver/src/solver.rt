@@ -77,12 +77,14 @@ impl Solver {
     /// Whether it has kept so many answers since it last said yes that the help of other threads pays,
     /// or since it began.
     ///
-    /// No clause, as at the calls below: they tell how solvers may work together, and change no answer.
+    /// No clause: it tells how solvers may work together, and changes no answer.
     pub fn wants_help(&mut self) -> bool {
         self.recall.wants_help()
     }
 
     /// Whether it shares its memo.
+    ///
+    /// No clause: it tells how solvers may work together, and changes no answer.
     pub fn is_in_team(&self) -> bool {
         self.recall.is_shared()
     }
@@ -90,21 +92,29 @@ impl Solver {
     /// Where in a list of this many it begins, if solvers that share a memo go through the same list:
     /// each at another place, so that they find each other's answers. A solver that shares none begins
     /// at 0.
+    ///
+    /// No clause: it tells how solvers may work together, and changes no answer.
     pub fn begins_at(&self, count: usize) -> usize {
         self.recall.begins_at(count)
     }
 
     /// All solvers that share its memo are given a question, which none of them has answered yet.
+    ///
+    /// No clause: it tells how solvers may work together, and changes no answer.
     pub fn begin_question(&self) {
         self.recall.note_answered(false);
     }
 
     /// The question is answered. The others are late from now on.
+    ///
+    /// No clause: it tells how solvers may work together, and changes no answer.
     pub fn end_question(&self) {
         self.recall.note_answered(true);
     }
 
     /// Whether a solver that shares its memo has answered the question that all of them were given.
+    ///
+    /// No clause: it tells how solvers may work together, and changes no answer.
     pub fn is_late(&self) -> bool {
         self.recall.is_late()
     }
