@@ -8,7 +8,7 @@ use Rattle.pareto_fronts.specs.FrontValue.{FrontValue}
 use Rattle.front_join.specs.JoinerValue.{JoinerValue}
 use Rattle.trick_rules.specs.Play.{makes}
 use Rattle.trick_rules.specs.Nodes.{NodeValue, IsNode, states, choices, child, child_mask}
-use Rattle.strategy_games.specs.Plans.{Hear, stops, wins, IsFront}
+use Rattle.strategy_games.specs.Plans.{Hear, CanWin, stops, wins, IsFront}
 use Rattle.strategy_games.proofs.Lists.{All-at, Contains-nil, Contains-single}
 use Rattle.strategy_games.proofs.Vectors.{Dominates-trans}
 use Rattle.strategy_games.proofs.Fronts.{reduced_exists}
@@ -17,15 +17,16 @@ use Rattle.strategy_tree.proofs.BridgeLaws.{one_front, chosen_plan}
 use Rattle.strategy_tree.proofs.BridgeNodes.{mask-bridge, length-states, length-child_mask, length-child_lefts, some_layout}
 use Rattle.strategy_tree.proofs.CardLists.{has_card-from_Contains}
 use Rattle.cut_rules.specs.Rules.{no_cuts}
+use Rattle.front_table.specs.Proven.{IsFrontAt}
 use Rattle.alphamu_core.specs.declared.answers.Found.TheVariants.{Exact}
 use Rattle.alphamu_core.specs.Kept.{AreEnough, IsTaken}
 use Rattle.alphamu_core.proofs.Bounds.{front_results, upper_results}
-use Rattle.alphamu_core.proofs.Judging.{ones_above, length-results}
+use Rattle.alphamu_core.proofs.Judging.{ones_above, none_above, length-results}
 use Rattle.alphamu_core.proofs.OursSoFar.{OursSoFar, ours_none, ours_more, ours_all, ours_enough}
 use Rattle.alphamu_core.proofs.TheirsSoFar.{TheirsSoFar, theirs_none, theirs_more, theirs_all, theirs_covered, theirs_width, theirs_next}
 use Rattle.plan_finder.specs.Above.{IsPartAbove, AreAbove}
 use Rattle.plan_finder.specs.Choices.{KeepsNone}
-use Rattle.plan_finder.proofs.PartsAbove.{part_none, part_all, part_united, part_joined}
+use Rattle.plan_finder.proofs.PartsAbove.{part_none, part_all, part_of_part, part_united, part_joined}
 
 -- the vectors above the target of what the cards of declarer's side win that were tried
 pub record OursAbove (n : NodeValue) (below : ℕ) (t : Vector) (cards : List ℕ) (best : FrontValue) : Type 0 where
@@ -89,6 +90,27 @@ module _ (n : NodeValue) (below : ℕ) (t : Vector) where
 -- the bits of a vector of a front
 length-in_front : (n : NodeValue) (moves : ℕ) (front : List Vector) → IsFront bridge n moves front → (v : Vector) → Contains front v → length v ≡ length n.lefts
 length-in_front n moves front is v m = All-at (λ v. length v ≡ length (bridge.states n)) front (one_front.wide n moves front is) v m ∙ length-states n
+
+-- the whole front is above a target without ones, and has the part above each target
+module _ (n : NodeValue) (moves : ℕ) where
+  abbrev lowest : Vector
+  lowest = replicate (length n.lefts) false
+
+  pub whole_above : (front : FrontValue) → IsFrontAt n moves front → AreAbove n moves (replicate (length n.lefts) false) front
+  whole_above front is = record {
+    whole = front;
+    front = is;
+    part = part_all lowest (CanWin bridge n moves) front.vectors is.front (λ v m. none_above (length n.lefts) v (length-in_front n moves front.vectors is.front v m));
+    width = is.width;
+  }
+
+  pub above_part : (t : Vector) (found part : FrontValue) → length t ≡ length n.lefts → AreAbove n moves (replicate (length n.lefts) false) found → IsPartAbove t found.vectors part.vectors → part.width ≡ found.width → AreAbove n moves t part
+  above_part t found part wide are is width = record {
+    whole = are.whole;
+    front = are.front;
+    part = part_of_part t lowest (CanWin bridge n moves) are.whole.vectors found.vectors part.vectors (none_above (length n.lefts) t wide) are.front.front are.part is;
+    width = width ∙ are.width;
+  }
 
 module _ (n : NodeValue) (moves : ℕ) (t : Vector) where
   pub theirs_above_none : (cards : List ℕ) (join : JoinerValue) (width : ℕ) → AreEnough n cards → length t ≡ length n.lefts → width ≡ length n.lefts → join.optimistic.width ≡ width → IsReduced (replicate width true ∷ []) join.optimistic.vectors

@@ -25,6 +25,16 @@ module _ (t : Vector) where
   pub part_all : (Can : Vector → Type 0) (front : List Vector) → IsFrontOf Can front → ((v : Vector) → Contains front v → Dominates v t) → IsPartAbove t front front
   part_all Can front f above = record { reached = λ v m. (m, above v m); covered = λ v h. (v, h.0, Dominates-refl v); apart = f.apart; ordered = f.ordered }
 
+  -- a part above a lower target has the part above this one
+  pub part_of_part : (low : Vector) (Can : Vector → Type 0) (front found part : List Vector) → Dominates t low → IsFrontOf Can front → IsPartAbove low front found → IsPartAbove t found part → IsPartAbove t front part
+  part_of_part low Can front found part over f a b = front_same (λ v. Contains found v × Dominates v t) (λ v. Contains front v × Dominates v t) part
+      (λ v h. ((a.reached v h.0).0, h.1))
+      (λ v h.
+      let c = a.covered v (h.0, Dominates-trans v t low h.1 over) in
+      let same : c.0 ≡ v = f.apart c.0 v (a.reached c.0 c.1).0 h.0 c.2 in
+      (subst (λ u. Contains found u) same c.1, h.1))
+      b
+
   -- one more vector, which is above
   pub part_more : (front part now : List Vector) (v : Vector) → IsPartAbove t front part → Dominates v t → IsReduced (v ∷ part) now → IsPartAbove t (front ++ v ∷ []) now
   part_more front part now v a over r = front_level (Contains (v ∷ part)) (λ u. Contains (front ++ v ∷ []) u × Dominates u t) now to back r

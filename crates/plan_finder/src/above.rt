@@ -165,15 +165,15 @@ impl<S: FrontStore> AboveSearch<'_, S> {
         ensures same_budget { self.new.budget.ghost_name ≡ self.old.budget.ghost_name }
     {
         if self.rules.whole_fronts {
-            return self.by_whole_front(&node, moves, target);
+            return self.by_shared_front(&node, moves, target);
         }
         if let Some(found) = self.memo.look(&node, moves, target) {
             self.budget.enter()?;
             return Ok(found);
         }
-        let answer = self.find(&node, moves, target, made);
-        self.memo.offer(&node, moves, target, &answer);
-        answer
+        let found = self.find(&node, moves, target, made)?;
+        self.memo.offer(&node, moves, target, &found);
+        Ok(found)
     }
 
     // The same, but without a look at what is kept. After a defender's card double dummy needn't be
@@ -198,11 +198,45 @@ impl<S: FrontStore> AboveSearch<'_, S> {
         self.open(node, moves, target)
     }
 
+    // By a whole front, which serves further targets. The store keeps it if it is narrow. The memo
+    // keeps a wide one, under a target without ones, which each vector dominates.
+    fn by_shared_front(&mut self, node: &Node, moves: u8, target: &WinVector) -> VectorsAbove
+        requires few_moves { moves ≤ most_moves }
+        requires width { length target.now ≡ length node.now.lefts }
+        ensures above { IfOk result (AreAbove node.now moves target.now) }
+        ensures costs { Costs ⊥ (tree_size bridge node.now moves) self.old.budget.now.left
+            self.new.budget.now.left result }
+        ensures same { IsSameAbove S.grown self.old self.new }
+    {
+        let none = WinVector::none(node.width());
+        if let Some(whole) = self.memo.look(node, moves, &none) {
+            self.budget.enter()?;
+            return Ok(part_above(self.memo.alloc(), &whole, target)?);
+        }
+        let whole = self.whole_front(node, moves)?;
+        if whole.len() > MOST_ENTRY_VECTORS {
+            self.memo.offer(node, moves, &none, &whole);
+        }
+        Ok(part_above(self.memo.alloc(), &whole, target)?)
+    }
+
     // Searches the front and takes its vectors above the target.
     fn by_whole_front(&mut self, node: &Node, moves: u8, target: &WinVector) -> VectorsAbove
         requires few_moves { moves ≤ most_moves }
         requires width { length target.now ≡ length node.now.lefts }
         ensures above { IfOk result (AreAbove node.now moves target.now) }
+        ensures costs { Costs ⊥ (tree_size bridge node.now moves) self.old.budget.now.left
+            self.new.budget.now.left result }
+        ensures same { IsSameAbove S.grown self.old self.new }
+    {
+        let whole = self.whole_front(node, moves)?;
+        Ok(part_above(self.memo.alloc(), &whole, target)?)
+    }
+
+    // Searches the front of a node.
+    fn whole_front(&mut self, node: &Node, moves: u8) -> VectorsAbove
+        requires few_moves { moves ≤ most_moves }
+        ensures front { IfOk result (IsFrontAt node.now moves) }
         ensures costs { Costs ⊥ (tree_size bridge node.now moves) self.old.budget.now.left
             self.new.budget.now.left result }
         ensures same { IsSameAbove S.grown self.old self.new }
@@ -218,7 +252,7 @@ impl<S: FrontStore> AboveSearch<'_, S> {
             &none,
             self.rules.cuts,
         )? {
-            Found::Exact(front) => Ok(part_above(self.memo.alloc(), &front, target)?),
+            Found::Exact(front) => Ok(front),
             Found::Below => unreachable!(),
         }
     }

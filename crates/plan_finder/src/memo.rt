@@ -1,8 +1,7 @@
 //! What searches above targets have found already.
-ghost use Rattle.std.specs.Prelude.{IfOk, IfSome};
+ghost use Rattle.std.specs.Prelude.{IfSome};
 ghost use Rattle.plan_finder.specs.Above.{AreAbove};
 
-use crate::above::VectorsAbove;
 use crate::digest::digest;
 use crate::kept_above::KeptAbove;
 use crate::vector_at::VectorAt;
@@ -62,16 +61,14 @@ impl AboveMemo {
         }
     }
 
-    /// Offers what a search above a target answers: it is kept if it isn't too wide and an
-    /// allocation doesn't fail.
+    /// Offers the vectors above a target: they are kept if they aren't too many and an allocation
+    /// doesn't fail.
     ///
     /// No clause: a memo may forget, and no answer depends on what it keeps.
-    pub fn offer(&mut self, node: &Node, moves: u8, target: &WinVector, answer: &VectorsAbove)
-        requires { IfOk answer.now (AreAbove node.now moves target.now) }
+    pub fn offer(&mut self, node: &Node, moves: u8, target: &WinVector, found: &Front)
+        requires { AreAbove node.now moves target.now found.now }
     {
-        if let Ok(found) = answer {
-            let _ = self.keep(node, moves, target, found);
-        }
+        let _ = self.keep(node, moves, target, found);
     }
 
     // Keeps what was found above a target instead of what was in its slot, if it isn't too wide.

@@ -51,6 +51,7 @@ pub struct PlanWriter {
     whole_fronts: bool,
     memo: AboveMemo,
     text: Vec<u8>,
+    copied: Vec<u8>,
     slots: Vec<Option<WrittenPlan>>,
 }
 
@@ -88,6 +89,7 @@ impl PlanWriter {
             whole_fronts: false,
             memo: AboveMemo::new(alloc),
             text: Vec::new(alloc),
+            copied: Vec::new(alloc),
             slots: Vec::new(alloc),
         }
     }
@@ -103,6 +105,7 @@ impl PlanWriter {
             whole_fronts: vectors <= MOST_NARROW,
             memo: AboveMemo::new(alloc),
             text: Vec::new(alloc),
+            copied: Vec::new(alloc),
             slots: Vec::new(alloc),
         }
     }
@@ -183,7 +186,10 @@ impl PlanWriter {
         let Some(lines) = self.place_of(node, moves, vector) else {
             return Ok(false);
         };
-        self.text.extend_from_within(lines)?;
+        // Two copies of a whole piece take less time than `extend_from_within`, byte by byte.
+        self.copied.clear();
+        self.copied.extend_from_slice(&self.text[lines])?;
+        self.text.extend_from_slice(&self.copied)?;
         Ok(true)
     }
 
