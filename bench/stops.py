@@ -6,10 +6,11 @@ Counts what the plans of a report depend on, beside what `card` asks, on the end
 A plan wins a layout only if double dummy makes it at each stop that the layout can reach. So the report is right only if all these results
 are: a pair of a stop and a layout that its vector wins there. Pairs are counted once, whichever plan they are in. They are left out if the
 result is decided, or if the last card was declarer's only choice but for equal cards, since then it is that of the turn before. `card` needs
-no plan; its questions to double dummy are the calls of `makes` that callgrind counts, so a question that is asked again counts again.
+no plan; its questions to double dummy are the calls of `makes` that callgrind counts, so a question that is asked again counts again. They are
+counted in the program as Rattle's own compiler builds it, since LLVM puts `makes` into its callers.
 
 It prints both counts for each ending and number of moves up to MOVES (default 6), and for each number of moves the median of their ratios and
-how many are over 1.3. It needs valgrind, and the program: ./build."""
+how many are over 1.3. It needs valgrind, and both builds of the program, which `rt ci` leaves."""
 import pathlib
 import re
 import statistics
@@ -25,6 +26,7 @@ from playing import after, is_decided, legal, seat_to_play
 
 MOST_VECTORS = 10
 ASKED = "dd_solver::solver::Solver::makes"
+BY_RATTLE = PROGRAM.with_name("alphamu.by-rattle")
 
 
 def is_forced(state, card):
@@ -73,7 +75,7 @@ def questions(words):
         told = pathlib.Path(counts.name).read_text()
     number = re.search(r"fn=(\(\d+\)) " + re.escape(ASKED) + "$", told, re.M)
     if not number:
-        sys.exit(f"{PROGRAM} has no function {ASKED}")
+        sys.exit(f"{BY_RATTLE} has no function {ASKED}")
     called = re.escape(number[1]) + r"(?: \S+)?\ncalls=(\d+) "
     return sum(map(int, re.findall("cfn=" + called, told)))
 
@@ -93,7 +95,7 @@ def main():
                 depended, vectors = depended_on(files, solved.stdout)
                 if vectors > MOST_VECTORS:
                     continue
-                asked = questions([PROGRAM, "--job", "card", *words])
+                asked = questions([BY_RATTLE, "--job", "card", *words])
                 ratios[moves].append(depended / asked)
                 print("%-24s%7d%6d%6d%13d%15d%8.2f" % (ending.name, ending.width, moves, vectors, depended, asked, ratios[moves][-1]), flush=True)
     for moves, rows in ratios.items():
