@@ -1,11 +1,11 @@
 #!/usr/bin/env python3
 """stops.py [MOVES]
 
-Counts what the plans of a report depend on, beside what `card` asks, on the endings of cuts.py with a front of at most ten vectors.
+Counts what the plans of a report depend on, and what `card` asks double dummy, on the endings of cuts.py with a front of at most ten vectors.
 
 A plan wins a layout only if double dummy makes it at each stop that the layout can reach. So the report is right only if all these results
 are: a pair of a stop and a layout that its vector wins there. Pairs are counted once, whichever plan they are in. They are left out if the
-result is decided, or if the last card was declarer's only choice but for equal cards, since then it is that of the turn before. `card` needs
+result is decided, or if the last card was declarer's only choice except for equal cards, since then it is that of the turn before. `card` needs
 no plan; its questions to double dummy are the calls of `makes` that callgrind counts, so a question that is asked again counts again. They are
 counted in the program as Rattle's own compiler builds it, since LLVM puts `makes` into its callers.
 
