@@ -97,7 +97,8 @@ def main():
                     continue
                 asked = questions([BY_RATTLE, "--job", "card", *words])
                 ratios[moves].append(depended / asked)
-                print("%-24s%7d%6d%6d%13d%15d%8.2f" % (ending.name, ending.width, moves, vectors, depended, asked, ratios[moves][-1]), flush=True)
+                row = ending.name, ending.width, moves, vectors, depended, asked, depended / asked
+                print("%-24s%7d%6d%6d%13d%15d%8.2f" % row, flush=True)
     for moves, rows in ratios.items():
         print("%d moves: %d endings, median %.2f, over 1.3: %d" % (moves, len(rows), statistics.median(rows), sum(it > 1.3 for it in rows)))
 
