@@ -4,7 +4,8 @@
 Counts what the plans of a report depend on, and what `card` asks double dummy, on the endings of cuts.py with a front of at most ten vectors.
 
 A plan wins a layout only if double dummy makes it at each stop that the layout can reach. So the report is right only if all these results
-are: a pair of a stop and a layout that its vector wins there. Pairs are counted once, whichever plan they are in. They are left out if the
+are: a pair of a stop and a layout that its vector wins there. Pairs are counted once, whichever plan they are in,
+and positions with the same relative ranks count as one. They are left out if the
 result is decided, or if the last card was declarer's only choice except for equal cards, since then it is that of the turn before. `card` needs
 no plan; its questions to double dummy are the calls of `makes` that callgrind counts, so a question that is asked again counts again. They are
 counted in the program as Rattle's own compiler builds it, since LLVM puts `makes` into its callers.
@@ -38,6 +39,14 @@ def is_forced(state, card):
     return able[0] // 13 == able[-1] // 13 and not any(able[0] < it < able[-1] for it in others)
 
 
+def relative(state):
+    """The state with the gaps of each suit closed."""
+    hands, trick, leader, need = state
+    cards = sorted({it for hand in hands for it in hand} | {it for _, it in trick})
+    rank = {card: card // 13 * 13 + sum(it // 13 == card // 13 for it in cards[:at]) for at, card in enumerate(cards)}
+    return tuple(frozenset(rank[it] for it in hand) for hand in hands), tuple((seat, rank[it]) for seat, it in trick), leader, need
+
+
 def stops(plan, states, trump, forced=True):
     """The undecided stops of a plan, each with the layouts that reach it, by the states that begin it."""
     if plan is None:
@@ -63,7 +72,8 @@ def depended_on(files, report):
     entries = reading.report_of(report)[2]
     found = set()
     for bits, _, plan in entries if len(entries) <= MOST_VECTORS else ():
-        found.update(stops(plan, [state for state, bit in zip(states, bits) if bit == ord("1")], board.trump))
+        won = [state for state, bit in zip(states, bits) if bit == ord("1")]
+        found.update(map(relative, stops(plan, won, board.trump)))
     return len(found), len(entries)
 
 
