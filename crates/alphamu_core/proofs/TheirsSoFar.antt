@@ -1,5 +1,5 @@
 -- The first of a defender's cards, and what the replies to them win.
-use Rattle.std.proofs.Common.{◌≡◌, ◌∙◌, ◌+◌, ◌-◌, ◌*◌, ◌<◌, ◌≤◌, ◌||◌, ℕ, zero, suc, true≢false, Bool, true, false, List, [], ◌∷◌, ◌++◌, length, map, replicate, Contains, refl, sym, ap, ap₂, subst, arith, ⊎_elim}
+use Rattle.std.proofs.Common.{◌≡◌, ◌∙◌, ◌-◌, ◌≤◌, ◌||◌, ℕ, zero, suc, true≢false, Bool, true, false, List, [], ◌∷◌, ◌++◌, length, map, replicate, Contains, refl, sym, ap, ap₂, subst, arith, ⊎_elim}
 use Rattle.std.specs.List.{list_any}
 use Rattle.std.proofs.Math.Bool.{or-false}
 use Rattle.std.proofs.lemmas.List.Folds.{list_any-append}

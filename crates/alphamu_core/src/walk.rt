@@ -1,11 +1,14 @@
 // The search of αμ: the walk through the tree, fronts from the leaves upward, with cuts.
-ghost use Rattle.std.specs.Prelude.{◌≡◌, false, true, length, IsTrue, IfOk, IfSome, OnOk, Option};
+ghost use Rattle.std.specs.Prelude.{◌≡◌, ℕ, false, true, length, Contains};
+ghost use Rattle.std.specs.Prelude.{IsTrue, IfOk, IfSome, OnOk, Option};
 ghost use Rattle.strategy_games.specs.Plans.{stops};
 ghost use Rattle.strategy_tree.specs.Bridge.{bridge};
 ghost use Rattle.cut_rules.specs.Rules.{no_cuts};
 ghost use Rattle.alphamu_core.specs.Findings.{IsAnswer, IsExactOfWidth};
 ghost use Rattle.alphamu_core.specs.Asked.{IsAsked, IsAnswerTo};
+ghost use Rattle.trick_rules.specs.Nodes.{child};
 ghost use Rattle.alphamu_core.specs.Judging.{IsKnown};
+ghost use Rattle.alphamu_core.specs.Kept.{AreEnough};
 ghost use Rattle.alphamu_core.specs.Limits.{IsLimit, IsUpperBound, IsUnited, IsReached};
 ghost use Rattle.alphamu_core.specs.TreeSearches.{IsSameSearch, Pays, PaysBelow};
 
@@ -18,6 +21,7 @@ use crate::offers::offer;
 use crate::part::{cut_down, fill};
 use crate::results::Question;
 use crate::tree_search::TreeSearch;
+use card_sets::CardSet;
 use cut_rules::cut;
 use front_join::Joiner;
 use front_table::FrontStore;
@@ -126,6 +130,7 @@ impl<S: FrontStore> TreeSearch<'_, S> {
     // cover the upper bound. The node itself is paid for.
     #[cycle(walk)]
     fn at_declarer(&mut self, question: &Question, moves: u8, upper: &Option<Front>) -> Answer
+        requires known { IsKnown question.now.node.now question.now.known }
         requires goes_on { stops bridge question.now.node.now moves ≡ false }
         requires ours { bridge.is_ours question.now.node.now ≡ true }
         requires upper { IfSome upper.now (IsUpperBound question.now.node.now moves) }
@@ -136,9 +141,10 @@ impl<S: FrontStore> TreeSearch<'_, S> {
     {
         let mut front = Front::new(self.alloc, question.node.width());
         let mut cards = cards_to_try(question.node, self.rules);
+        let known = known_after(question, cards);
         'cards: while let Some(card) = take_highest(&mut cards) {
             let (child, _) = question.node.child(self.alloc, card)?;
-            let found = self.visit(child, moves - 1, &front, Known::Nothing)?;
+            let found = self.visit(child, moves - 1, &front, known)?;
             unite(&mut front, &found)?;
             if is_reached(upper, &front) {
                 return Ok(Found::Exact(front));
@@ -175,6 +181,24 @@ impl<S: FrontStore> TreeSearch<'_, S> {
             }
         }
         Ok(Found::Exact(joiner.finish()))
+    }
+}
+
+// What is known of double dummy's results after each of the cards that declarer's side tries. If
+// there is only one, what was made is made still after it.
+fn known_after(question: &Question, cards: CardSet) -> Known
+    requires ours { bridge.is_ours question.now.node.now ≡ true }
+    requires open_result { bridge.is_decided question.now.node.now ≡ false }
+    requires known { IsKnown question.now.node.now question.now.known }
+    requires enough { AreEnough question.now.node.now cards }
+    ensures { (card : ℕ) → Contains cards card
+        → IsKnown (child question.now.node.now card) result }
+{
+    let _width = question.node.width();
+    if cards.count() == 1 {
+        question.known
+    } else {
+        Known::Nothing
     }
 }
 

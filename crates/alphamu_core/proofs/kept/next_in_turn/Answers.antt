@@ -1,4 +1,4 @@
-use Rattle.std.proofs.Common.{◌≡◌, ◌∙◌, true, Option, Some, None, ℕ, List, [], ◌∷◌, Contains, MatchOption, filter, sym, subst}
+use Rattle.std.proofs.Common.{◌≡◌, ◌∙◌, true, Option, Some, None, ℕ, List, [], Contains, MatchOption, filter, sym, subst}
 use Rattle.std.proofs.lemmas.Bool.{and_parts}
 use Rattle.card_sets.specs.SetWords.{has_card, IsCardSet, first_card}
 use Rattle.card_sets.proofs.Sets.{has_card-filter, first_card-some, first_card-none}

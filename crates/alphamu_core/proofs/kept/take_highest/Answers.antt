@@ -1,4 +1,4 @@
-use Rattle.std.proofs.Common.{◌≡◌, [], Option, MatchOption, ℕ, sym, subst}
+use Rattle.std.proofs.Common.{sym, subst}
 use Rattle.alphamu_core.specs.Kept.{IsTaken}
 use Rattle.alphamu_core.proofs.Taken.{taken_out}
 use Rattle.alphamu_core.proofs.kept.take_highest.Goals as goal

@@ -6,6 +6,7 @@ use Rattle.trick_rules.specs.Play.{cards_left}
 use Rattle.front_table.specs.Proven.{IsFrontAt}
 use Rattle.alphamu_core.specs.declared.answers.SearchFault.TheVariants.{Memory}
 use Rattle.alphamu_core.specs.Findings.{IsAnswer}
+use Rattle.alphamu_core.specs.Judging.{IsKnown}
 use Rattle.alphamu_core.specs.Limits.{IsUnknown}
 use Rattle.alphamu_core.specs.Costs.{Costs, EntersEach}
 use Rattle.strategy_games.specs.Plans.{tree_size}
@@ -26,9 +27,18 @@ use Rattle.alphamu_core.proofs.tree_search.TreeSearch.+walk.Goals.{open-in-Upper
 
 -- ---- declarer's side
 
+pub at_declarer-known_after-known-requires : goal.at_declarer-known_after-known-requires
+at_declarer-known_after-known-requires g t c = record {
+  ours = c.requires.ours;
+  open_result = is_open c.args.question.now.node.now c.args.moves c.requires.goes_on;
+  known = c.requires.known;
+  enough = c.cards_to_try-cards.ensures.enough;
+}
+
 pub at_declarer-cards-init : goal.at_declarer-cards-init
 at_declarer-cards-init g t c = record {
   so = ours_none c.args.question.now.node.now (c.args.moves - 1) c.cards_to_try-cards.result c.new-front.result c.cards_to_try-cards.ensures.enough c.new-front.ensures.empty (c.new-front.ensures.width ∙ c.width.ensures.value);
+  heirs = c.known_after-known.ensures;
   paid = paid_none (EntersEach c.args.self.now.rules g.S.FrontStore.blind) c.args.question.now.node.now (c.args.moves - 1) c.cards_to_try-cards.result c.args.self.now.budget.now.left c.cards_to_try-cards.ensures.enough (λ each. c.cards_to_try-cards.ensures.each each.0);
   same = same_none g.met.S.FrontStore.grown_none c.args.self.now;
 }
@@ -45,7 +55,8 @@ pub at_declarer-visit-requires : goal.at_declarer-visit-requires
 at_declarer-visit-requires g t c κs within =
     let less = fewer_by_five _ _ _ c.width.ensures.a_node (ours_next c.args.question.now.node.now (c.args.moves - 1) c.cards.invariant.so c.in-Some.ensures.taken) c.in_ok-child.ensures.node in
     let width = ours_width c.args.question.now.node.now (c.args.moves - 1) c.cards.invariant.so c.in-Some.ensures.taken c.in_ok-child.ensures.node c.requires.ours in
-    (omega arith, (within, (width, tt)))
+    let known = subst (λ m. IsKnown m c.known_after-known.result) (sym c.in_ok-child.ensures.node) (c.cards.invariant.heirs c.in-Some.card c.in-Some.ensures.taken.among) in
+    (omega arith, (within, (width, known)))
 
 pub at_declarer-returns-in_err-found-clause-costs : goal.at_declarer-returns-in_err-found-clause-costs
 at_declarer-returns-in_err-found-clause-costs g t c =
@@ -87,6 +98,7 @@ at_declarer-returns-then-is_reached-clause-same g t c = same_more g.met.S.FrontS
 pub at_declarer-cards-preserved : goal.at_declarer-cards-preserved
 at_declarer-cards-preserved g t c = record {
   so = ours_more c.args.question.now.node.now (c.args.moves - 1) c.cards.invariant.so c.in-Some.ensures.taken c.in_ok-child.ensures.node c.in_ok-found.found c.cards.self.rules c.unite.new.front c.in_ok-found.ensures.answer c.in_ok-unite.ensures.united c.in_ok-unite.ensures.width;
+  heirs = λ card k. c.cards.invariant.heirs card (c.in-Some.ensures.taken.part card k);
   paid = paid_more (EntersEach c.args.self.now.rules g.S.FrontStore.blind) c.args.question.now.node.now (c.args.moves - 1) c.cards.invariant.paid c.in-Some.ensures.taken c.in_ok-child.ensures.node c.in_ok-found.found (costs_by c.cards.invariant.same.rules c.in_ok-found.ensures.costs);
   same = same_more g.met.S.FrontStore.grown_more c.cards.invariant.same c.in_ok-found.ensures.same;
 }
@@ -94,6 +106,7 @@ at_declarer-cards-preserved g t c = record {
 pub at_declarer-cards-preserved-else-is_reached : goal.at_declarer-cards-preserved-else-is_reached
 at_declarer-cards-preserved-else-is_reached g t c = record {
   so = ours_more c.args.question.now.node.now (c.args.moves - 1) c.cards.invariant.so c.in-Some.ensures.taken c.in_ok-child.ensures.node c.in_ok-found.found c.cards.self.rules c.unite.new.front c.in_ok-found.ensures.answer c.in_ok-unite.ensures.united c.in_ok-unite.ensures.width;
+  heirs = λ card k. c.cards.invariant.heirs card (c.in-Some.ensures.taken.part card k);
   paid = paid_more (EntersEach c.args.self.now.rules g.S.FrontStore.blind) c.args.question.now.node.now (c.args.moves - 1) c.cards.invariant.paid c.in-Some.ensures.taken c.in_ok-child.ensures.node c.in_ok-found.found (costs_by c.cards.invariant.same.rules c.in_ok-found.ensures.costs);
   same = same_more g.met.S.FrontStore.grown_more c.cards.invariant.same c.in_ok-found.ensures.same;
 }
@@ -101,6 +114,7 @@ at_declarer-cards-preserved-else-is_reached g t c = record {
 pub at_declarer-cards-preserved-else-is_reached-2 : goal.at_declarer-cards-preserved-else-is_reached-2
 at_declarer-cards-preserved-else-is_reached-2 g t c = record {
   so = ours_more c.args.question.now.node.now (c.args.moves - 1) c.cards.invariant.so c.in-Some.ensures.taken c.in_ok-child.ensures.node c.in_ok-found.found c.cards.self.rules c.unite.new.front c.in_ok-found.ensures.answer c.in_ok-unite.ensures.united c.in_ok-unite.ensures.width;
+  heirs = λ card k. c.cards.invariant.heirs card (c.in-Some.ensures.taken.part card k);
   paid = paid_more (EntersEach c.args.self.now.rules g.S.FrontStore.blind) c.args.question.now.node.now (c.args.moves - 1) c.cards.invariant.paid c.in-Some.ensures.taken c.in_ok-child.ensures.node c.in_ok-found.found (costs_by c.cards.invariant.same.rules c.in_ok-found.ensures.costs);
   same = same_more g.met.S.FrontStore.grown_more c.cards.invariant.same c.in_ok-found.ensures.same;
 }

@@ -1,6 +1,8 @@
-use Rattle.std.proofs.Common.{◌+◌, ◌-◌, ◌*◌, length}
+use Rattle.std.proofs.Common.{◌+◌, ◌-◌, ◌*◌, ℕ, length, Contains}
 use Rattle.trick_rules.specs.Play.{cards_left}
+use Rattle.trick_rules.specs.Nodes.{child}
 use Rattle.alphamu_core.specs.Costs.{EntersEach}
+use Rattle.alphamu_core.specs.Judging.{IsKnown}
 use Rattle.alphamu_core.specs.TreeSearches.{IsSameSearch}
 use Rattle.alphamu_core.proofs.Paid.{HasPaid}
 use Rattle.alphamu_core.proofs.OursSoFar.{OursSoFar}
@@ -29,6 +31,7 @@ decreases-at_defender g l = 5 * cards_left l.question.now.node.now.position
 abbrev pub invariant-at_declarer-cards : goal.invariant-at_declarer-cards
 invariant-at_declarer-cards g l = record {
   so : OursSoFar l.question.node.now (l.moves - 1) l.cards l.front;
+  heirs : (card : ℕ) → Contains l.cards card → IsKnown (child l.question.node.now card) l.known;
   paid : HasPaid (EntersEach l.fn.self.rules g.S.FrontStore.blind) l.question.node.now (l.moves - 1) l.cards l.fn.self.budget.now.left l.self.budget.now.left;
   same : IsSameSearch g.S.FrontStore.grown l.fn.self l.self;
 }
