@@ -12,9 +12,10 @@ use Rattle.strategy_games.proofs.Vectors.{Dominates-refl}
 use Rattle.strategy_tree.specs.Bridge.{bridge}
 use Rattle.strategy_tree.proofs.BridgeNodes.{length-states}
 use Rattle.strategy_tree.proofs.Rules.{lawful, double_dummy}
+use Rattle.alphamu_core.specs.Kept.{AreEnough}
 use Rattle.alphamu_core.specs.Parts.{part_of, filled_of, AreSomeLayouts}
 use Rattle.alphamu_core.specs.declared.known.Known.TheVariants as Known
-use Rattle.alphamu_core.proofs.Inherited.{known_part, known_theirs}
+use Rattle.alphamu_core.proofs.Inherited.{only_one, known_part, known_theirs, known_ours}
 use Rattle.alphamu_core.proofs.Parts.{IsPart, left_out, is_part, part_sound, states-part, smaller, length-picked}
 use Rattle.pareto_fronts.specs.FrontValue.{FrontValue}
 use Rattle.assured_games.specs.Assured.{IsAssured, IsAssuredFront}
@@ -122,3 +123,9 @@ module _ (n : NodeValue) (sound : IsNode n) (made : Vector) (are : made ≡ map 
         (subst (λ k. IsAssuredFront bridge is_sure_node k moves front.vectors) is_part_of found.front) reduced;
     width = width ∙ made_wide n made are;
   }
+
+-- declarer's side has one card to try
+pub made_after_one : (n : NodeValue) (cards : List ℕ) (card : ℕ) → IsNode n → bridge.is_decided n ≡ false → bridge.is_ours n ≡ true → AreEnough n cards → length cards ≡ 1 → Contains cards card
+    → AllMade n → AllMade (child n card)
+made_after_one n cards card sound live ours enough one tried each =
+    known_ours n sound live ours cards card enough tried (λ other among. only_one cards one card other tried among) Known.AllMade each

@@ -9,10 +9,13 @@ use std::hash::{FoldHasher, Hash, Hasher};
 use std::marker::Model;
 use trick_rules::Node;
 
-/// How many slots there are at first, and how many once half of them are taken.
+/// How many slots there are at first, and how many at most.
 const FEW_SLOTS: usize = 1_024;
 
 const MOST_SLOTS: usize = 65_536;
+
+/// How many times as many there are once half of them are taken.
+const GROWTH: usize = 8;
 
 /// The most vectors of a front that is kept.
 const MOST_KEPT_VECTORS: usize = 64;
@@ -130,14 +133,14 @@ impl AssuredMemo {
         Ok(())
     }
 
-    // Takes the memory of the slots, if it isn't taken: of more, once many are. What is kept is
-    // forgotten then.
+    // Takes the memory of the slots, if it isn't taken: of more, once half of them are. What is kept
+    // is forgotten then.
     fn make_slots(&mut self) -> Result<(), AllocError> {
-        if self.slots.is_empty() {
+        let count = self.slots.len();
+        if count == 0 {
             self.slots = free_slots(self.alloc, FEW_SLOTS)?;
-        }
-        if self.slots.len() < MOST_SLOTS && self.kept.len() > FEW_SLOTS / 2 {
-            self.slots = free_slots(self.alloc, MOST_SLOTS)?;
+        } else if count < MOST_SLOTS && self.kept.len() > count / 2 {
+            self.slots = free_slots(self.alloc, count.saturating_mul(GROWTH).min(MOST_SLOTS))?;
             self.kept.clear();
         }
         Ok(())
@@ -153,14 +156,17 @@ fn free_slots(alloc: Global, count: usize) -> Result<Vec<u32>, AllocError> {
     Ok(slots)
 }
 
-// A number that differs between most nodes with their moves.
+// A number that differs between most nodes with their moves. Nodes of one deal with the same hands
+// mostly have other layouts if the first or the last one differs, or their number.
 fn digest(node: &Node, moves: u8) -> u64 {
     let position = node.position();
     let mut hasher = FoldHasher::default();
     position.declarer.hash(&mut hasher);
     position.dummy.hash(&mut hasher);
     position.unseen.hash(&mut hasher);
-    node.lefts().hash(&mut hasher);
+    node.left(0).hash(&mut hasher);
+    node.left(node.width() - 1).hash(&mut hasher);
+    hasher.write_u16(node.width());
     hasher.write_u8(moves);
     hasher.finish()
 }

@@ -1,8 +1,9 @@
 //! A search for what is assured, under way.
-ghost use Rattle.std.specs.Prelude.{◌≡◌, ◌<◌, ◌≤◌, false, map, IfOk, IsTrue};
+ghost use Rattle.std.specs.Prelude.{◌≡◌, ◌<◌, ◌≤◌, ℕ, false, map, Contains, IfOk, IsTrue};
 ghost use Rattle.win_vectors.specs.Vectors.{ones_of};
 ghost use Rattle.trick_rules.specs.Play.{makes};
-ghost use Rattle.trick_rules.specs.Nodes.{states};
+ghost use Rattle.trick_rules.specs.Nodes.{states, child};
+ghost use Rattle.alphamu_core.specs.Kept.{AreEnough};
 ghost use Rattle.assured_fronts.specs.AssuredAt.{IsAssuredAt, AllMade, claims as claims_at};
 ghost use Rattle.assured_fronts.specs.AssuredSearches.{GoesOnMade, IsSameSearch, Pays, PaysBelow};
 
@@ -12,6 +13,7 @@ use crate::last::last_move;
 use crate::memo::AssuredMemo;
 use crate::tried::{cards_of, next_card};
 use alphamu_core::{Budget, SearchFault, filled, part_of};
+use card_sets::CardSet;
 use dd_solver::Solver;
 use pareto_fronts::Front;
 use plain_fronts::{front_of_no_card, moves_after, with_child};
@@ -89,8 +91,8 @@ impl AssuredSearch<'_> {
         answer
     }
 
-    // The front from those after each card, with a move less at declarer's side. A layout that is
-    // made is made still after a defender's card. The node itself is paid for.
+    // The front from those after each card, with a move less at declarer's side. The node itself is
+    // paid for.
     #[cycle(assured)]
     fn by_cards(&mut self, node: &Node, moves: u8) -> Result<Front, SearchFault>
         requires { GoesOnMade node.now moves }
@@ -101,14 +103,27 @@ impl AssuredSearch<'_> {
         let left = moves_after(node, moves);
         let mut front = front_of_no_card(self.alloc, node)?;
         let mut cards = cards_of(node);
+        let all_made = is_made_after_each(node, cards);
         'cards: while let Some(card) = next_card(node, &mut cards) {
             let (child, mask) = node.child(self.alloc, card)?;
             if changes_nothing(node, &front, mask) {
                 continue;
             }
-            let won = self.visit(&child, left, !node.is_ours())?;
+            let won = self.visit(&child, left, all_made)?;
             front = with_child(self.alloc, node, front, &won, mask)?;
         }
         Ok(front)
     }
+}
+
+// Whether double dummy is known to make each layout after each of these cards, if it makes each at
+// the node: at a defender's turn, or if declarer's side has only one to try.
+fn is_made_after_each(node: &Node, cards: CardSet) -> bool
+    requires goes_on { claims_at node.now ≡ false }
+    requires made { AllMade node.now }
+    requires enough { AreEnough node.now cards }
+    ensures { IsTrue result → (card : ℕ) → Contains cards card → AllMade (child node.now card) }
+{
+    let _width = node.width();
+    !node.is_ours() || cards.count() == 1
 }

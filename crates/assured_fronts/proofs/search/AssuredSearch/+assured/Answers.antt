@@ -1,5 +1,4 @@
-use Rattle.std.proofs.Common.{◌≡◌, ◌+◌, [], length, refl, sym, ap, ◌∙◌, arith, rules, inr}
-use Rattle.std.proofs.lemmas.Bool.{not-true}
+use Rattle.std.proofs.Common.{◌≡◌, ◌+◌, [], length, refl, sym, ap, subst, ◌∙◌, arith, rules, inr}
 use Rattle.win_vectors.specs.Vectors.{ones_of}
 use Rattle.trick_rules.specs.Play.{cards_left}
 use Rattle.trick_rules.specs.Nodes.{NodeValue, choices}
@@ -12,8 +11,9 @@ use Rattle.strategy_games.proofs.Lists.{Contains-nil}
 use Rattle.plain_fronts.proofs.CardByCard.{falls, child_fits}
 use Rattle.assured_fronts.proofs.CardByCard.{stops_off, size_below, next_choice, parted, over_no_card, left_one_more, left_same, left_all, paid_less, memory_once}
 use Rattle.alphamu_core.proofs.Inherited.{known_whole}
-use Rattle.assured_fronts.proofs.Leaves.{made_wide, goes_on}
-use Rattle.assured_fronts.proofs.MadeLayouts.{made_after, part_made, part_width, part_size, part_goes_on, filled_front}
+use Rattle.assured_fronts.specs.AssuredAt.{AllMade}
+use Rattle.assured_fronts.proofs.Leaves.{made_wide}
+use Rattle.assured_fronts.proofs.MadeLayouts.{part_made, part_width, part_size, part_goes_on, filled_front}
 use Rattle.assured_fronts.proofs.SameSearch.{same_none, same_more}
 use Rattle.assured_fronts.proofs.search.AssuredSearch.+assured.Goals as goal
 
@@ -34,6 +34,7 @@ by_cards-cards-init t c = record {
     width = c.in_ok-front.ensures.width;
     so_far = over_no_card c.args.node.now c.moves_after-left.result c.in_ok-front.front.vectors c.in_ok-front.ensures.ours c.in_ok-front.ensures.theirs;
   };
+  heirs = c.is_made_after_each-all_made.ensures;
   paid = paid_none ⊥ c.args.node.now c.moves_after-left.result c.cards_of-cards.result c.args.self.now.budget.now.left c.cards_of-cards.ensures.enough (λ each. absurd each);
   same = same_none c.args.self.now;
 }
@@ -47,7 +48,7 @@ by_cards-visit-requires t c =
     let at = parted (choices c.args.node.now) c.in-Some.card (next_choice left c.in-Some.ensures.taken) in
     let fewer = falls c.args.node.now c.in_ok-child.child at.0 at.1 c.in-Some.card c.front_of_no_card.ensures.a_node at.2 c.in_ok-child.ensures.node in (
       omega (arith, fewer),
-      λ known. made_after c.args.node.now c.in-Some.card c.front_of_no_card.ensures.a_node (goes_on c.args.node.now c.requires.goes_on).0 (sym c.is_ours.ensures ∙ not-true c.is_ours.result known) c.in_ok-child.child c.in_ok-child.ensures.node c.requires.made,
+      λ known. subst (λ m. AllMade m) (sym c.in_ok-child.ensures.node) (c.cards.invariant.heirs known c.in-Some.card c.in-Some.ensures.taken.among),
     )
 
 pub by_cards-with_child-requires : goal.by_cards-with_child-requires
@@ -62,6 +63,7 @@ pub by_cards-cards-preserved : goal.by_cards-cards-preserved
 by_cards-cards-preserved t c = record {
   left = left_one_more c.cards.invariant.left c.in-Some.ensures.taken c.in_ok-child.child c.in_ok-child.mask c.in_ok-won.won c.in_ok-front-2.front
       c.front_of_no_card.ensures.a_node c.in_ok-child.ensures.node c.in_ok-child.ensures.mask c.in_ok-won.ensures.front.front c.in_ok-front-2.ensures.width c.in_ok-front-2.ensures.ours c.in_ok-front-2.ensures.theirs;
+  heirs = λ known card k. c.cards.invariant.heirs known card (c.in-Some.ensures.taken.part card k);
   paid = paid_more ⊥ c.args.node.now c.moves_after-left.result c.cards.invariant.paid c.in-Some.ensures.taken c.in_ok-child.ensures.node c.in_ok-won.won c.in_ok-won.ensures.costs;
   same = same_more c.cards.invariant.same c.in_ok-won.ensures.same;
 }
@@ -70,6 +72,7 @@ pub by_cards-cards-preserved-then-changes_nothing : goal.by_cards-cards-preserve
 by_cards-cards-preserved-then-changes_nothing t c = record {
   left = left_same c.cards.invariant.left c.in-Some.ensures.taken c.front_of_no_card.ensures.a_node c.requires.goes_on c.requires.made c.in_ok-child.mask c.in_ok-child.ensures.mask
       (c.changes_nothing.ensures.ours c.if-changes_nothing.true) (c.changes_nothing.ensures.theirs c.if-changes_nothing.true);
+  heirs = λ known card k. c.cards.invariant.heirs known card (c.in-Some.ensures.taken.part card k);
   paid = paid_less c.cards.invariant.paid c.in-Some.ensures.taken;
   same = c.cards.invariant.same;
 }

@@ -1,7 +1,8 @@
-use Rattle.std.proofs.Common.{ℕ, ◌+◌, ◌*◌, length}
-use Rattle.trick_rules.specs.Nodes.{NodeValue}
+use Rattle.std.proofs.Common.{ℕ, ◌+◌, ◌*◌, length, Contains, IsTrue}
+use Rattle.trick_rules.specs.Nodes.{NodeValue, child}
 use Rattle.trick_rules.specs.Play.{cards_left}
 use Rattle.alphamu_core.proofs.Paid.{HasPaid}
+use Rattle.assured_fronts.specs.AssuredAt.{AllMade}
 use Rattle.assured_fronts.specs.AssuredSearches.{IsSameSearch}
 use Rattle.assured_fronts.proofs.CardByCard.{CardsLeft}
 use Rattle.assured_fronts.proofs.search.AssuredSearch.+assured.Given as goal
@@ -25,6 +26,7 @@ decreases-by_cards l = yet_to_do l.node.now 0
 abbrev pub invariant-by_cards-cards : goal.invariant-by_cards-cards
 invariant-by_cards-cards l = record {
   left : CardsLeft l.node l.left l.cards l.front;
+  heirs : IsTrue l.all_made → (card : ℕ) → Contains l.cards card → AllMade (child l.node card);
   paid : HasPaid ⊥ l.node l.left l.cards l.fn.self.budget.now.left l.self.budget.now.left;
   same : IsSameSearch l.fn.self l.self;
 }
