@@ -23,7 +23,6 @@ use Rattle.root_workers.specs.declared.rounds.Round.{Round}
 use Rattle.root_workers.specs.declared.searches.SearchResult.{SearchResult}
 use Rattle.root_workers.specs.declared.worker_results.Known.{Known}
 use Rattle.root_workers.specs.declared.worker_results.Known.TheVariants.{Exact, Below, Spent}
-use Rattle.root_workers.specs.declared.alpha.WonSoFar.{WonSoFar}
 
 -- the round may be asked, and it has the front with a move less if it may stop by that
 pub record IsRound (r : Round) : Type 0 where
@@ -76,8 +75,3 @@ pub record IsKnownAt (r : Round) (place : ℕ) (known : Known) : Type 0 where
 -- a pass has seen no less, and counted no less
 abbrev pub HasSeenMore : Pass → Pass → Type 0
 HasSeenMore early late = (i : ℕ) → HasGrownAt i (view_of early) (view_of late)
-
--- a worker's own cards stand before the place `next`, and win each of the vectors
-pub record IsWonSoFar (r : Round) (own : WonSoFar) : Type 0 where
-  pub won : AreWonAfter r (take own.next (choices r.node.now)) own.front.vectors
-  pub width : own.front.width ≡ length r.node.now.lefts

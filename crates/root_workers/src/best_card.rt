@@ -209,8 +209,8 @@ pub fn best_over<C: RootCrew>(
     }
 }
 
-// What the workers report of the root cards that they share. Once they are a team they share none: they
-// race after each.
+// What the workers report of the root cards. With cuts they share none, since what is won after one
+// card spares most of the search after another: they race after each.
 fn shared_out<C: RootCrew>(
     crew: &C,
     round: &Round,
@@ -225,7 +225,7 @@ fn shared_out<C: RootCrew>(
     ensures pass { IsPassOf round.now.table.now pass.new }
     ensures grown { HasSeenMore pass.old pass.new }
 {
-    if workers[0].solver.is_in_team() {
+    if round.rules.bound {
         return Ok(Vec::new(round.alloc));
     }
     let task = Task {
@@ -235,8 +235,8 @@ fn shared_out<C: RootCrew>(
     crew.searched(&task, workers, pass)
 }
 
-/// A round: the workers search root cards side by side or race after each, and what they know is put
-/// together.
+/// A round: the workers search root cards side by side, or with cuts race after each, and what they
+/// know is put together.
 pub fn run_round<C: RootCrew>(
     crew: &C,
     round: &Round,

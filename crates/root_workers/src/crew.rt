@@ -86,13 +86,10 @@ impl<R, G: Gate, F: Fn(&R, &Task, &G, &mut [RootWorker], &mut Pass) -> Searched 
     }
 }
 
-// How many workers a task is for. With cuts two share the root cards at most: what is won after one
-// card spares most of the search after another, which workers side by side do again.
+// How many workers a task is for: for root cards no more than there are.
 fn most_workers(task: &Task) -> usize {
-    let cards = usize::from(task.round.shared_cards.count());
     match task.help {
-        Help::Cards if task.round.rules.bound => cards.min(2),
-        Help::Cards => cards,
+        Help::Cards => usize::from(task.round.node.choices().count()),
         Help::Race(_) | Help::Layouts => usize::MAX,
     }
 }

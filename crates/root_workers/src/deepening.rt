@@ -10,10 +10,8 @@ use crate::best_card::run_round;
 use crate::crew::RootCrew;
 use crate::question::Question;
 use crate::rounds::{Round, RoundFront};
-use crate::shared_cards::next_shared_cards;
 use crate::workers::RootWorker;
 use alphamu_core::{Entered, RootFault};
-use card_sets::CardSet;
 use cut_rules::{CutRules, Stop};
 use pareto_fronts::Front;
 use shared_table::Pass;
@@ -26,18 +24,17 @@ pub struct Rounds<'a, C: RootCrew> {
     pub stop: Stop,
 }
 
-// What the rounds so far leave to the next one: the front, the root cards for its workers, and the
-// most nodes that one of their searches entered.
+// What the rounds so far leave to the next one: the front, and the most nodes that one of their
+// searches entered.
 #[derive(Drop)]
 struct Before {
     front: Front,
-    shared_cards: CardSet,
     most: Option<Entered>,
 }
 
 impl<C: RootCrew> Rounds<'_, C> {
     // The rounds before the last one: with no moves it is double dummy, and each round has a move
-    // more. With the front they leave the cards for the workers of the last round.
+    // more.
     fn deepened(&self, pass: &mut Pass, workers: &mut [RootWorker]) -> Result<Before, RootFault>
         requires ready { C.ready self.now.crew.now }
         requires question { IsQuestion self.now.question.now }
@@ -55,7 +52,6 @@ impl<C: RootCrew> Rounds<'_, C> {
         let question = self.question;
         let alloc = question.alloc;
         let mut front = self.first(pass, workers)?;
-        let mut shared_cards = CardSet::empty();
         let mut most = None;
         let moves = question.moves - 1;
         for fewer in 0..moves {
@@ -69,23 +65,12 @@ impl<C: RootCrew> Rounds<'_, C> {
                 previous: &front,
                 table: question.table,
                 uses_table: question.options.table,
-                shared_cards,
             };
             let next = run_round(self.crew, &round, workers, pass)?;
-            let next_stop = if fewer + 1 < moves {
-                Stop::SameFront
-            } else {
-                self.stop
-            };
-            shared_cards = next_shared_cards(question.node, &next, next_stop);
             most = Some(next.most.larger(most));
             front = next.front;
         }
-        Ok(Before {
-            front,
-            shared_cards,
-            most,
-        })
+        Ok(Before { front, most })
     }
 
     // The last round with cuts, after those with fewer moves.
@@ -112,7 +97,6 @@ impl<C: RootCrew> Rounds<'_, C> {
             previous: &before.front,
             table: question.table,
             uses_table: question.options.table,
-            shared_cards: before.shared_cards,
         };
         let mut last = run_round(self.crew, &round, workers, pass)?;
         last.most = last.most.larger(before.most);
@@ -141,7 +125,6 @@ impl<C: RootCrew> Rounds<'_, C> {
             previous: &previous,
             table: question.table,
             uses_table: question.options.table,
-            shared_cards: question.node.choices(),
         };
         run_round(self.crew, &round, workers, pass)
     }

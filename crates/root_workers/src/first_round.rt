@@ -12,7 +12,6 @@ use crate::rounds::{Help, Round, Task};
 use crate::searches::double_dummy;
 use crate::workers::{RootWorker, wants_help};
 use alphamu_core::RootFault;
-use card_sets::CardSet;
 use cut_rules::CutRules;
 use front_table::NoStore;
 use pareto_fronts::Front;
@@ -75,7 +74,6 @@ impl<C: RootCrew> Rounds<'_, C> {
             previous: &previous,
             table: question.table,
             uses_table: false,
-            shared_cards: CardSet::empty(),
         };
         ask_about(self.crew, &round, pass, workers);
     }

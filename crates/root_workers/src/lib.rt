@@ -5,7 +5,6 @@
 //! the table and the gate do, with cuts or without, or a root card whose tree is too large.
 #![tactic(auto)]
 
-mod alpha;
 mod best_card;
 mod card_search;
 mod crew;
@@ -18,7 +17,6 @@ mod root;
 mod round_work;
 mod rounds;
 mod searches;
-mod shared_cards;
 mod worker_results;
 mod workers;
 

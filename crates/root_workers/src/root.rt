@@ -33,7 +33,8 @@ use win_vectors::Weights;
 pub struct Options {
     /// How many nodes the search of each root card may enter.
     pub nodes: u64,
-    /// How many workers share the root cards: 1 to 64. With cuts no more than two are at work.
+    /// How many workers there are: 1 to 64. Without cuts they share the root cards, one each at most.
+    /// With cuts they race after each once the search takes long.
     pub workers: u32,
     /// Whether the searches look into the table.
     pub table: bool,
@@ -68,9 +69,8 @@ pub struct RootCard {
 ///
 /// Each search of a root card has a budget of its own, of `options.nodes` nodes, and comes between
 /// the gate's `enter` and `leave`. With cuts the cards are searched in rounds with 1, 2, .. moves,
-/// a card that the cards before it cover is left, and two workers share those after which the round
-/// before found fronts. Without cuts each card is searched to its end. The workers are joined, so
-/// it may wait.
+/// and a card that the cards before it cover is left. Without cuts each card is searched to its end.
+/// The workers are joined, so it may wait.
 ///
 /// `Spent` names a root card whose tree has more nodes; with neither table nor cuts the first such
 /// card. If there is one, no answer comes then.

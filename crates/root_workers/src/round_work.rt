@@ -1,12 +1,10 @@
-//! What the workers of a round do: the root cards that they share, and what is known of each.
+//! What the workers of a round do: root cards, and what is known of each.
 ghost use Rattle.std.specs.Prelude.{◌≡◌, IfOk, IfSome, Some, slice_get};
 ghost use Rattle.trick_rules.specs.Nodes.{choices};
 ghost use Rattle.shared_table.specs.Passes.{IsPassOf};
-ghost use Rattle.root_workers.specs.Rounds.{IsRound, IsWonSoFar};
-ghost use Rattle.root_workers.specs.Rounds.{IsKnownAt, HasSeenMore};
+ghost use Rattle.root_workers.specs.Rounds.{IsRound, IsKnownAt, HasSeenMore};
 ghost use Rattle.root_workers.specs.Tasks.{IsTask, IsCardSearch, IsKnownBy};
 
-use crate::alpha::{WonSoFar, is_enough_before, known_before, no_card};
 use crate::card_search::search_card;
 use crate::rounds::{CardSearch, Help, Round, Task};
 use crate::worker_results::Known;
@@ -15,6 +13,7 @@ use alphamu_core::RootFault;
 use am_outside::Gate;
 use card_sets::Card;
 use dd_solver::Solver;
+use pareto_fronts::Front;
 use shared_table::{Pass, SharedTable};
 use std::alloc::AllocError;
 use trick_rules::Node;
@@ -40,18 +39,6 @@ fn card_at(node: &Node, place: u32) -> Option<Card>
     cards.pop_first()
 }
 
-// The root card at a place, if it is one for the workers.
-fn shared_card_at(round: &Round, place: u32) -> Option<Card>
-    ensures { IfSome result (λ card. slice_get (choices round.now.node.now) place ≡ Some card) }
-{
-    let card = card_at(round.node, place)?;
-    if round.shared_cards.has(card) {
-        Some(card)
-    } else {
-        None
-    }
-}
-
 // What a search tells of a card, by what the cards before it win. Nothing, if more that they win
 // might make the search shorter.
 fn known_after(
@@ -75,44 +62,6 @@ fn known_after(
     }
 }
 
-// Adds what a card wins to what the worker's own cards win.
-fn add_own(round: &Round, own: &mut WonSoFar, place: u32, known: &Known) -> Result<(), AllocError>
-    requires round { IsRound round.now }
-    requires own { IsWonSoFar round.now own.old }
-    requires known { IsKnownAt round.now place known.now }
-    ensures { IsWonSoFar round.now own.new }
-{
-    if let Known::Exact(front, _) = known {
-        if own.next <= u64::from(place) {
-            own.front.union(front)?;
-            own.next = u64::from(place) + 1;
-        }
-    }
-    Ok(())
-}
-
-// Adds what is known of a card to what the worker's own cards win, and passes it on.
-fn noted(
-    round: &Round,
-    own: &mut WonSoFar,
-    place: u32,
-    known: Option<Known>,
-) -> Result<Option<Known>, AllocError>
-    requires round { IsRound round.now }
-    requires own { IsWonSoFar round.now own.old }
-    requires known { IfSome known (IsKnownAt round.now place) }
-    ensures own { IsWonSoFar round.now own.new }
-    ensures known { IfOk result (λ known. IfSome known (IsKnownAt round.now place)) }
-{
-    match known {
-        Some(known) => {
-            add_own(round, own, place, &known)?;
-            Ok(Some(known))
-        }
-        None => Ok(None),
-    }
-}
-
 // Asks double dummy about all layouts of a node, from the place on at which the solver begins.
 //
 // No clause: the solver remembers what it can.
@@ -126,9 +75,11 @@ fn ask_layouts(node: &Node, solver: &mut Solver) {
 }
 
 impl<G: Gate> Work for RoundWork<'_, G> {
+    ghost use Rattle.std.specs.Prelude.{⊤};
+
     type Worker = RootWorker;
 
-    type Notes = WonSoFar;
+    type Notes = ();
 
     type Found = Known;
 
@@ -136,7 +87,7 @@ impl<G: Gate> Work for RoundWork<'_, G> {
 
     ghost sound = { λ it. IsTask it.task.now };
 
-    ghost noted = { λ it won. IsWonSoFar it.task.now.round.now won };
+    ghost noted = { λ _ _. ⊤ };
 
     ghost right = { λ it place known. IsKnownBy it.task.now place known };
 
@@ -151,32 +102,27 @@ impl<G: Gate> Work for RoundWork<'_, G> {
         }
     }
 
-    fn start(&self) -> WonSoFar {
-        no_card(self.task.round)
-    }
+    fn start(&self) {}
 
     fn work_at(
         &self,
         worker: &mut RootWorker,
-        notes: &mut WonSoFar,
+        _notes: &mut (),
         pass: &mut Pass,
         place: u32,
     ) -> Result<Option<Known>, AllocError> {
         let round = self.task.round;
         match &self.task.help {
             Help::Cards => {
-                let Some(card) = shared_card_at(round, place) else {
+                let Some(card) = card_at(round.node, place) else {
                     return Ok(None);
                 };
-                let alpha = &known_before(round, pass, place, notes)?;
-                if is_enough_before(round, alpha) {
-                    return Ok(None);
-                }
+                let alpha = &Front::new(round.alloc, round.node.width());
                 let at = CardSearch { place, card, alpha };
                 self.gate.enter(worker.number, card);
                 let known = known_after(round, &mut worker.solver, pass, &at);
                 self.gate.leave(worker.number, card);
-                noted(round, notes, place, known?)
+                known
             }
             Help::Race(at) => {
                 self.gate.enter(worker.number, at.card);

@@ -1,6 +1,6 @@
 //! What a round wants of each worker, and what it finds.
 use alphamu_core::{Entered, Found};
-use card_sets::{Card, CardSet};
+use card_sets::Card;
 use cut_rules::CutRules;
 use pareto_fronts::Front;
 use shared_table::SharedTable;
@@ -22,9 +22,6 @@ pub struct Round<'a> {
     pub table: &'a SharedTable,
     /// Whether the searches look into the table.
     pub uses_table: bool,
-    /// The root cards that workers search side by side, if there are two or more. The others the
-    /// calling thread searches, in card order.
-    pub shared_cards: CardSet,
 }
 
 /// What a round finds: the front, the card that leads with its weight, what was found after each
@@ -42,7 +39,7 @@ pub struct RoundFront {
 /// What the workers do beside the caller, or before it goes on.
 #[derive(Drop)]
 pub enum Help<'a> {
-    /// They search root cards, each another one.
+    /// They search root cards, each another one, to the end of each.
     Cards,
     /// All of them search after the same root card, each from another place on, until one has ended.
     Race(&'a CardSearch<'a>),

@@ -25,7 +25,7 @@ impl RootWorker {
 }
 
 // How many workers a root may have. Without cuts no more than there are root cards for them; with cuts
-// they can also race after one root card.
+// all of them race after one root card.
 fn most_workers(options: &Options, node: &Node) -> u32 {
     if options.cuts {
         options.workers

@@ -14,13 +14,12 @@ use std::thread::{self, Threads};
 // How often a gate looks before it gives up.
 const TURNS: u32 = 20_000_000;
 
-// Lets each of two cards enter `free` times. Then it holds the first until the second has left once
-// more, or each until the other has entered. It notes if it gave up.
+// Holds the first of two cards until the second has left, or each until the other has entered. It notes
+// if it gave up.
 #[derive(Drop)]
 struct Holding {
     first: Card,
     second: Card,
-    free: u32,
     until_left: bool,
     first_entered: AtomicU32,
     second_entered: AtomicU32,
@@ -29,11 +28,10 @@ struct Holding {
 }
 
 impl Holding {
-    fn new(first: Card, second: Card, free: u32, until_left: bool) -> Holding {
+    fn new(first: Card, second: Card, until_left: bool) -> Holding {
         Holding {
             first,
             second,
-            free,
             until_left,
             first_entered: AtomicU32::new(0),
             second_entered: AtomicU32::new(0),
@@ -44,7 +42,7 @@ impl Holding {
 
     fn wait_for(&self, seen: &AtomicU32) {
         for _ in 0..TURNS {
-            if seen.load(Ordering::SeqCst) > self.free {
+            if seen.load(Ordering::SeqCst) > 0 {
                 return;
             }
             thread::yield_now();
@@ -52,26 +50,27 @@ impl Holding {
         self.failed.store(true, Ordering::SeqCst);
     }
 
-    // Whether both cards were entered once more than freely, the second was left, and nobody waited
-    // in vain.
+    // Whether both cards were entered, the second was left, and nobody waited in vain.
     fn saw_both(&self) -> bool {
-        self.first_entered.load(Ordering::SeqCst) > self.free
-            && self.second_entered.load(Ordering::SeqCst) > self.free
-            && self.second_left.load(Ordering::SeqCst) > self.free
+        self.first_entered.load(Ordering::SeqCst) > 0
+            && self.second_entered.load(Ordering::SeqCst) > 0
+            && self.second_left.load(Ordering::SeqCst) > 0
             && !self.failed.load(Ordering::SeqCst)
     }
 }
 
 impl Gate for Holding {
     fn enter(&self, _worker: u32, card: Card) {
-        if card == self.first && self.first_entered.fetch_add(1, Ordering::SeqCst) >= self.free {
+        if card == self.first {
+            self.first_entered.fetch_add(1, Ordering::SeqCst);
             if self.until_left {
                 self.wait_for(&self.second_left);
             } else {
                 self.wait_for(&self.second_entered);
             }
         }
-        if card == self.second && self.second_entered.fetch_add(1, Ordering::SeqCst) >= self.free {
+        if card == self.second {
+            self.second_entered.fetch_add(1, Ordering::SeqCst);
             if !self.until_left {
                 self.wait_for(&self.first_entered);
             }
@@ -94,16 +93,6 @@ fn spade(rank: u8) -> Card
 
 const PLAIN_WORDS: &str =
     "--job solve --deal deal --layouts layouts --moves 2 --no-cuts --workers ";
-
-// With cuts, over a table and over none.
-const CUT_WORDS: [&str; 2] = [
-    "--job solve --deal deal --layouts layouts --moves 2 --workers ",
-    "--job solve --deal deal --layouts layouts --moves 2 --no-table --workers ",
-];
-
-// South chooses after the seven.
-const AFTER_TWO_CARDS: &str =
-    "[Deal \"N:32... - KJ... -\"]\n[Declarer \"S\"]\n[Contract \"1NT\"]\n[EndNeed \"1\"]\n[EndLead \"N\"]\n[Play \"N\"]\nS2 S7 - -\n*\n";
 
 // The ace wins the one trick.
 const ACE: &str =
@@ -150,27 +139,14 @@ fn assert_same<R: Threads + Sync + Abort>(
 
 #[test]
 fn the_card_that_ends_first_is_not_the_first(rt: HostRuntime) -> Result<(), Fail> {
-    let gate = Holding::new(spade(2), spade(3), 0, true);
+    let gate = Holding::new(spade(2), spade(3), true);
     assert_same(&rt, rt.alloc(), PLAIN_WORDS, "4", QUEEN, &gate)
-}
-
-// With one move one worker finds that the jack wins one layout and the king the other. So with two
-// moves two workers search them.
-#[test]
-fn with_cuts_they_share_what_won_with_a_move_less(rt: HostRuntime) -> Result<(), Fail> {
-    for words in &CUT_WORDS {
-        let gate = Holding::new(spade(11), spade(13), 1, true);
-        assert_same(&rt, rt.alloc(), words, "4", AFTER_TWO_CARDS, &gate)?;
-    }
-    Ok(())
 }
 
 #[test]
 fn two_workers_are_beside_each_other(rt: HostRuntime) -> Result<(), Fail> {
-    let gate = Holding::new(spade(2), spade(3), 0, false);
-    assert_same(&rt, rt.alloc(), PLAIN_WORDS, "2", QUEEN, &gate)?;
-    let gate = Holding::new(spade(11), spade(13), 1, false);
-    assert_same(&rt, rt.alloc(), CUT_WORDS[0], "2", AFTER_TWO_CARDS, &gate)
+    let gate = Holding::new(spade(2), spade(3), false);
+    assert_same(&rt, rt.alloc(), PLAIN_WORDS, "2", QUEEN, &gate)
 }
 
 #[test]
@@ -181,7 +157,7 @@ fn two_games_are_solved_beside_each_other(rt: HostRuntime) -> Result<(), Fail> {
     shelf.add("layouts.1", QUEEN_LAYOUTS.as_bytes())?;
     shelf.add("layouts.2", ACE_LAYOUTS.as_bytes())?;
     let words = "--job boards --deal deal --layouts layouts --moves 2 --workers 2";
-    let gate = Holding::new(spade(2), spade(14), 0, false);
+    let gate = Holding::new(spade(2), spade(14), false);
     let run = ran_at(&rt, alloc, words, &mut shelf, &gate)?;
     let text = format!(in alloc;
         "alphamu boards 1\ngame 1\n{QUEEN_REPORT}game 2\n{ACE_REPORT}end boards\n"

@@ -1,8 +1,11 @@
-use Rattle.root_workers.proofs.Seen.{seen_more}
+use Rattle.std.proofs.Common.{◌∙◌, take}
+use Rattle.trick_rules.specs.Nodes.{choices}
+use Rattle.root_workers.proofs.CardPlaces.{none_won}
 use Rattle.root_workers.proofs.round_work.RoundWorkWork.work_at.Goals as goal
 
-pub returns-in_err-known-in-Cards-clause-grown : goal.returns-in_err-known-in-Cards-clause-grown
-returns-in_err-known-in-Cards-clause-grown g c = seen_more c.args.pass.now c.known_before.new.pass c.known_after-known.new.pass c.known_before.ensures.grown c.known_after-known.ensures.grown
-
-pub returns-in_ok-known-in-Cards-clause-grown : goal.returns-in_ok-known-in-Cards-clause-grown
-returns-in_ok-known-in-Cards-clause-grown g c = seen_more c.args.pass.now c.known_before.new.pass c.known_after-known.new.pass c.known_before.ensures.grown c.known_after-known.ensures.grown
+pub known_after-known-requires-clause-at : goal.known_after-known-requires-clause-at
+known_after-known-requires-clause-at g c = record {
+  card = c.in-Some.ensures;
+  won = none_won c.args.self.now.task.now.round.now (take c.args.place (choices c.args.self.now.task.now.round.now.node.now)) c.new.result.vectors c.new.ensures.empty;
+  width = c.new.ensures.width ∙ c.width.ensures.value;
+}
