@@ -135,19 +135,29 @@ fn wins_all_made(solver: &mut Solver, node: &Node, vector: &WinVector) -> bool
     true
 }
 
+/// Whether the vector wins each layout that double dummy makes. Without cuts double dummy isn't
+/// called, and the answer is no.
+pub fn wins_all_made_by(
+    solver: &mut Solver,
+    rules: CutRules,
+    node: &Node,
+    vector: &WinVector,
+) -> bool
+    requires { length vector.now ≡ length node.now.lefts }
+    ensures { IsTrue result → Dominates vector.now (map makes (states node.now)) }
+{
+    rules.bound && wins_all_made(solver, node, vector)
+}
+
 // Whether a vector of the front wins each layout that double dummy makes: it is the first one then.
-// Without cuts double dummy isn't asked.
 fn is_complete(solver: &mut Solver, rules: CutRules, node: &Node, front: &Front) -> bool
     requires { front.now.width ≡ length node.now.lefts }
     ensures { IsTrue result → Covers front.now.vectors (map makes (states node.now)) }
 {
-    if !rules.bound {
-        return false;
-    }
     let Some(first) = front.pick(&WinVector::none(node.width())) else {
         return false;
     };
-    wins_all_made(solver, node, &first)
+    wins_all_made_by(solver, rules, node, &first)
 }
 
 impl<S: FrontStore> AboveSearch<'_, S> {

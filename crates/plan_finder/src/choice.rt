@@ -26,7 +26,8 @@ pub struct Choice {
 }
 
 impl<S: FrontStore> PlanSearch<'_, S> {
-    /// The first card after which some vector of the front dominates this one.
+    /// The first card after which some vector of the front dominates this one. With cuts the last one
+    /// isn't searched: if no other keeps the vector, it does.
     pub fn first_choice(
         &mut self,
         node: &Node,
@@ -48,7 +49,8 @@ impl<S: FrontStore> PlanSearch<'_, S> {
         let mut cards = node.choices();
         'cards: while let Some(card) = cards.pop_first() {
             let (child, _) = node.child(self.memo.alloc(), card)?;
-            match self.pick_of(&child, moves - 1, vector) {
+            let is_last = self.rules.cuts.bound && cards.is_empty();
+            match self.pick_unless_known(&child, moves - 1, vector, is_last) {
                 Ok(picked) => {
                     let entered = picked.entered.larger(most);
                     most = Some(entered);

@@ -207,7 +207,7 @@ impl<S: FrontStore> PlanSearch<'_, S> {
         'cards: while let Some(card) = cards.pop_first() {
             let (child, mask) = node.child(self.memo.alloc(), card)?;
             let part = vector.restrict(mask);
-            let picked = self.pick_of(&child, moves, &part)?;
+            let picked = self.pick_kept(&child, moves, &part)?;
             let above = picked.vector.unwrap();
             push_on(out, card)?;
             let below = self.write_below(out, &child, moves, &above)?;

@@ -92,10 +92,16 @@ pub write_replies-restrict-part-requires-clause-not_empty : goal.write_replies-r
 write_replies-restrict-part-requires-clause-not_empty g t c =
     mask_some c.args.node.now c.args.moves c.args.vector.now (so_far c.args.node.now c.args.moves c.args.vector.now c.cards.invariant.written) c.in-Some.ensures.value c.in_ok-child.ensures.node _ c.in_ok-child.ensures.mask c.requires.a_node
 
-pub write_replies-pick_of-requires-clause-width : goal.write_replies-pick_of-requires-clause-width
-write_replies-pick_of-requires-clause-width g t c =
+pub write_replies-pick_kept-requires-clause-width : goal.write_replies-pick_kept-requires-clause-width
+write_replies-pick_kept-requires-clause-width g t c =
     ap (λ (v : Vector). length v) c.restrict-part.ensures
     ∙ part_width c.args.node.now c.args.moves c.args.vector.now (so_far c.args.node.now c.args.moves c.args.vector.now c.cards.invariant.written) c.in-Some.ensures.value c.in_ok-child.ensures.node _ c.in_ok-child.ensures.mask c.requires.vector
+
+pub write_replies-pick_kept-requires-clause-kept : goal.write_replies-pick_kept-requires-clause-kept
+write_replies-pick_kept-requires-clause-kept g t c = λ none.
+    part_kept c.args.node.now c.args.moves c.args.vector.now (so_far c.args.node.now c.args.moves c.args.vector.now c.cards.invariant.written) c.in-Some.ensures.value c.in_ok-child.ensures.node _ c.in_ok-child.ensures.mask
+    c.requires.a_node c.requires.goes_on c.requires.theirs c.requires.vector
+    (subst (λ (t : Vector). KeepsNone c.in_ok-child.child c.args.moves t) c.restrict-part.ensures none)
 
 pub write_replies-unwrap-above-requires : goal.write_replies-unwrap-above-requires
 write_replies-unwrap-above-requires g t c =
