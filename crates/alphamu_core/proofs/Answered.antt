@@ -9,7 +9,7 @@ use Rattle.cut_rules.specs.declared.CutRules.{CutRules}
 use Rattle.cut_rules.specs.Rules.{no_cuts}
 use Rattle.alphamu_core.specs.declared.answers.Found.{Found}
 use Rattle.alphamu_core.specs.declared.answers.Found.TheVariants.{Exact, Below}
-use Rattle.alphamu_core.specs.declared.answers.SearchFault.{SearchFault}
+use Rattle.alphamu_core.specs.declared.answers.RaceFault.{RaceFault}
 use Rattle.alphamu_core.specs.Findings.{IsFound, IsExact, IsAnswer}
 
 module _ (n : NodeValue) (moves : ℕ) (alpha : List Vector) (rules : CutRules) where
@@ -17,7 +17,7 @@ module _ (n : NodeValue) (moves : ℕ) (alpha : List Vector) (rules : CutRules) 
   found_by (Exact front) answer = answer
   found_by Below answer = answer.0
 
-  pub answer_found : (result : Result Found SearchFault) → IfOk result (IsAnswer n moves alpha rules) → IfOk result (IsFound n moves alpha)
+  pub answer_found : (result : Result Found RaceFault) → IfOk result (IsAnswer n moves alpha rules) → IfOk result (IsFound n moves alpha)
   answer_found (Ok found) answer = found_by found answer
   answer_found (Err fault) answer = tt
 
@@ -27,6 +27,6 @@ module _ (n : NodeValue) (moves : ℕ) (alpha : List Vector) (rules : CutRules) 
   exact_by sound (inl empty) Below answer = cuts.never n moves sound (subst (λ alpha. IsBelow bridge n moves alpha) empty answer.0)
   exact_by sound (inr none) Below answer = answer.1 none
 
-  pub answer_exact : IsNode n → (result : Result Found SearchFault) → (alpha ≡ []) ⊎ (rules ≡ no_cuts) → IfOk result (IsAnswer n moves alpha rules) → IfOk result IsExact
+  pub answer_exact : IsNode n → (result : Result Found RaceFault) → (alpha ≡ []) ⊎ (rules ≡ no_cuts) → IfOk result (IsAnswer n moves alpha rules) → IfOk result IsExact
   answer_exact sound (Ok found) no_cut answer = exact_by sound no_cut found answer
   answer_exact sound (Err fault) no_cut answer = tt

@@ -12,6 +12,7 @@ pub mod Enough
 pub mod Taken
 pub mod Trying
 pub mod Paid
+pub mod RacePaid
 pub mod OpenNodes
 pub mod Inherited
 pub mod OursSoFar

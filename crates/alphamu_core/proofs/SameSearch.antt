@@ -1,9 +1,8 @@
 -- A search that goes on.
 use Rattle.std.proofs.Common.{◌≡◌, ◌∙◌, ℕ, Bool, true, Result, refl, sym, ap, subst}
 use Rattle.cut_rules.specs.declared.CutRules.{CutRules}
-use Rattle.alphamu_core.specs.declared.answers.SearchFault.{SearchFault}
 use Rattle.alphamu_core.specs.declared.tree_search.TreeSearch.{TreeSearch}
-use Rattle.alphamu_core.specs.Costs.{Costs, EntersEach}
+use Rattle.alphamu_core.specs.Costs.{CostsBy, EntersEach}
 use Rattle.alphamu_core.specs.TreeSearches.{IsSameSearch}
 
 module _ {S : Type 0} {grows : S → S → Type 0} where
@@ -12,6 +11,7 @@ module _ {S : Type 0} {grows : S → S → Type 0} where
     store = refl;
     budget = refl;
     nodes = refl;
+    runner = refl;
     rules = refl;
     grown = none now.store.now;
   }
@@ -21,6 +21,7 @@ module _ {S : Type 0} {grows : S → S → Type 0} where
     store = b.store ∙ a.store;
     budget = b.budget ∙ a.budget;
     nodes = b.nodes ∙ a.nodes;
+    runner = b.runner ∙ a.runner;
     rules = b.rules ∙ a.rules;
     grown = more early.store.now middle.store.now late.store.now a.grown b.grown;
   }
@@ -29,5 +30,5 @@ module _ {S : Type 0} {grows : S → S → Type 0} where
   still_early same on = sym (ap (λ (rules : CutRules). rules.early) same.rules) ∙ on
 
 -- what it costs by the rules that it has from the start
-pub costs_by : {T : Type 0} {rules other : CutRules} {blind : Bool} {size before after : ℕ} {result : Result T SearchFault} → other ≡ rules → Costs (EntersEach other blind) size before after result → Costs (EntersEach rules blind) size before after result
-costs_by {T} {rules} {other} {blind} {size} {before} {after} {result} same costs = subst (λ r. Costs (EntersEach r blind) size before after result) same costs
+pub costs_by : {T E : Type 0} {spent : E} {rules other : CutRules} {blind : Bool} {size before after : ℕ} {result : Result T E} → other ≡ rules → CostsBy spent (EntersEach other blind) size before after result → CostsBy spent (EntersEach rules blind) size before after result
+costs_by {T} {E} {spent} {rules} {other} {blind} {size} {before} {after} {result} same costs = subst (λ r. CostsBy spent (EntersEach r blind) size before after result) same costs

@@ -8,3 +8,4 @@ pub mod Judging
 pub mod Kept
 pub mod TreeSearches
 pub mod Asked
+pub mod Races

@@ -1,5 +1,4 @@
 //! What a search answers.
-use card_sets::Card;
 use pareto_fronts::Front;
 use std::alloc::{AllocError, AllocFailed};
 use thiserror::Error;
@@ -23,8 +22,21 @@ pub enum SearchFault {
     Memory,
 }
 
-/// What a search ends with.
-pub type Answer = Result<Found, SearchFault>;
+/// Why a search in a race ends with no answer.
+#[derive(Clone, Copy, Debug, PartialEq, Eq, Error)]
+pub enum RaceFault {
+    /// The tree is larger than the budget.
+    #[error("nodes spent")]
+    Spent,
+    #[error("out of memory")]
+    Memory,
+    /// Another runner of the race has the answer already.
+    #[error("late in a race")]
+    Late,
+}
+
+/// What a search in a race ends with.
+pub type Answer = Result<Found, RaceFault>;
 
 impl From<AllocError> for SearchFault {
     ghost use Rattle.std.specs.Prelude.{◌≡◌};
@@ -48,34 +60,27 @@ impl<T: Drop> From<AllocFailed<T>> for SearchFault {
     }
 }
 
-/// Why a loop over root cards ends with no answer.
-#[derive(Clone, Copy, Debug, PartialEq, Eq, Error)]
-pub enum RootFault {
-    /// The tree after this card is larger than its budget.
-    #[error("nodes spent")]
-    Spent(Card),
-    #[error("out of memory")]
-    Memory,
+impl From<SearchFault> for RaceFault {
+    ghost use Rattle.std.specs.Prelude.{◌≡◌};
+    ghost use Rattle.alphamu_core.specs.Races.{race_fault};
+
+    ghost from_gives = { λ fault found. found ≡ race_fault fault };
+
+    fn from(fault: SearchFault) -> Self {
+        match fault {
+            SearchFault::Spent => RaceFault::Spent,
+            SearchFault::Memory => RaceFault::Memory,
+        }
+    }
 }
 
-impl From<AllocError> for RootFault {
+impl From<AllocError> for RaceFault {
     ghost use Rattle.std.specs.Prelude.{◌≡◌};
-    ghost use Rattle.alphamu_core.specs.declared.answers.RootFault.TheVariants.{Memory};
+    ghost use Rattle.alphamu_core.specs.declared.answers.RaceFault.TheVariants.{Memory};
 
     ghost from_gives = { λ _ fault. fault ≡ Memory };
 
     fn from(_: AllocError) -> Self {
-        RootFault::Memory
-    }
-}
-
-impl<T: Drop> From<AllocFailed<T>> for RootFault {
-    ghost use Rattle.std.specs.Prelude.{◌≡◌};
-    ghost use Rattle.alphamu_core.specs.declared.answers.RootFault.TheVariants.{Memory};
-
-    ghost from_gives = { λ _ fault. fault ≡ Memory };
-
-    fn from(_: AllocFailed<T>) -> Self {
-        RootFault::Memory
+        RaceFault::Memory
     }
 }

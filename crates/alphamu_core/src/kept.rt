@@ -8,8 +8,8 @@ ghost use Rattle.alphamu_core.specs.Kept.{AreEnough, IsTaken};
 
 use card_sets::{Card, CardSet};
 use cut_rules::CutRules;
-use dd_solver::Solver;
 use equal_cards::one_of_equals;
+use search_race::Runner;
 use trick_rules::Node;
 
 /// The choices that are enough to try: if there are cuts, of equal cards the lowest.
@@ -37,12 +37,12 @@ pub fn take_highest(cards: &mut CardSet) -> Option<Card>
     Some(highest)
 }
 
-/// The cards from the place on at which the solver begins in them.
+/// The cards from the place on at which a runner begins in them.
 ///
 /// No clause: the order of the cards changes no front.
-pub(crate) fn going_first(solver: &Solver, cards: CardSet) -> CardSet {
+pub(crate) fn going_first(runner: &Runner, cards: CardSet) -> CardSet {
     let mut first = cards;
-    for _ in 0..solver.begins_at(usize::from(cards.count())) {
+    for _ in 0..runner.begins_at(usize::from(cards.count())) {
         first.pop_first();
     }
     first

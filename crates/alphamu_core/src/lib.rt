@@ -20,10 +20,10 @@ mod scratch;
 mod tree_search;
 mod walk;
 
-pub use answers::{Found, RootFault, SearchFault};
+pub use answers::{Found, RaceFault, SearchFault};
 pub use budget::{Budget, Entered};
 pub use exact::exact_front;
 pub use kept::{cards_to_try, take_highest};
 pub use keys::store_key;
-pub use node_search::search;
+pub use node_search::{search, search_in_race};
 pub use part::{filled, part_of};

@@ -6,7 +6,7 @@ ghost use Rattle.cut_rules.specs.Rules.{no_cuts};
 ghost use Rattle.alphamu_core.specs.Findings.{IsFound, IsExact};
 ghost use Rattle.trick_rules.specs.Nodes.{most_moves};
 
-use crate::answers::{Found, SearchFault};
+use crate::answers::{Answer, Found, RaceFault, SearchFault};
 use crate::budget::Budget;
 use crate::known::Known;
 use crate::scratch::Scratch;
@@ -15,6 +15,7 @@ use cut_rules::CutRules;
 use dd_solver::Solver;
 use front_table::FrontStore;
 use pareto_fronts::Front;
+use search_race::Runner;
 use std::alloc::Global;
 use trick_rules::Node;
 
@@ -52,12 +53,56 @@ pub fn search<S: FrontStore>(
 
     ensures grown { S.grown store.old store.new }
 {
+    let alone = Runner::alone();
+    match search_in_race(
+        alloc, store, solver, &alone, budget, node, moves, alpha, rules,
+    ) {
+        Ok(found) => Ok(found),
+        Err(RaceFault::Spent) => Err(SearchFault::Spent),
+        Err(RaceFault::Memory) => Err(SearchFault::Memory),
+        Err(RaceFault::Late) => unreachable!(),
+    }
+}
+
+/// The same in a race: each runner begins at a place of its own, and once one of them has the answer,
+/// the search of another ends as `Late`.
+pub fn search_in_race<S: FrontStore>(
+    alloc: Global,
+    store: &mut S,
+    solver: &mut Solver,
+    runner: &Runner,
+    budget: &mut Budget,
+    node: &Node,
+    moves: u8,
+    alpha: &Front,
+    rules: CutRules,
+) -> Answer
+    requires width { alpha.now.width ≡ length node.now.lefts }
+    requires few_moves { moves ≤ most_moves }
+    ensures found { IfOk result (IsFound node.now moves alpha.now.vectors) }
+    ensures never { (alpha.now.vectors ≡ []) ⊎ (rules ≡ no_cuts) → IfOk result IsExact }
+
+    // Each node entered costs one.
+    ensures spent { IsErrOf result RaceFault.Spent
+        → budget.old.left < tree_size bridge node.now moves }
+    ensures counts { rules ≡ no_cuts → S.blind ≡ true
+        → IfOk result (λ _. budget.new.left + tree_size bridge node.now moves
+        ≡ budget.old.left) }
+    ensures entered { IfOk result (λ _. budget.new.left < budget.old.left) }
+    ensures never_rises { budget.new.left ≤ budget.old.left }
+    ensures falls { budget.old.left ≤ budget.new.left + tree_size bridge node.now moves }
+    ensures nodes { budget.new.nodes ≡ budget.old.nodes }
+
+    ensures late { IsErrOf result RaceFault.Late → 1 < runner.now.runners }
+    ensures grown { S.grown store.old store.new }
+{
     let mut scratch = Scratch::new(alloc, node)?;
     let node = node.copy(alloc)?;
     let mut search = TreeSearch {
         alloc,
         store,
         solver,
+        runner,
         budget,
         scratch: &mut scratch,
         rules,

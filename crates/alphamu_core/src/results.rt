@@ -9,17 +9,20 @@ use crate::known::Known;
 use cut_rules::CutRules;
 use dd_solver::Solver;
 use pareto_fronts::Front;
+use search_race::Runner;
 use trick_rules::Node;
 use win_vectors::WinVector;
 
 /// What is asked of a node: its front, and of double dummy the results there, if they aren't known
-/// already. If the rules allow a cut, neither need be found if alpha dominates it.
+/// already. If the rules allow a cut, neither need be found if alpha dominates it. The runner begins
+/// with some of the layouts.
 #[derive(Drop)]
 pub struct Question<'a> {
     pub node: &'a Node,
     pub known: Known,
     pub alpha: &'a Front,
     pub rules: CutRules,
+    pub runner: &'a Runner,
 }
 
 /// Double dummy's result in each layout; or none, if a cut is allowed and alpha dominates them.
@@ -84,7 +87,7 @@ fn with_first(mask: WinVector, first: usize) -> WinVector
     ones
 }
 
-// Judges the layouts from the place on at which the solver begins, if it isn't the first of its team.
+// Judges the layouts from the place on at which the runner begins, if it isn't the first of its race.
 // They are judged again with all others, when the memo knows them.
 fn judge_ahead(
     solver: &mut Solver,
@@ -100,7 +103,9 @@ fn judge_ahead(
     ensures cut { IsNone result → (question.now.rules.bound ≡ true)
         × Covers question.now.alpha.now.vectors (map makes (states question.now.node.now)) }
 {
-    let start = solver.begins_at(usize::from(question.node.width()));
+    let start = question
+        .runner
+        .begins_at(usize::from(question.node.width()));
     if start == 0 {
         return Some(all);
     }

@@ -1,6 +1,6 @@
 // The search of αμ: the walk through the tree, fronts from the leaves upward, with cuts.
-ghost use Rattle.std.specs.Prelude.{◌≡◌, ℕ, false, true, length, Contains};
-ghost use Rattle.std.specs.Prelude.{IsTrue, IfOk, IfSome, OnOk, Option};
+ghost use Rattle.std.specs.Prelude.{◌≡◌, ◌<◌, ℕ, false, true, length, Contains};
+ghost use Rattle.std.specs.Prelude.{IsTrue, IfOk, IsErrOf, IfSome, OnOk, Option};
 ghost use Rattle.strategy_games.specs.Plans.{stops};
 ghost use Rattle.strategy_tree.specs.Bridge.{bridge};
 ghost use Rattle.cut_rules.specs.Rules.{no_cuts};
@@ -12,7 +12,7 @@ ghost use Rattle.alphamu_core.specs.Kept.{AreEnough};
 ghost use Rattle.alphamu_core.specs.Limits.{IsLimit, IsUpperBound, IsUnited, IsReached};
 ghost use Rattle.alphamu_core.specs.TreeSearches.{IsSameSearch, Pays, PaysBelow};
 
-use crate::answers::{Answer, Found, SearchFault};
+use crate::answers::{Answer, Found, RaceFault};
 use crate::kept::{cards_to_try, going_first, take_highest, take_in_turn};
 use crate::keys::store_key;
 use crate::known::Known;
@@ -31,27 +31,29 @@ use trick_rules::Node;
 use win_vectors::WinVector;
 
 impl<S: FrontStore> TreeSearch<'_, S> {
-    /// Enters a node, for which the budget pays, and answers for it. A search that comes too late, since
-    /// another solver of the team has answered its question, ends as if an allocation had failed.
+    /// Enters a node, for which the budget pays, and answers for it, unless another runner of its race
+    /// has the answer already.
     #[cycle(walk)]
     pub fn visit(&mut self, node: Node, moves: u8, alpha: &Front, known: Known) -> Answer
         requires width { alpha.now.width ≡ length node.lefts }
         requires known { IsKnown node known }
         ensures answer { IfOk result (IsAnswer node moves alpha.now.vectors self.old.rules) }
         ensures costs { Pays S.blind node moves self.old self.new result }
+        ensures late { IsErrOf result RaceFault.Late → 1 < self.old.runner.now.runners }
         ensures same { IsSameSearch S.grown self.old self.new }
         ensures same_store { self.new.store.ghost_name ≡ self.old.store.ghost_name }
         ensures same_budget { self.new.budget.ghost_name ≡ self.old.budget.ghost_name }
     {
         self.budget.enter()?;
-        if self.solver.is_late() {
-            return Err(SearchFault::Memory);
+        if self.runner.is_late() {
+            return Err(RaceFault::Late);
         }
         let question = Question {
             node: &node,
             known,
             alpha,
             rules: self.rules,
+            runner: self.runner,
         };
         if node.stops(moves) {
             Ok(question.leaf(self.alloc, self.solver, moves)?)
@@ -67,6 +69,7 @@ impl<S: FrontStore> TreeSearch<'_, S> {
         requires goes_on { stops bridge question.now.node.now moves ≡ false }
         ensures answer { IfOk result (IsAnswerTo self.old.rules question.now moves) }
         ensures costs { PaysBelow S.blind question.now.node.now moves self.old self.new result }
+        ensures late { IsErrOf result RaceFault.Late → 1 < self.old.runner.now.runners }
         ensures same { IsSameSearch S.grown self.old self.new }
     {
         let key = store_key(self.alloc, question.node, self.rules)?;
@@ -88,6 +91,7 @@ impl<S: FrontStore> TreeSearch<'_, S> {
             self.old.rules (Limit.Upper made upper) }
         ensures answer { IfOk result (IsAnswerTo self.old.rules question.now moves) }
         ensures costs { PaysBelow S.blind question.now.node.now moves self.old self.new result }
+        ensures late { IsErrOf result RaceFault.Late → 1 < self.old.runner.now.runners }
         ensures same { IsSameSearch S.grown self.old self.new }
     {
         let part = cut_down(
@@ -103,6 +107,7 @@ impl<S: FrontStore> TreeSearch<'_, S> {
             known: Known::AllMade,
             alpha: &part.alpha,
             rules: self.rules,
+            runner: self.runner,
         };
         let found = self.by_cards(&in_part, moves, &part.upper)?;
         Ok(fill(self.alloc, found, made)?)
@@ -117,6 +122,7 @@ impl<S: FrontStore> TreeSearch<'_, S> {
         requires none { self.old.rules ≡ no_cuts → upper.now ≡ None }
         ensures answer { IfOk result (IsAnswerTo self.old.rules question.now moves) }
         ensures costs { PaysBelow S.blind question.now.node.now moves self.old self.new result }
+        ensures late { IsErrOf result RaceFault.Late → 1 < self.old.runner.now.runners }
         ensures same { IsSameSearch S.grown self.old self.new }
     {
         if question.node.is_ours() {
@@ -137,6 +143,7 @@ impl<S: FrontStore> TreeSearch<'_, S> {
         requires none { self.old.rules ≡ no_cuts → upper.now ≡ None }
         ensures answer { IfOk result (IsAnswerTo self.old.rules question.now moves) }
         ensures costs { PaysBelow S.blind question.now.node.now moves self.old self.new result }
+        ensures late { IsErrOf result RaceFault.Late → 1 < self.old.runner.now.runners }
         ensures same { IsSameSearch S.grown self.old self.new }
     {
         let mut front = Front::new(self.alloc, question.node.width());
@@ -163,11 +170,12 @@ impl<S: FrontStore> TreeSearch<'_, S> {
         requires theirs { bridge.is_ours question.now.node.now ≡ false }
         ensures answer { IfOk result (IsAnswerTo self.old.rules question.now moves) }
         ensures costs { PaysBelow S.blind question.now.node.now moves self.old self.new result }
+        ensures late { IsErrOf result RaceFault.Late → 1 < self.old.runner.now.runners }
         ensures same { IsSameSearch S.grown self.old self.new }
     {
         let mut joiner = Joiner::new(self.alloc, question.node.width());
         let mut cards = cards_to_try(question.node, self.rules);
-        let first = going_first(self.solver, cards);
+        let first = going_first(self.runner, cards);
         'cards: while let Some(card) = take_in_turn(&mut cards, first) {
             let (child, mask) = question.node.child(self.alloc, card)?;
             let none = Front::new(self.alloc, child.width());

@@ -8,7 +8,7 @@ use Rattle.pbn_text.specs.declared.fault.TextFault as text
 use Rattle.pbn_deal.specs.declared.fault.BoardRefusal as board
 use Rattle.layout_list.specs.declared.fault.LayoutFault as layouts
 use Rattle.layout_maker.specs.declared.fault.MakeFault as make
-use Rattle.alphamu_core.specs.declared.answers.RootFault as root
+use Rattle.strategy_tree.specs.declared.root_fault.RootFault as root
 use Rattle.am_report.specs.declared.fault.ReportFault as report
 use Rattle.log_texts.specs.declared.fault.LogFault as log
 use Rattle.am_answer.specs.declared.status.FileWord.{FileWord}

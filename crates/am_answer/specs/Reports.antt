@@ -6,11 +6,9 @@ use Rattle.strategy_games.specs.Choosing.{IsChosenPlan, IsBestCount, IsNamedCard
 use Rattle.strategy_tree.specs.Bridge.{bridge}
 use Rattle.trick_rules.specs.Nodes.{NodeValue}
 use Rattle.fusion_base.specs.Sampling.{card_vectors}
-use Rattle.log_check.specs.declared.lines.LogLine.{LogLine}
 use Rattle.log_check.specs.declared.check.LogVerdict.TheVariants.{Yes}
 use Rattle.log_check.specs.LogVerdicts.{IsLogVerdict}
-use Rattle.log_maker.specs.LogsFor.{IsLogFor}
-use Rattle.log_texts.specs.LogText.{log_text}
+use Rattle.log_texts.specs.LogText.{IsLogTextFor}
 use Rattle.am_report.specs.Answers.{SolveAnswerValue}
 use Rattle.am_report.specs.Card.{card_text}
 use Rattle.am_report.specs.Check.{check_text}
@@ -62,7 +60,7 @@ IsMadeText number root moves text = (vectors : List (List Bool)) × (card count 
 
 -- the log of a root by this many moves
 abbrev pub IsProveText : Root → ℕ → List ℕ → Type 0
-IsProveText root moves text = (lines : List LogLine) × IsLogFor root.kept.node moves lines × (text ≡ log_text lines)
+IsProveText root moves text = IsLogTextFor root.kept.node moves text
 
 -- that a log proves a report's vectors complete
 abbrev pub IsAuditText : Root → AuditValue → List ℕ → Type 0

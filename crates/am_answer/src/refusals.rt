@@ -4,13 +4,13 @@ ghost use Rattle.am_answer.specs.Refusals.{syntax_status, board_status, layout_s
 ghost use Rattle.am_answer.specs.Refusals.{report_status, make_status, log_status};
 
 use crate::status::{PbnKind, Status};
-use alphamu_core::RootFault;
 use am_report::ReportFault;
 use layout_list::LayoutFault;
 use layout_maker::MakeFault;
 use log_texts::LogFault;
 use pbn_deal::BoardRefusal;
 use pbn_text::TextFault;
+use strategy_tree::RootFault;
 
 /// The status of a text that gives no games.
 impl From<TextFault> for Status {

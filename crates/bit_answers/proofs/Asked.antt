@@ -4,8 +4,8 @@ use Rattle.std.specs.Prelude.{IfErr, IsErrOf}
 use Rattle.strategy_games.specs.Choosing.{IsBestWeight, IsNamedByWeight}
 use Rattle.strategy_tree.specs.Bridge.{bridge}
 use Rattle.strategy_tree.specs.RootTrees.{IsSpentAt}
-use Rattle.alphamu_core.specs.declared.answers.RootFault.{RootFault}
-use Rattle.alphamu_core.specs.declared.answers.RootFault.TheVariants.{Spent, Memory}
+use Rattle.strategy_tree.specs.declared.root_fault.RootFault.{RootFault}
+use Rattle.strategy_tree.specs.declared.root_fault.RootFault.TheVariants.{Spent, Memory}
 use Rattle.bit_questions.specs.declared.question.Question.{Question}
 use Rattle.bit_questions.specs.declared.asked.Asked.{Asked}
 use Rattle.bit_questions.specs.Asked.{IsAsked}

@@ -2,7 +2,7 @@
 use Rattle.std.specs.Prelude.{ℕ, List}
 use Rattle.trick_rules.specs.Nodes.{NodeValue}
 use Rattle.strategy_tree.specs.RootTrees.{IsSpentAt}
-use Rattle.alphamu_core.specs.declared.answers.RootFault as root
+use Rattle.strategy_tree.specs.declared.root_fault.RootFault as root
 use Rattle.bit_questions.specs.declared.question.Question as questions
 use Rattle.bit_questions.specs.declared.fault.QuestionFault.TheVariants.{Memory}
 use Rattle.bit_questions.specs.Causes.{HasCause, code_of}

@@ -1,8 +1,8 @@
 -- What the searches at the node of a question need.
 use Rattle.std.specs.Prelude.{◌≡◌, ⊤, length}
 use Rattle.strategy_tree.specs.RootTrees.{IsSpentAt}
-use Rattle.alphamu_core.specs.declared.answers.RootFault.{RootFault}
-use Rattle.alphamu_core.specs.declared.answers.RootFault.TheVariants.{Spent, Memory}
+use Rattle.strategy_tree.specs.declared.root_fault.RootFault.{RootFault}
+use Rattle.strategy_tree.specs.declared.root_fault.RootFault.TheVariants.{Spent, Memory}
 use Rattle.bit_questions.specs.declared.asked.Asked.{Asked}
 use Rattle.bit_questions.specs.Causes.{CanChoose}
 use Rattle.bit_questions.specs.Numbers.{AreMoves}

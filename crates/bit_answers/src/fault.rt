@@ -2,10 +2,10 @@
 ghost use Rattle.std.specs.Prelude.{◌≡◌};
 ghost use Rattle.bit_answers.specs.Faults.{fault_of, number_of};
 
-use alphamu_core::RootFault;
 use bit_questions::QuestionFault;
 use card_sets::Card;
 use std::alloc::AllocError;
+use strategy_tree::RootFault;
 
 /// Why a question in numbers has no answer.
 #[derive(Clone, Copy, Debug, PartialEq, Eq)]

@@ -8,7 +8,7 @@ ghost use Rattle.front_table.specs.Proven.{IsFrontAt};
 ghost use Rattle.shared_table.specs.Passes.{IsPassOf};
 ghost use Rattle.bit_answers.specs.Ready.{IsReady, IsSearchFault};
 
-use alphamu_core::{Budget, Found, RootFault, SearchFault, search};
+use alphamu_core::{Budget, Found, SearchFault, search};
 use am_outside::OpenGate;
 use bit_questions::Asked;
 use card_sets::Card;
@@ -16,9 +16,11 @@ use cut_rules::{CutRules, Stop};
 use dd_solver::Solver;
 use pareto_fronts::Front;
 use root_workers::{Alone, Options, Question, RootCard, RootWorker};
+use search_race::Runner;
 use shared_table::{Pass, SharedStore, SharedTable};
 use std::alloc::{AllocError, Global};
 use std::slice;
+use strategy_tree::RootFault;
 
 /// The table of a question's searches, and its first pass.
 pub fn new_table(alloc: Global) -> Result<(SharedTable, Pass), AllocError>
@@ -61,6 +63,7 @@ pub fn only_worker(alloc: Global) -> RootWorker {
     RootWorker {
         number: 0,
         solver: Solver::new(alloc),
+        runner: Runner::alone(),
     }
 }
 

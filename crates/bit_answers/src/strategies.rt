@@ -8,13 +8,12 @@ ghost use Rattle.bit_answers.specs.Strategies.{IsStrategy, IsStrategyFor};
 
 use crate::fault::BitFault;
 use crate::searches::{front_over, new_table, only_worker};
-use alphamu_core::RootFault;
 use bit_questions::{Asked, Question, read};
 use flat_plans::{PlanNode, plan_nodes};
 use plan_finder::{Wanted, plan_for};
 use shared_table::SharedStore;
 use std::alloc::Global;
-use strategy_tree::Plan;
+use strategy_tree::{Plan, RootFault};
 
 // The plan that is chosen for the vector at a place of the front, if there is one. It is found over
 // the table that the front was found with, by the same solver.

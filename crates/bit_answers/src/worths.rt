@@ -9,12 +9,12 @@ ghost use Rattle.bit_answers.specs.Ready.{IsReady, IsSearchFault};
 
 use crate::searches::{front_after, new_table};
 use crate::structs::Worth;
-use alphamu_core::RootFault;
 use bit_questions::Asked;
 use dd_solver::Solver;
 use fusion_base::{CardVector, per_card_alone};
 use pareto_fronts::Front;
 use std::alloc::Global;
+use strategy_tree::RootFault;
 use vector_words::{first_best, words_of};
 
 // What a card is worth by the front after it.

@@ -8,7 +8,7 @@ use Rattle.root_answers.specs.Written.{IsWrittenAnswer}
 use Rattle.strategy_tree.specs.RootTrees.{IsFirstSpentAt, AllFit}
 use Rattle.root_workers.proofs.Founds.{get_push}
 use Rattle.std.specs.Borrow.{Bor, MutBor}
-use Rattle.alphamu_core.specs.declared.answers.RootFault.{RootFault}
+use Rattle.strategy_tree.specs.declared.root_fault.RootFault.{RootFault}
 use Rattle.root_workers.specs.Rounds.{HasSeenMore}
 use Rattle.shared_table.specs.declared.Pass.{Pass}
 use Rattle.shared_table.specs.Passes.{IsPassOf}

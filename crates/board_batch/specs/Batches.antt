@@ -2,8 +2,8 @@
 use Rattle.std.specs.Prelude.{◌≡◌, ◌≤◌, ⊤, ℕ, Some, Result, Ok, Err, All, slice_get}
 use Rattle.std.specs.Borrow.{Bor, MutBor}
 use Rattle.trick_rules.specs.Nodes.{most_moves}
-use Rattle.alphamu_core.specs.declared.answers.RootFault.{RootFault}
-use Rattle.alphamu_core.specs.declared.answers.RootFault.TheVariants.{Spent, Memory}
+use Rattle.strategy_tree.specs.declared.root_fault.RootFault.{RootFault}
+use Rattle.strategy_tree.specs.declared.root_fault.RootFault.TheVariants.{Spent, Memory}
 use Rattle.root_answers.specs.declared.written.WrittenAnswer.{WrittenAnswer}
 use Rattle.root_answers.specs.Written.{IsWrittenAnswer}
 use Rattle.strategy_tree.specs.RootTrees.{IsSpentAt, IsFirstSpentAt, AllFit}

@@ -6,10 +6,10 @@ ghost use Rattle.worker_pool.specs.Findings.{AreRight};
 ghost use Rattle.board_batch.specs.Batches.{IsBatch, Solves, IsOutcome, IsOutcomeAt};
 
 use crate::batch::{Batch, Problem};
-use alphamu_core::RootFault;
 use root_answers::WrittenAnswer;
 use shared_table::{Pass, SharedTable};
 use std::alloc::AllocError;
+use strategy_tree::RootFault;
 use worker_pool::{Finding, Work, take_finding};
 
 /// What the search of a problem ends with.

@@ -15,13 +15,13 @@ use crate::batch::{Batch, Problem};
 use crate::batch_work::{BatchWork, Outcome};
 use crate::fault::BatchFault;
 use crate::solving::solved;
-use alphamu_core::RootFault;
 use am_outside::Gate;
 use root_answers::WrittenAnswer;
 use root_workers::Options;
 use shared_table::{Pass, SharedTable};
 use std::alloc::{AllocError, Global};
 use std::thread::Threads;
+use strategy_tree::RootFault;
 use worker_pool::{Finding, work_side_by_side};
 
 // The numbers of this many workers, but of at least one.

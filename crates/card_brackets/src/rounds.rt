@@ -11,12 +11,13 @@ ghost use Rattle.card_brackets.specs.Rows.{IsRow, IsRoundWith, is_final};
 use crate::bounds::bounds_after;
 use crate::rows::{CardRow, row_of};
 use crate::table::CardTable;
-use alphamu_core::{RootFault, SearchFault};
+use alphamu_core::SearchFault;
 use card_sets::Card;
 use dd_solver::Solver;
 use fusion_base::CardVector;
 use root_workers::Question;
 use shared_table::Pass;
+use strategy_tree::RootFault;
 
 // The row of a card, of which sampling believes this.
 fn row_after(

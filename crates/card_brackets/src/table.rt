@@ -7,12 +7,12 @@ ghost use Rattle.card_brackets.specs.Rows.{IsRoundWith, IsTableUpTo};
 
 use crate::rounds::round_table;
 use crate::rows::CardRow;
-use alphamu_core::RootFault;
 use card_sets::Card;
 use dd_solver::Solver;
 use fusion_base::{CardVector, per_card_alone};
 use root_workers::Question;
 use shared_table::Pass;
+use strategy_tree::RootFault;
 
 /// The rows of all legal cards, in card order, with a number of moves that counts the card itself;
 /// and the card that is named with as many moves.

@@ -13,29 +13,14 @@ use card_sets::Card;
 use std::alloc::Global;
 use std::sync::Arc;
 
-// How many answers a solver alone has kept before the help of other threads pays: some tens of
-// milliseconds' work. Its own memo is given up then.
-const ALONE: u64 = 50_000;
-
-// How many it has kept among others before their help pays once more: a few milliseconds' work, for
-// some tenths of a millisecond in which threads are started.
-const TOGETHER: u64 = 4_000;
-
-// A memo that a solver shares, and the solver's number among those that share it, counted from 0.
-#[derive(Debug, Drop)]
-struct Share {
-    memo: Arc<SharedMemo, Global>,
-    number: usize,
-}
-
 /// Answers, in a memo of the solver's own or in one that it shares, and the leads that settled a
 /// result last, by the turn.
 #[derive(Debug, Drop)]
 pub(crate) struct Recall {
     own: Memo,
-    shared: Option<Share>,
+    shared: Option<Arc<SharedMemo, Global>>,
     best_leads: [Option<Card>; TURNS],
-    /// How many answers it has kept that have paid for no help yet.
+    /// How many answers it has kept that no question of `has_kept` has counted yet.
     kept: u64,
 }
 
@@ -55,13 +40,13 @@ impl Recall {
     }
 
     /// Nothing yet of the solver's own. The answers are in a memo that it shares.
-    pub(crate) fn sharing(alloc: Global, memo: Arc<SharedMemo, Global>, number: usize) -> Recall
+    pub(crate) fn sharing(alloc: Global, memo: Arc<SharedMemo, Global>) -> Recall
         ensures limit { result.own.most ≡ 0 }
         ensures empty { vec_len result.own.slots ≡ 0 }
     {
         Recall {
             own: Memo::new(alloc, 0),
-            shared: Some(Share { memo, number }),
+            shared: Some(memo),
             best_leads: [None; TURNS],
             kept: 0,
         }
@@ -91,7 +76,7 @@ impl Recall {
     {
         match &self.shared {
             None => self.own.look(key),
-            Some(share) => share.memo.look(key),
+            Some(memo) => memo.look(key),
         }
     }
 
@@ -105,50 +90,20 @@ impl Recall {
         self.kept = self.kept.saturating_add(1);
         match &self.shared {
             None => self.own.keep(key, answer),
-            Some(share) => share.memo.keep(key, answer),
+            Some(memo) => memo.keep(key, answer),
         }
     }
 
-    /// Whether the answers that it has kept pay for the help of other threads. If so, they have paid.
-    pub(crate) fn wants_help(&mut self) -> bool
+    /// Whether it has kept this many answers that weren't counted yet. If so, they are counted.
+    pub(crate) fn has_kept(&mut self, answers: u64) -> bool
         ensures { self.new.own.most ≡ self.old.own.most }
     {
-        let price = if self.is_shared() { TOGETHER } else { ALONE };
-        match self.kept.checked_sub(price) {
+        match self.kept.checked_sub(answers) {
             Some(rest) => {
                 self.kept = rest;
                 true
             }
             None => false,
-        }
-    }
-
-    /// Whether the memo is shared.
-    pub(crate) fn is_shared(&self) -> bool {
-        self.shared.is_some()
-    }
-
-    /// Where in a list of this many the solver begins: at another place than the others that share its
-    /// memo, and alone at 0.
-    pub(crate) fn begins_at(&self, count: usize) -> usize {
-        match &self.shared {
-            None => 0,
-            Some(share) => count.saturating_mul(share.number) / share.memo.solvers().max(1),
-        }
-    }
-
-    /// Whether another solver has answered the question that all of them were given.
-    pub(crate) fn is_late(&self) -> bool {
-        match &self.shared {
-            None => false,
-            Some(share) => share.memo.is_answered(),
-        }
-    }
-
-    /// Notes whether that question is answered.
-    pub(crate) fn note_answered(&self, answered: bool) {
-        if let Some(share) = &self.shared {
-            share.memo.note_answered(answered);
         }
     }
 }

@@ -12,7 +12,6 @@ use crate::shard_rule::{Gives, Homes, Takes};
 use atomic_table::{Refused, Seat, Table};
 use std::alloc::{AllocError, Global};
 use std::fmt;
-use std::sync::atomic::{AtomicBool, Ordering};
 
 /// How many shards a memo has.
 const SHARDS: usize = 256;
@@ -31,14 +30,9 @@ pub(crate) struct Shard {
 ///
 /// One thread at a time is inside a shard, and none waits for it: until it leaves, the others
 /// neither find nor keep an answer there.
-///
-/// The solvers may be given one question, and then the memo also notes whether one of them has answered
-/// it.
 #[derive(Drop)]
 pub struct SharedMemo {
     table: Table<Shard, (), (), Homes, Global>,
-    solvers: usize,
-    answered: AtomicBool,
     ghost words: { table.shared.table_id.words ≡ 256 },
     ghost shards: { table.shared.table_id.slots ≡ 256 },
 }
@@ -71,18 +65,14 @@ fn shard_of(key: &Key) -> usize
 }
 
 impl SharedMemo {
-    /// A memo without an answer, for this many solvers. It takes memory for answers as they come.
+    /// A memo without an answer. It takes memory for answers as they come.
     ///
     /// No clause: each answer that it will hold carries its own proof.
-    pub fn new(alloc: Global, solvers: usize) -> Result<SharedMemo, AllocError> {
+    pub fn new(alloc: Global) -> Result<SharedMemo, AllocError> {
         let words = Vec::from_elem(alloc, 0u64, SHARDS)?;
         let shards = empty_shards(alloc)?;
         match Table::new(alloc, words.as_slice(), shards, &()) {
-            Ok((table, _)) => Ok(SharedMemo {
-                table,
-                solvers,
-                answered: AtomicBool::new(false),
-            }),
+            Ok((table, _)) => Ok(SharedMemo { table }),
             Err(Refused { slots: _ }) => Err(AllocError),
         }
     }
@@ -133,20 +123,5 @@ impl SharedMemo {
                 .keep(key, answer);
             self.give(shard, seat);
         }
-    }
-
-    /// How many solvers it is for.
-    pub(crate) fn solvers(&self) -> usize {
-        self.solvers
-    }
-
-    /// Whether one of the solvers has answered the question that all of them were given.
-    pub(crate) fn is_answered(&self) -> bool {
-        self.answered.load(Ordering::SeqCst)
-    }
-
-    /// Notes whether that question is answered.
-    pub(crate) fn note_answered(&self, answered: bool) {
-        self.answered.store(answered, Ordering::SeqCst);
     }
 }

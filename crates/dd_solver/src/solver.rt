@@ -49,14 +49,13 @@ impl Solver {
     }
 
     /// A solver that remembers nothing by itself, and shares a memo with others, in its own thread
-    /// or another one: what one of them finds, all may find there. It has a number among them, counted
-    /// from 0.
-    pub fn sharing(alloc: Global, memo: Arc<SharedMemo, Global>, number: usize) -> Solver
+    /// or another one: what one of them finds, all may find there.
+    pub fn sharing(alloc: Global, memo: Arc<SharedMemo, Global>) -> Solver
         ensures limit { result.limit ≡ 0 }
         ensures empty { result.entries ≡ 0 }
     {
         Solver {
-            recall: Recall::sharing(alloc, memo, number),
+            recall: Recall::sharing(alloc, memo),
         }
     }
 
@@ -74,48 +73,10 @@ impl Solver {
         search(&mut self.recall, position, left, shape).made
     }
 
-    /// Whether it has kept so many answers since it last said yes that the help of other threads pays,
-    /// or since it began.
+    /// Whether it has kept this many answers since it last said yes, or since it began.
     ///
-    /// No clause: it tells how solvers may work together, and changes no answer.
-    pub fn wants_help(&mut self) -> bool {
-        self.recall.wants_help()
-    }
-
-    /// Whether it shares its memo.
-    ///
-    /// No clause: it tells how solvers may work together, and changes no answer.
-    pub fn is_in_team(&self) -> bool {
-        self.recall.is_shared()
-    }
-
-    /// Where in a list of this many it begins, if solvers that share a memo go through the same list:
-    /// each at another place, so that they find each other's answers. A solver that shares none begins
-    /// at 0.
-    ///
-    /// No clause: it tells how solvers may work together, and changes no answer.
-    pub fn begins_at(&self, count: usize) -> usize {
-        self.recall.begins_at(count)
-    }
-
-    /// All solvers that share its memo are given a question, which none of them has answered yet.
-    ///
-    /// No clause: it tells how solvers may work together, and changes no answer.
-    pub fn begin_question(&self) {
-        self.recall.note_answered(false);
-    }
-
-    /// The question is answered. The others are late from now on.
-    ///
-    /// No clause: it tells how solvers may work together, and changes no answer.
-    pub fn end_question(&self) {
-        self.recall.note_answered(true);
-    }
-
-    /// Whether a solver that shares its memo has answered the question that all of them were given.
-    ///
-    /// No clause: it tells how solvers may work together, and changes no answer.
-    pub fn is_late(&self) -> bool {
-        self.recall.is_late()
+    /// No clause: it tells how much a solver has worked, and changes no answer.
+    pub fn has_kept(&mut self, answers: u64) -> bool {
+        self.recall.has_kept(answers)
     }
 }

@@ -1,8 +1,8 @@
 -- The text of a log, and a root card whose tree is too large.
 use Rattle.std.proofs.Common.{◌≡◌, ℕ, List, Ok, refl, subst}
-use Rattle.log_maker.specs.LogsFor.{IsLogTextFor}
-use Rattle.alphamu_core.specs.declared.answers.RootFault.{RootFault}
-use Rattle.alphamu_core.specs.declared.answers.RootFault.TheVariants.{Spent, Memory}
+use Rattle.log_texts.specs.LogText.{IsLogTextFor}
+use Rattle.strategy_tree.specs.declared.root_fault.RootFault.{RootFault}
+use Rattle.strategy_tree.specs.declared.root_fault.RootFault.TheVariants.{Spent, Memory}
 use Rattle.am_answer.specs.declared.root.Root.{Root}
 use Rattle.am_answer.specs.Tasks.{Prove}
 use Rattle.am_answer.specs.Endings.{IsSpentOn, IsWithinIfPlain}

@@ -7,7 +7,7 @@ use Rattle.job_words.specs.Asks.{IsSearchWithinLimits}
 use Rattle.strategy_tree.specs.RootTrees.{IsSpentAt, IsFirstSpentAt, AllFit}
 use Rattle.root_workers.specs.declared.root.Options.{Options}
 use Rattle.root_workers.specs.Plain as options
-use Rattle.alphamu_core.specs.declared.answers.RootFault as faults
+use Rattle.strategy_tree.specs.declared.root_fault.RootFault as faults
 use Rattle.am_answer.specs.declared.root.Root.{Root}
 use Rattle.am_answer.specs.declared.status.Status.{Status}
 use Rattle.am_answer.specs.Tasks.{TaskValue}

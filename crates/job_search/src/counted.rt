@@ -8,11 +8,11 @@ ghost use Rattle.root_workers.specs.Plain.{HasWorkers};
 ghost use Rattle.root_workers.specs.Questions.{NamesSpent, NamesFirstSpent, FitsIfPlain};
 ghost use Rattle.shared_table.specs.Passes.{IsPassOf};
 
-use alphamu_core::RootFault;
 use card_sets::Card;
 use pareto_fronts::Front;
 use root_workers::{Question, RootCrew};
 use shared_table::Pass;
+use strategy_tree::RootFault;
 
 /// The front of a root, the card to play, and how many layouts it wins.
 #[derive(Drop)]

@@ -11,7 +11,6 @@ ghost use Rattle.am_answer.specs.Endings.{IsPlain};
 ghost use Rattle.am_answer.specs.Matches.{IsFirstStrategy};
 ghost use Rattle.am_answer.specs.Stages.{IsTaskRefusal, IsTextFor};
 
-use alphamu_core::RootFault;
 use am_answer::{Root, Status};
 use am_report::{Entry, card_text};
 use byte_text::Text;
@@ -22,6 +21,7 @@ use root_answers::{chosen_plan, options_of, report_text, reported, table_of, wri
 use root_workers::{Question, RootCrew};
 use shared_table::Pass;
 use std::alloc::Global;
+use strategy_tree::RootFault;
 
 /// The report of a root, for `moves` moves of declarer's side. Errors: `Spent` at a root card whose
 /// tree has more nodes than a search may enter, in a plain search the first such card; `Memory`.

@@ -9,7 +9,7 @@ use Rattle.alphamu_core.proofs.Paid.{size_after}
 use Rattle.log_check.specs.declared.lines.LogLine.{LogLine}
 use Rattle.log_texts.specs.Written.{WrittenLog, IsLongerBy}
 use Rattle.log_texts.proofs.Longer.{longer-more}
-use Rattle.log_maker.specs.LogsFor.{IsLogFrom, AreLogsFrom}
+use Rattle.log_check.specs.LogsFor.{IsLogFrom, AreLogsFrom}
 use Rattle.log_maker.specs.Steps.{HasGrown}
 use Rattle.log_maker.proofs.FrontsSoFar.{cards_more}
 use Rattle.log_maker.proofs.Growing.{AreWritten, written_more, written_size, sum_so_far}

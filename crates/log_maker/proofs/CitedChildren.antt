@@ -11,9 +11,9 @@ use Rattle.strategy_tree.specs.Bridge.{bridge}
 use Rattle.log_check.specs.declared.lines.Rule.TheVariants.{Leaf, Union, Join}
 use Rattle.log_check.specs.declared.lines.LogLine.{LogLine}
 use Rattle.log_check.specs.Logs.{cited_lines, StandBehind}
-use Rattle.log_maker.specs.LogsFor.{line_of, IsLogFrom, AreLogsFrom}
-use Rattle.log_maker.specs.LogsFor.IsLogFrom.{at_stop, at_declarer, at_defender}
-use Rattle.log_maker.specs.LogsFor.AreLogsFrom.{no_child, child_first}
+use Rattle.log_check.specs.LogsFor.{line_of, IsLogFrom, AreLogsFrom}
+use Rattle.log_check.specs.LogsFor.IsLogFrom.{at_stop, at_declarer, at_defender}
+use Rattle.log_check.specs.LogsFor.AreLogsFrom.{no_child, child_first}
 
 -- ---- the last line
 

@@ -16,9 +16,9 @@ use Rattle.log_check.specs.declared.lines.Rule.TheVariants.{Leaf, Union, Join}
 use Rattle.log_check.specs.declared.lines.LogLine.{LogLine}
 use Rattle.log_texts.specs.Written.{WrittenLog, IsLongerBy}
 use Rattle.log_texts.proofs.Longer.{longer-none, longer-more}
-use Rattle.log_maker.specs.LogsFor.{line_of, IsLogFrom, AreLogsFrom}
-use Rattle.log_maker.specs.LogsFor.IsLogFrom.{at_stop, at_declarer, at_defender}
-use Rattle.log_maker.specs.LogsFor.AreLogsFrom.{no_child, child_first}
+use Rattle.log_check.specs.LogsFor.{line_of, IsLogFrom, AreLogsFrom}
+use Rattle.log_check.specs.LogsFor.IsLogFrom.{at_stop, at_declarer, at_defender}
+use Rattle.log_check.specs.LogsFor.AreLogsFrom.{no_child, child_first}
 use Rattle.log_maker.specs.Steps.{HasGrown}
 use Rattle.log_maker.proofs.LogSizes.{children-counted}
 

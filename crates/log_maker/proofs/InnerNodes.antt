@@ -13,8 +13,8 @@ use Rattle.alphamu_core.proofs.Paid.{size_after}
 use Rattle.log_check.specs.declared.lines.Rule.{Rule}
 use Rattle.log_check.specs.declared.lines.Rule.TheVariants.{Union, Join}
 use Rattle.log_check.specs.declared.lines.LogLine.{LogLine}
-use Rattle.log_maker.specs.LogsFor.{line_of, IsLogFrom, AreLogsFrom}
-use Rattle.log_maker.specs.LogsFor.IsLogFrom.{at_declarer, at_defender}
+use Rattle.log_check.specs.LogsFor.{line_of, IsLogFrom, AreLogsFrom}
+use Rattle.log_check.specs.LogsFor.IsLogFrom.{at_declarer, at_defender}
 
 module _ (n : NodeValue) (moves left : ℕ) (off : stops n moves ≡ false) (less : is_declarers (to_play n.position) ≡ true → left ≡ moves - 1) (same : is_declarers (to_play n.position) ≡ false → left ≡ moves) where
   pub size_inner : IsNode n → tree_size bridge n moves ≡ 1 + sum_by (size_after n left) (choices n)

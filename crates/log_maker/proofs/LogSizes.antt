@@ -13,9 +13,9 @@ use Rattle.alphamu_core.proofs.Paid.{size_after}
 use Rattle.alphamu_core.proofs.OpenNodes.{size_ours, size_theirs}
 use Rattle.log_check.specs.declared.lines.Rule.TheVariants.{Union, Join}
 use Rattle.log_check.specs.declared.lines.LogLine.{LogLine}
-use Rattle.log_maker.specs.LogsFor.{line_of, IsLogFrom, AreLogsFrom}
-use Rattle.log_maker.specs.LogsFor.IsLogFrom.{at_stop, at_declarer, at_defender}
-use Rattle.log_maker.specs.LogsFor.AreLogsFrom.{no_child, child_first}
+use Rattle.log_check.specs.LogsFor.{line_of, IsLogFrom, AreLogsFrom}
+use Rattle.log_check.specs.LogsFor.IsLogFrom.{at_stop, at_declarer, at_defender}
+use Rattle.log_check.specs.LogsFor.AreLogsFrom.{no_child, child_first}
 
 mutual
   pub lines-counted : (n : NodeValue) (moves : ℕ) (path : List ℕ) (earlier : ℕ) (lines : List LogLine) → IsLogFrom n moves path earlier lines → IsNode n

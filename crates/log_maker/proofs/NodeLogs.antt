@@ -30,9 +30,9 @@ use Rattle.log_check.specs.LogVerdicts.{IsLogVerdict}
 use Rattle.log_check.proofs.PathNodes.{our_turn, our_turn-ours, our_turn-theirs, node_after-more, our_cards-more}
 use Rattle.log_check.proofs.Judged.{sound-none}
 use Rattle.log_check.proofs.OneLogVerdict.{one_log_verdict}
-use Rattle.log_maker.specs.LogsFor.{line_of, IsLogFrom, AreLogsFrom, IsLogFor}
-use Rattle.log_maker.specs.LogsFor.IsLogFrom.{at_stop, at_declarer, at_defender}
-use Rattle.log_maker.specs.LogsFor.AreLogsFrom.{no_child, child_first}
+use Rattle.log_check.specs.LogsFor.{line_of, IsLogFrom, AreLogsFrom, IsLogFor}
+use Rattle.log_check.specs.LogsFor.IsLogFrom.{at_stop, at_declarer, at_defender}
+use Rattle.log_check.specs.LogsFor.AreLogsFrom.{no_child, child_first}
 use Rattle.log_maker.proofs.CitedChildren.{ends_at, AreCited, cited_children}
 
 -- ---- a line more

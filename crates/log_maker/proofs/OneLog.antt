@@ -7,9 +7,9 @@ use Rattle.strategy_tree.proofs.BridgeLaws.{one_front}
 use Rattle.log_check.specs.declared.lines.Rule.{Rule}
 use Rattle.log_check.specs.declared.lines.Rule.TheVariants.{Leaf, Union, Join}
 use Rattle.log_check.specs.declared.lines.LogLine.{LogLine}
-use Rattle.log_maker.specs.LogsFor.{line_of, IsLogFrom, AreLogsFrom, IsLogFor}
-use Rattle.log_maker.specs.LogsFor.IsLogFrom.{at_stop, at_declarer, at_defender}
-use Rattle.log_maker.specs.LogsFor.AreLogsFrom.{no_child, child_first}
+use Rattle.log_check.specs.LogsFor.{line_of, IsLogFrom, AreLogsFrom, IsLogFor}
+use Rattle.log_check.specs.LogsFor.IsLogFrom.{at_stop, at_declarer, at_defender}
+use Rattle.log_check.specs.LogsFor.AreLogsFrom.{no_child, child_first}
 
 same_end : (rule : Rule) (path : List ℕ) (moves : ℕ) (ns ms : List ℕ) (front other : List Vector) (xs ys : List LogLine)
     → (ns ≡ ms) × (xs ≡ ys) → front ≡ other → xs ++ line_of rule path moves ns front ∷ [] ≡ ys ++ line_of rule path moves ms other ∷ []

@@ -17,7 +17,8 @@ use Rattle.log_check.specs.declared.lines.Rule.TheVariants.{Leaf}
 use Rattle.log_check.specs.declared.lines.LogLine.{LogLine}
 use Rattle.log_texts.specs.Written.{WrittenLog, begun, finished, IsLongerBy}
 use Rattle.log_texts.proofs.Longer.{whole_text}
-use Rattle.log_maker.specs.LogsFor.{line_of, IsLogFrom, IsLogTextFor}
+use Rattle.log_check.specs.LogsFor.{line_of, IsLogFrom}
+use Rattle.log_texts.specs.LogText.{IsLogTextFor}
 use Rattle.log_maker.specs.Steps.{HasGrown}
 use Rattle.log_maker.proofs.LogSizes.{lines-counted}
 use Rattle.log_maker.proofs.Growing.{AreWritten, written_none, grown_leaf}

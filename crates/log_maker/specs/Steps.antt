@@ -8,7 +8,7 @@ use Rattle.front_table.specs.Proven.{IsFrontAt}
 use Rattle.log_check.specs.declared.lines.LogLine.{LogLine}
 use Rattle.log_texts.specs.Written.{WrittenLog, IsLongerBy}
 use Rattle.log_maker.specs.declared.tree_writer.TreeWriter.{TreeWriter}
-use Rattle.log_maker.specs.LogsFor.{IsLogFrom}
+use Rattle.log_check.specs.LogsFor.{IsLogFrom}
 
 -- it has grown by the lines of a node
 pub record HasGrown (n : NodeValue) (moves : ℕ) (path : List ℕ) (before after : WrittenLog)

@@ -8,7 +8,7 @@ ghost use Rattle.log_check.specs.declared.lines.LogLine.{LogLine};
 ghost use Rattle.log_check.specs.declared.check.LogVerdict.{LogVerdict};
 ghost use Rattle.log_check.specs.Logs.{IsValidLog};
 ghost use Rattle.log_check.specs.LogVerdicts.{IsLogVerdict};
-ghost use Rattle.log_maker.specs.LogsFor.{IsLogFor};
+ghost use Rattle.log_check.specs.LogsFor.{IsLogFor};
 
 /// The log of a node is valid for its front, and so no other verdict is true of it.
 pub fn log_of_a_node_is_valid()

@@ -2,7 +2,7 @@
 ghost use Rattle.std.specs.Prelude.{◌≡◌, ◌<◌, ◌++◌, ◌∷◌, [], length, map, IfOk};
 ghost use Rattle.trick_rules.specs.Play.{makes};
 ghost use Rattle.trick_rules.specs.Nodes.{states};
-ghost use Rattle.log_maker.specs.LogsFor.{line_of};
+ghost use Rattle.log_check.specs.LogsFor.{line_of};
 
 use card_sets::Card;
 use dd_solver::Solver;

@@ -6,14 +6,14 @@ ghost use Rattle.trick_rules.specs.Play.{is_declarers};
 ghost use Rattle.trick_rules.specs.Nodes.{IsNode, stops, choices, child, most_moves};
 ghost use Rattle.strategy_tree.specs.Bridge.{bridge};
 ghost use Rattle.log_check.specs.Limits.{most_lines};
-ghost use Rattle.log_maker.specs.LogsFor.{IsLogTextFor};
+ghost use Rattle.log_texts.specs.LogText.{IsLogTextFor};
 ghost use Rattle.log_maker.specs.Steps.{IsWritten, IsTooLong, IsSameWriter};
 ghost use Rattle.strategy_tree.specs.RootTrees.{AllFit, IsFirstSpentAt};
 
 use crate::lines::{line_with, path_after};
 use crate::tree::leaf;
 use crate::tree_writer::TreeWriter;
-use alphamu_core::{RootFault, SearchFault};
+use alphamu_core::SearchFault;
 use byte_text::Text;
 use card_sets::Card;
 use dd_solver::Solver;
@@ -21,6 +21,7 @@ use log_check::{LineList, Rule};
 use log_texts::LogWriter;
 use pareto_fronts::Front;
 use std::alloc::Global;
+use strategy_tree::RootFault;
 use trick_rules::{CardLine, Node};
 
 /// The most nodes that a root card may be given. So the lines of thirteen cards can be numbered.

@@ -6,7 +6,7 @@ ghost use Rattle.trick_rules.specs.Play.{is_declarers, cards_left};
 ghost use Rattle.trick_rules.specs.Nodes.{IsNode, stops};
 ghost use Rattle.front_table.specs.Proven.{IsFrontAt};
 ghost use Rattle.log_check.specs.Limits.{most_lines};
-ghost use Rattle.log_maker.specs.LogsFor.{line_of};
+ghost use Rattle.log_check.specs.LogsFor.{line_of};
 ghost use Rattle.log_maker.specs.Steps.{IsWritten, IsTooLong, IsSameWriter};
 
 use crate::lines::{line_with, path_after, results};

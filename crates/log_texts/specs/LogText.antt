@@ -1,12 +1,14 @@
 -- How a log is written: a line for each of its lines, between a first one and a last.
-use Rattle.std.specs.Prelude.{ℕ, zero, suc, Bool, List, [], ◌∷◌, ◌++◌, map, flat_map, codes}
+use Rattle.std.specs.Prelude.{◌≡◌, ℕ, zero, suc, Bool, List, [], ◌∷◌, ◌++◌, map, flat_map, codes}
 use Rattle.std.specs.Fmt.{decimal}
 use Rattle.byte_text.specs.Lines.{line_of}
 use Rattle.bit_letters.specs.Bits.{bit_letter}
 use Rattle.card_letters.specs.Letters.{letters_of}
+use Rattle.trick_rules.specs.Nodes.{NodeValue}
 use Rattle.log_check.specs.declared.lines.Rule.{Rule}
 use Rattle.log_check.specs.declared.lines.Rule.TheVariants.{Leaf, Union, Join}
 use Rattle.log_check.specs.declared.lines.LogLine.{LogLine}
+use Rattle.log_check.specs.LogsFor.{IsLogFor}
 
 abbrev pub rule_word : Rule → List ℕ
 rule_word Leaf = codes "leaf"
@@ -45,3 +47,7 @@ log_line line = line_of (rule_word line.rule ++ codes " " ++ path_text line.path
 
 unfoldable pub log_text : List LogLine → List ℕ
 log_text lines = line_of (codes "alphamu log 1") ++ flat_map log_line lines ++ line_of (codes "end")
+
+-- the text of the log of a node with this many moves
+abbrev pub IsLogTextFor : NodeValue → ℕ → List ℕ → Type 0
+IsLogTextFor n moves text = (lines : List LogLine) × IsLogFor n moves lines × (text ≡ log_text lines)

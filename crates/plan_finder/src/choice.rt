@@ -9,9 +9,10 @@ ghost use Rattle.plan_finder.specs.PlanSearches.{IsSameSearch};
 ghost use Rattle.plan_finder.specs.Targets.{IsOfFront};
 
 use crate::searches::PlanSearch;
-use alphamu_core::{Entered, RootFault, SearchFault};
+use alphamu_core::{Entered, SearchFault};
 use card_sets::Card;
 use front_table::FrontStore;
+use strategy_tree::RootFault;
 use trick_rules::Node;
 use win_vectors::WinVector;
 

@@ -10,11 +10,11 @@ ghost use Rattle.plan_finder.specs.SpentPlans.{IsPlanSpentAt};
 
 use crate::wanted::Wanted;
 use crate::writer::PlanWriter;
-use alphamu_core::{Entered, RootFault};
+use alphamu_core::Entered;
 use dd_solver::Solver;
 use front_table::FrontStore;
 use std::alloc::Global;
-use strategy_tree::{Plan, read_plan};
+use strategy_tree::{Plan, RootFault, read_plan};
 
 /// A plan, and the most nodes that a search for it entered, if there was a search.
 #[derive(Drop)]

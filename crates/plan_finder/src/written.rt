@@ -15,9 +15,10 @@ use crate::rules::PlanRules;
 use crate::searches::PlanSearch;
 use crate::wanted::Wanted;
 use crate::writer::PlanWriter;
-use alphamu_core::{Entered, RootFault, SearchFault};
+use alphamu_core::{Entered, SearchFault};
 use dd_solver::Solver;
 use front_table::FrontStore;
+use strategy_tree::RootFault;
 use trick_rules::Node;
 use win_vectors::WinVector;
 

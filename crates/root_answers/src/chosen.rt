@@ -8,13 +8,12 @@ ghost use Rattle.root_workers.specs.Questions.{IsQuestion, NamesSpent};
 ghost use Rattle.shared_table.specs.Passes.{IsPassOf};
 
 use crate::wanted::plan_wanted;
-use alphamu_core::RootFault;
 use dd_solver::Solver;
 use front_table::NoStore;
 use plan_finder::plan_for;
 use root_workers::Question;
 use shared_table::{Pass, SharedStore};
-use strategy_tree::Plan;
+use strategy_tree::{Plan, RootFault};
 use win_vectors::WinVector;
 
 /// The plan that is chosen for a vector of the node's front. It is found over the table, if the

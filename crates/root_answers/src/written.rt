@@ -11,7 +11,6 @@ ghost use Rattle.root_answers.specs.Written.{IsWrittenAnswer};
 
 use crate::order::reported;
 use crate::wanted::plan_wanted;
-use alphamu_core::RootFault;
 use am_report::vector_text;
 use byte_text::Text;
 use card_sets::Card;
@@ -20,6 +19,7 @@ use front_table::{FrontStore, NoStore};
 use plan_finder::PlanWriter;
 use root_workers::{Question, RootCrew};
 use shared_table::{Pass, SharedStore};
+use strategy_tree::RootFault;
 use win_vectors::WinVector;
 
 /// The answer at a root: the lines of the front's vectors and their plans, as a report lists them,

@@ -21,7 +21,7 @@ use Rattle.strategy_tree.proofs.CardLists.{has_card-from_Contains}
 use Rattle.strategy_tree.proofs.Rules.{lawful}
 use Rattle.strategy_tree.proofs.BridgeLaws.{one_front, steps, cuts, leaders}
 use Rattle.alphamu_core.proofs.OpenNodes.{length-our_child}
-use Rattle.alphamu_core.specs.declared.answers.RootFault as root
+use Rattle.strategy_tree.specs.declared.root_fault.RootFault as root
 use Rattle.front_table.specs.Proven.{IsFrontAt}
 use Rattle.root_workers.specs.Leaders.{leader}
 

@@ -12,8 +12,8 @@ use Rattle.alphamu_core.specs.Costs.{IsWithin}
 use Rattle.alphamu_core.specs.Findings.{IsFound, IsExact}
 use Rattle.alphamu_core.specs.declared.answers.Found.{Found}
 use Rattle.alphamu_core.specs.declared.answers.Found.TheVariants as found
-use Rattle.alphamu_core.specs.declared.answers.RootFault.{RootFault}
-use Rattle.alphamu_core.specs.declared.answers.RootFault.TheVariants as fault
+use Rattle.strategy_tree.specs.declared.root_fault.RootFault.{RootFault}
+use Rattle.strategy_tree.specs.declared.root_fault.RootFault.TheVariants as fault
 use Rattle.alphamu_core.specs.declared.budget.Entered.{Entered}
 use Rattle.shared_table.specs.declared.Pass.{Pass}
 use Rattle.shared_table.specs.Passes.{view_of}

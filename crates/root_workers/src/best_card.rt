@@ -22,12 +22,14 @@ use crate::rounds::{CardSearch, Help, Round, RoundFront, Task};
 use crate::searches::SearchResult;
 use crate::worker_results::Known;
 use crate::workers::{RootWorker, wants_help};
-use alphamu_core::{Found, RootFault};
+use alphamu_core::{Found, RaceFault};
 use am_outside::Gate;
 use card_sets::Card;
 use cut_rules::Stop;
 use pareto_fronts::Front;
+use search_race::Runner;
 use shared_table::Pass;
+use strategy_tree::RootFault;
 use worker_pool::{Finding, take_finding};
 
 // What the workers have reported of the root card at a place.
@@ -77,9 +79,9 @@ fn raced<'a, C: RootCrew>(
         round,
         help: Help::Race(at),
     };
-    workers[0].solver.begin_question();
+    workers[0].runner.begin();
     let findings = crew.searched(&task, workers, pass);
-    workers[0].solver.begin_question();
+    workers[0].runner.begin();
     let Finding { place: _, found } = findings.ok()?.pop()?;
     Some(found)
 }
@@ -129,9 +131,16 @@ fn search_alone<G: Gate>(
     ensures grown { HasSeenMore pass.old pass.new }
 {
     gate.enter(worker.number, at.card);
-    let found = search_card(round, &mut worker.solver, at.card, at.alpha, pass);
+    let alone = Runner::alone();
+    let solver = &mut worker.solver;
+    let found = search_card(round, solver, &alone, at.card, at.alpha, pass);
     gate.leave(worker.number, at.card);
-    found
+    match found {
+        Ok(searched) => Ok(searched),
+        Err(RaceFault::Spent) => Err(RootFault::Spent(at.card)),
+        Err(RaceFault::Memory) => Err(RootFault::Memory),
+        Err(RaceFault::Late) => unreachable!(),
+    }
 }
 
 /// The best over the root cards, in card order, by what workers know of them. A card of which

@@ -11,10 +11,11 @@ use crate::crew::RootCrew;
 use crate::question::Question;
 use crate::rounds::{Round, RoundFront};
 use crate::workers::RootWorker;
-use alphamu_core::{Entered, RootFault};
+use alphamu_core::Entered;
 use cut_rules::{CutRules, Stop};
 use pareto_fronts::Front;
 use shared_table::Pass;
+use strategy_tree::RootFault;
 
 /// The rounds at a question, by a crew. With cuts the last one stops as `stop` says.
 #[derive(Drop)]

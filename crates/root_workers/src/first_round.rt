@@ -11,11 +11,11 @@ use crate::question::Question;
 use crate::rounds::{Help, Round, Task};
 use crate::searches::double_dummy;
 use crate::workers::{RootWorker, wants_help};
-use alphamu_core::RootFault;
 use cut_rules::CutRules;
 use front_table::NoStore;
 use pareto_fronts::Front;
 use shared_table::Pass;
+use strategy_tree::RootFault;
 
 // All workers ask double dummy about the layouts of a round's node. They report nothing, but their memo
 // knows the answers then.

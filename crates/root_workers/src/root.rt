@@ -17,7 +17,7 @@ use crate::deepening::Rounds;
 use crate::question::Question;
 use crate::reports::{CardReport, reports};
 use crate::workers::{RootWorker, workers_for};
-use alphamu_core::{Entered, RootFault};
+use alphamu_core::Entered;
 use am_outside::Gate;
 use card_sets::Card;
 use cut_rules::Stop;
@@ -25,6 +25,7 @@ use pareto_fronts::Front;
 use shared_table::{Pass, SharedTable};
 use std::alloc::{AllocError, Global};
 use std::thread::Threads;
+use strategy_tree::RootFault;
 use trick_rules::Node;
 use win_vectors::Weights;
 

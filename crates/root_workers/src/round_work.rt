@@ -9,10 +9,9 @@ use crate::card_search::search_card;
 use crate::rounds::{CardSearch, Help, Round, Task};
 use crate::worker_results::Known;
 use crate::workers::RootWorker;
-use alphamu_core::RootFault;
+use alphamu_core::RaceFault;
 use am_outside::Gate;
 use card_sets::Card;
-use dd_solver::Solver;
 use pareto_fronts::Front;
 use shared_table::{Pass, SharedTable};
 use std::alloc::AllocError;
@@ -39,11 +38,12 @@ fn card_at(node: &Node, place: u32) -> Option<Card>
     cards.pop_first()
 }
 
-// What a search tells of a card, by what the cards before it win. Nothing, if more that they win
-// might make the search shorter.
+// What a worker's search tells of a card, by what the cards before it win. Nothing, if more that they
+// win might make the search shorter. A worker that is late ends its work, as one does that finds no
+// memory.
 fn known_after(
     round: &Round,
-    solver: &mut Solver,
+    worker: &mut RootWorker,
     pass: &mut Pass,
     at: &CardSearch,
 ) -> Result<Option<Known>, AllocError>
@@ -54,23 +54,24 @@ fn known_after(
     ensures pass { IsPassOf round.now.table.now pass.new }
     ensures grown { HasSeenMore pass.old pass.new }
 {
-    match search_card(round, solver, at.card, at.alpha, pass) {
+    let RootWorker { solver, runner, .. } = worker;
+    match search_card(round, solver, runner, at.card, at.alpha, pass) {
         Ok(searched) => Ok(Some(Known::of(searched))),
-        Err(RootFault::Spent(_)) if round.rules.bound => Ok(None),
-        Err(RootFault::Spent(_)) => Ok(Some(Known::Spent)),
-        Err(RootFault::Memory) => Err(AllocError),
+        Err(RaceFault::Spent) if round.rules.bound => Ok(None),
+        Err(RaceFault::Spent) => Ok(Some(Known::Spent)),
+        Err(RaceFault::Memory | RaceFault::Late) => Err(AllocError),
     }
 }
 
-// Asks double dummy about all layouts of a node, from the place on at which the solver begins.
+// Asks double dummy about all layouts of a node, from the place on at which the worker begins.
 //
 // No clause: the solver remembers what it can.
-fn ask_layouts(node: &Node, solver: &mut Solver) {
+fn ask_layouts(node: &Node, worker: &mut RootWorker) {
     let width = usize::from(node.width());
-    let start = solver.begins_at(width);
+    let start = worker.runner.begins_at(width);
     for step in 0..width {
         let place = (start.wrapping_add(step) % width) as u16;
-        solver.makes(node.position(), node.left(place));
+        worker.solver.makes(node.position(), node.left(place));
     }
 }
 
@@ -120,19 +121,19 @@ impl<G: Gate> Work for RoundWork<'_, G> {
                 let alpha = &Front::new(round.alloc, round.node.width());
                 let at = CardSearch { place, card, alpha };
                 self.gate.enter(worker.number, card);
-                let known = known_after(round, &mut worker.solver, pass, &at);
+                let known = known_after(round, worker, pass, &at);
                 self.gate.leave(worker.number, card);
                 known
             }
             Help::Race(at) => {
                 self.gate.enter(worker.number, at.card);
-                let known = known_after(round, &mut worker.solver, pass, at);
+                let known = known_after(round, worker, pass, at);
                 self.gate.leave(worker.number, at.card);
-                worker.solver.end_question();
+                worker.runner.end();
                 known
             }
             Help::Layouts => {
-                ask_layouts(round.node, &mut worker.solver);
+                ask_layouts(round.node, worker);
                 Ok(None)
             }
         }

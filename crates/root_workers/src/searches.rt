@@ -11,12 +11,14 @@ ghost use Rattle.alphamu_core.specs.Costs.{IsWithin};
 ghost use Rattle.root_workers.specs.Rounds.{IsRound, IsSearchedAfter, size_after};
 
 use crate::rounds::Round;
-use alphamu_core::{Budget, Entered, Found, RootFault, SearchFault, exact_front, search};
+use alphamu_core::{Budget, Entered, Found, RaceFault, SearchFault, exact_front, search_in_race};
 use card_sets::Card;
 use dd_solver::Solver;
 use front_table::FrontStore;
 use pareto_fronts::Front;
+use search_race::Runner;
 use std::alloc::Global;
+use strategy_tree::RootFault;
 use trick_rules::Node;
 
 /// What a search found, and how many nodes it entered.
@@ -26,14 +28,15 @@ pub struct SearchResult {
     pub entered: Entered,
 }
 
-// Searches the node after a root card.
+// Searches the node after a root card, as a runner.
 fn searched<S: FrontStore>(
     round: &Round,
     store: &mut S,
     solver: &mut Solver,
+    runner: &Runner,
     child: &Node,
     alpha: &Front,
-) -> Result<SearchResult, SearchFault>
+) -> Result<SearchResult, RaceFault>
     requires round { IsRound round.now }
     requires width { alpha.now.width ≡ length child.now.lefts }
     ensures found { IfOk result (λ searched. IsFound child.now (round.now.moves - 1)
@@ -42,15 +45,17 @@ fn searched<S: FrontStore>(
     ensures within { IfOk result (λ searched. IsWithin round.now.nodes searched.entered) }
     ensures fits { round.now.rules ≡ no_cuts → S.blind ≡ true
         → IfOk result (λ _. tree_size bridge child.now (round.now.moves - 1) ≤ round.now.nodes) }
-    ensures spent { IsErrOf result SearchFault.Spent
+    ensures spent { IsErrOf result RaceFault.Spent
         → round.now.nodes < tree_size bridge child.now (round.now.moves - 1) }
+    ensures late { IsErrOf result RaceFault.Late → 1 < runner.now.runners }
     ensures grown { S.grown store.old store.new }
 {
     let mut budget = Budget::new(round.nodes);
-    let found = search(
+    let found = search_in_race(
         round.alloc,
         store,
         solver,
+        runner,
         &mut budget,
         child,
         round.moves - 1,
@@ -63,30 +68,27 @@ fn searched<S: FrontStore>(
     })
 }
 
-/// What a search finds after a root card, over a store.
+/// What a search finds after a root card, over a store, as a runner.
 pub fn after_card<S: FrontStore>(
     round: &Round,
     store: &mut S,
     solver: &mut Solver,
+    runner: &Runner,
     card: Card,
     alpha: &Front,
-) -> Result<SearchResult, RootFault>
+) -> Result<SearchResult, RaceFault>
     requires round { IsRound round.now }
     requires card { Contains (choices round.now.node.now) card }
     requires width { alpha.now.width ≡ length round.now.node.now.lefts }
     ensures searched { IfOk result (IsSearchedAfter round.now card alpha.now.vectors) }
     ensures fits { round.now.rules ≡ no_cuts → S.blind ≡ true
         → IfOk result (λ _. size_after round.now card ≤ round.now.nodes) }
-    ensures spent { (other : ℕ) → IsErrOf result (RootFault.Spent other)
-        → (other ≡ card) × (round.now.nodes < size_after round.now card) }
+    ensures spent { IsErrOf result RaceFault.Spent → round.now.nodes < size_after round.now card }
+    ensures late { IsErrOf result RaceFault.Late → 1 < runner.now.runners }
     ensures grown { S.grown store.old store.new }
 {
     let (child, _) = round.node.child(round.alloc, card)?;
-    match searched(round, store, solver, &child, alpha) {
-        Ok(searched) => Ok(searched),
-        Err(SearchFault::Spent) => Err(RootFault::Spent(card)),
-        Err(SearchFault::Memory) => Err(RootFault::Memory),
-    }
+    searched(round, store, solver, runner, &child, alpha)
 }
 
 /// The front with no moves: double dummy's result in each layout.

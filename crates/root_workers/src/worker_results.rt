@@ -3,9 +3,10 @@ ghost use Rattle.std.specs.Prelude.{◌≡◌, IfOk, IfErr};
 ghost use Rattle.root_workers.specs.Rounds.{known_as};
 
 use crate::searches::SearchResult;
-use alphamu_core::{Entered, Found, RootFault};
+use alphamu_core::{Entered, Found};
 use card_sets::Card;
 use pareto_fronts::Front;
+use strategy_tree::RootFault;
 
 /// What is known of a root card, and how many nodes its search entered.
 #[derive(Drop)]

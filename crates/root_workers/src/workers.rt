@@ -3,15 +3,18 @@ ghost use Rattle.std.specs.Prelude.{◌≤◌, IfOk, length};
 
 use crate::root::Options;
 use dd_solver::{SharedMemo, Solver};
+use search_race::{Race, Runner};
 use std::alloc::{AllocError, Global};
 use std::sync::Arc;
 use trick_rules::Node;
 
-/// A worker by its number, counted from 0, with a double-dummy solver of its own.
+/// A worker by its number, counted from 0, with a double-dummy solver of its own and its place in the
+/// race of all workers.
 #[derive(Drop)]
 pub struct RootWorker {
     pub number: u32,
     pub solver: Solver,
+    pub runner: Runner,
 }
 
 impl RootWorker {
@@ -20,6 +23,7 @@ impl RootWorker {
         RootWorker {
             number,
             solver: Solver::new(alloc),
+            runner: Runner::alone(),
         }
     }
 }
@@ -51,32 +55,32 @@ pub fn workers_for(
     Ok(workers)
 }
 
-// Gives all workers one memo of double dummy in place of their own. If there is no memory for it, each
-// keeps its own.
-fn share_memo(alloc: Global, workers: &mut [RootWorker]) {
-    let Ok(memo) = SharedMemo::new(alloc, workers.len()) else {
-        return;
-    };
-    let Ok(memo) = Arc::new(alloc, memo) else {
-        return;
-    };
+// Gives all workers one race, and one memo of double dummy in place of their own.
+fn join_up(alloc: Global, workers: &mut [RootWorker]) -> Result<(), AllocError> {
+    let memo = Arc::new(alloc, SharedMemo::new(alloc)?)?;
+    let race = Arc::new(alloc, Race::new(workers.len()))?;
     for place in 0..workers.len() {
-        if let Ok(shared) = Arc::try_clone(&memo) {
-            workers[place].solver = Solver::sharing(alloc, shared, place);
-        }
+        let shared = Arc::try_clone(&memo)?;
+        workers[place].runner = Runner::in_race(Arc::try_clone(&race)?, place);
+        workers[place].solver = Solver::sharing(alloc, shared);
     }
+    Ok(())
 }
 
-/// Whether the help of the other workers pays by now. If so, all of them have one memo, and none of
-/// them has answered yet.
+/// Whether the help of the other workers pays by now. If so, all of them have one memo and one race, in
+/// which none of them has answered yet; or if there is no memory for that, each goes on as before.
 ///
 /// No clause: no answer depends on it.
 pub fn wants_help(alloc: Global, workers: &mut [RootWorker]) -> bool {
-    if workers.len() < 2 || !workers[0].solver.wants_help() {
+    if workers.len() < 2 {
         return false;
     }
-    if !workers[0].solver.is_in_team() {
-        share_memo(alloc, workers);
+    let price = workers[0].runner.help_price();
+    if !workers[0].solver.has_kept(price) {
+        return false;
+    }
+    if workers[0].runner.is_alone() {
+        let _ = join_up(alloc, workers);
     }
     true
 }

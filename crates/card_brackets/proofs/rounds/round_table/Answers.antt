@@ -4,7 +4,7 @@ use Rattle.std.proofs.lemmas.Bool.{and_parts, not-true}
 use Rattle.std.proofs.lemmas.List.{take_all}
 use Rattle.trick_rules.specs.Nodes.{choices}
 use Rattle.strategy_tree.proofs.CardLists.{Contains-from_has_card}
-use Rattle.alphamu_core.specs.declared.answers.RootFault.TheVariants.{Spent}
+use Rattle.strategy_tree.specs.declared.root_fault.RootFault.TheVariants.{Spent}
 use Rattle.root_workers.proofs.Stops.{passed_on}
 use Rattle.card_brackets.specs.declared.rows.CardRow.{CardRow}
 use Rattle.card_brackets.specs.Rows.{IsRow, is_final, are_final}

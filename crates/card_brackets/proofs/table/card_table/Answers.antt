@@ -1,5 +1,5 @@
 use Rattle.std.proofs.Common.{◌<◌, ◌≤◌, true, false, true≢false, Err, refl, ap, sym, subst, rules, arith}
-use Rattle.alphamu_core.specs.declared.answers.RootFault.TheVariants.{Spent}
+use Rattle.strategy_tree.specs.declared.root_fault.RootFault.TheVariants.{Spent}
 use Rattle.root_workers.proofs.Stops.{passed_on}
 use Rattle.card_brackets.specs.Rows.{IsRoundWith}
 use Rattle.card_brackets.proofs.Tables.{open_none, open_more, open_within, table_up_to}

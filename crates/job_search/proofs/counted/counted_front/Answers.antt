@@ -2,7 +2,7 @@ use Rattle.std.proofs.Common.{◌∙◌, ℕ, List, length, Err, ap, sym, subst}
 use Rattle.std.proofs.lemmas.List.{length-replicate}
 use Rattle.strategy_games.specs.Choosing.{IsBestCount, IsBestWeight, IsNamedByWeight}
 use Rattle.strategy_tree.specs.Bridge.{bridge}
-use Rattle.alphamu_core.specs.declared.answers.RootFault.TheVariants.{Spent}
+use Rattle.strategy_tree.specs.declared.root_fault.RootFault.TheVariants.{Spent}
 use Rattle.job_search.proofs.Counts.{count_is, count_small, card_is}
 use Rattle.am_answer.proofs.Passed.{passed_on}
 use Rattle.job_search.proofs.counted.counted_front.Goals as goal

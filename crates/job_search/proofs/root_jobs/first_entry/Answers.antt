@@ -1,5 +1,5 @@
 use Rattle.std.proofs.Common.{Err, ap, arith}
-use Rattle.alphamu_core.specs.declared.answers.RootFault.TheVariants.{Spent}
+use Rattle.strategy_tree.specs.declared.root_fault.RootFault.TheVariants.{Spent}
 use Rattle.root_answers.proofs.ReportedFronts.{reported_filled}
 use Rattle.am_answer.proofs.Passed.{passed_on}
 use Rattle.job_search.proofs.Firsts.{first_target, first_chosen}

@@ -6,10 +6,10 @@ use Rattle.strategy_games.specs.Joins.{WinsByCard}
 use Rattle.strategy_games.proofs.Lists.{Contains-nil}
 use Rattle.strategy_tree.specs.Bridge.{bridge}
 use Rattle.strategy_tree.proofs.BridgeLaws.{steps}
-use Rattle.alphamu_core.specs.declared.answers.RootFault.TheVariants.{Spent}
+use Rattle.strategy_tree.specs.declared.root_fault.RootFault.TheVariants.{Spent}
 use Rattle.log_check.specs.declared.lines.Rule.TheVariants.{Union}
-use Rattle.log_maker.specs.LogsFor.{line_of}
-use Rattle.log_maker.specs.LogsFor.IsLogFrom.{at_declarer}
+use Rattle.log_check.specs.LogsFor.{line_of}
+use Rattle.log_check.specs.LogsFor.IsLogFrom.{at_declarer}
 use Rattle.log_texts.specs.Written.{WrittenLog, begun}
 use Rattle.plain_fronts.proofs.CardByCard.{member, our_width, declarer_end}
 use Rattle.log_maker.proofs.Faults.{passed_on}

@@ -6,7 +6,7 @@ use Rattle.strategy_games.proofs.Lists.{Contains-nil}
 use Rattle.strategy_tree.specs.Bridge.{bridge}
 use Rattle.strategy_tree.proofs.BridgeNodes.{tree_size-positive}
 use Rattle.log_check.specs.declared.lines.Rule.TheVariants.{Leaf}
-use Rattle.log_maker.specs.LogsFor.{line_of}
+use Rattle.log_check.specs.LogsFor.{line_of}
 use Rattle.log_maker.proofs.Depths.{decided_child}
 use Rattle.log_maker.proofs.RootLogs.{leaf_text, some_nodes}
 use Rattle.log_maker.proofs.root.log_where_decided.Goals as goal

@@ -1,5 +1,5 @@
 use Rattle.std.proofs.Common.{◌≡◌, Err, ap}
-use Rattle.alphamu_core.specs.declared.answers.RootFault.TheVariants.{Spent}
+use Rattle.strategy_tree.specs.declared.root_fault.RootFault.TheVariants.{Spent}
 use Rattle.plan_finder.proofs.WrittenPlans.{read_chosen}
 use Rattle.plan_finder.proofs.finder.plan_for.Goals as goal
 

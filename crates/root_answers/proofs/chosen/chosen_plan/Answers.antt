@@ -1,5 +1,5 @@
 use Rattle.std.proofs.Common.{Err, ap, subst}
-use Rattle.alphamu_core.specs.declared.answers.RootFault.TheVariants.{Spent}
+use Rattle.strategy_tree.specs.declared.root_fault.RootFault.TheVariants.{Spent}
 use Rattle.plan_finder.specs.declared.wanted.Wanted.{Wanted}
 use Rattle.plan_finder.specs.SpentPlans.{IsPlanSpentAt}
 use Rattle.root_workers.proofs.Stops.{passed_on}

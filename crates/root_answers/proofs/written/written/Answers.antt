@@ -1,7 +1,7 @@
 use Rattle.std.proofs.Common.{◌≡◌, ◌∙◌, ◌++◌, ℕ, List, [], Err, take, sym, ap, subst, arith}
 use Rattle.std.proofs.lemmas.List.{take_all}
 use Rattle.win_vectors.specs.Fronts.{Vector}
-use Rattle.alphamu_core.specs.declared.answers.RootFault.TheVariants.{Spent}
+use Rattle.strategy_tree.specs.declared.root_fault.RootFault.TheVariants.{Spent}
 use Rattle.plan_finder.specs.declared.wanted.Wanted.{Wanted}
 use Rattle.plan_finder.specs.SpentPlans.{IsPlanSpentAt}
 use Rattle.plan_finder.specs.Targets.{IsOfFront}

@@ -1,5 +1,5 @@
 use Rattle.std.proofs.Common.{◌≡◌, Err, length, ap, arith, rules}
-use Rattle.alphamu_core.specs.declared.answers.RootFault.TheVariants.{Spent}
+use Rattle.strategy_tree.specs.declared.root_fault.RootFault.TheVariants.{Spent}
 use Rattle.root_workers.proofs.Seen.{seen_more}
 use Rattle.root_workers.proofs.Stops.{passed_on}
 use Rattle.root_answers.proofs.ReportedFronts.{targets}

@@ -7,7 +7,7 @@ use Rattle.strategy_tree.specs.Bridge.{bridge}
 use Rattle.front_table.specs.Proven.{IsFrontAt}
 use Rattle.alphamu_core.specs.declared.answers.Found.{Found}
 use Rattle.alphamu_core.specs.declared.answers.Found.TheVariants.{Exact, Below}
-use Rattle.alphamu_core.specs.declared.answers.RootFault.TheVariants.{Spent}
+use Rattle.strategy_tree.specs.declared.root_fault.RootFault.TheVariants.{Spent}
 use Rattle.alphamu_core.specs.Findings.{IsFound, IsExact}
 use Rattle.root_workers.specs.Rounds.{IsPlainRound}
 use Rattle.strategy_tree.specs.RootTrees.{IsSpentAt, IsFirstSpentAt}

@@ -1,14 +1,14 @@
-use Rattle.std.proofs.Common.{◌≡◌, ◌∙◌, ◌-◌, ◌+◌, Err, refl, sym, ap, subst, arith}
+use Rattle.std.proofs.Common.{◌≡◌, ◌∙◌, ◌-◌, ◌+◌, refl, sym, ap, subst, arith}
 use Rattle.win_vectors.specs.Fronts.{CoversAll}
 use Rattle.pareto_fronts.specs.FrontValue.{FrontValue}
 use Rattle.trick_rules.specs.Positions.{PositionValue}
 use Rattle.trick_rules.specs.Play.{cards_left}
 use Rattle.front_table.specs.Proven.{IsFrontAt}
-use Rattle.alphamu_core.specs.declared.answers.SearchFault.TheVariants.{Memory}
+use Rattle.alphamu_core.specs.declared.answers.RaceFault.TheVariants.{Spent}
 use Rattle.alphamu_core.specs.Findings.{IsAnswer}
 use Rattle.alphamu_core.specs.Judging.{IsKnown}
 use Rattle.alphamu_core.specs.Limits.{IsUnknown}
-use Rattle.alphamu_core.specs.Costs.{Costs, EntersEach}
+use Rattle.alphamu_core.specs.Costs.{CostsBy, EntersEach}
 use Rattle.strategy_games.specs.Plans.{tree_size}
 use Rattle.strategy_tree.specs.Bridge.{bridge}
 use Rattle.strategy_tree.proofs.CardLists.{has_card-from_Contains}
@@ -17,7 +17,9 @@ use Rattle.strategy_tree.proofs.BridgeNodes.{stopped, tree_size-positive}
 use Rattle.alphamu_core.proofs.Bounds.{cuts_early, width_of_upper, never_reached}
 use Rattle.alphamu_core.proofs.OpenNodes.{is_open, fewer_by_five, size_ours, size_theirs}
 use Rattle.alphamu_core.proofs.Inherited.{known_theirs}
-use Rattle.alphamu_core.proofs.Paid.{costs_memory, costs_memory_first, costs_one, costs_none, costs_by_part, costs_of_part, paid_none, paid_more, paid_memory, paid_all, paid_below}
+use Rattle.alphamu_core.proofs.Paid.{costs_one, costs_none, costs_by_part, costs_of_part, paid_none, paid_more, paid_all, paid_below}
+use Rattle.alphamu_core.proofs.RacePaid.{costs_memory, costs_late, costs_memory_first, paid_memory}
+use Rattle.alphamu_core.specs.Races.{race_fault}
 use Rattle.alphamu_core.proofs.SameSearch.{same_none, same_more, still_early, costs_by}
 use Rattle.alphamu_core.proofs.OursSoFar.{ours_none, ours_all, ours_enough, ours_next, ours_width, ours_found_width, ours_more}
 use Rattle.alphamu_core.proofs.TheirsSoFar.{theirs_none, theirs_covered, theirs_all, theirs_cut, theirs_next, theirs_width, theirs_filled, theirs_exact, theirs_more}
@@ -276,7 +278,7 @@ open-returns-in-Settled-clause-costs g t c =
 pub open-returns-clause-costs : goal.open-returns-clause-costs
 open-returns-clause-costs g t c =
     let before = c.in_ok-found.ensures in
-    elim c.match-branch-3.branch as (λ _. Costs (EntersEach c.args.self.now.rules g.S.FrontStore.blind) (tree_size bridge c.args.question.now.node.now c.args.moves) (c.args.self.now.budget.now.left + 1) c.match-branch-3.self.budget.now.left c.match-branch-3.answer) [
+    elim c.match-branch-3.branch as (λ _. CostsBy Spent (EntersEach c.args.self.now.rules g.S.FrontStore.blind) (tree_size bridge c.args.question.now.node.now c.args.moves) (c.args.self.now.budget.now.left + 1) c.match-branch-3.self.budget.now.left c.match-branch-3.answer) [
       | open-in-Upper w ↦ rw (w.self-is, w.answer-is, ← before.unpaid) (costs_by before.same.rules w.in_made-answer.ensures.costs)
       | open-in-Open w ↦ rw (w.self-is, w.answer-is, ← before.unpaid) (costs_by before.same.rules w.by_cards-answer.ensures.costs)
     ]
@@ -293,13 +295,14 @@ open-returns-clause-same g t c =
       store = whole.store;
       budget = whole.budget;
       nodes = whole.nodes;
+      runner = whole.runner;
       rules = whole.rules;
       grown = g.met.S.FrontStore.grown_more c.args.self.now.store.now c.match-branch-3.self.store.now c.offer.new.store whole.grown c.offer.ensures;
     }
 
 pub visit-returns-in_err-enter-clause-costs : goal.visit-returns-in_err-enter-clause-costs
 visit-returns-in_err-enter-clause-costs g t c =
-    costs_none (EntersEach c.args.self.now.rules g.S.FrontStore.blind) (tree_size bridge c.args.node c.args.moves) c.args.self.now.budget.now.left c.enter.new.self.left c.from_residual.result c.in_err-enter.field-0.0 c.from_residual.ensures.1 (tree_size-positive c.args.node c.args.moves) c.in_err-enter.ensures.spent.0 c.in_err-enter.ensures.spent.1
+    costs_none (EntersEach c.args.self.now.rules g.S.FrontStore.blind) (tree_size bridge c.args.node c.args.moves) c.args.self.now.budget.now.left c.enter.new.self.left c.from_residual.result (race_fault c.in_err-enter.field-0.0) c.from_residual.ensures.1 (tree_size-positive c.args.node c.args.moves) c.in_err-enter.ensures.spent.0 c.in_err-enter.ensures.spent.1
 
 pub visit-returns-in_err-leaf-clause-costs : goal.visit-returns-in_err-leaf-clause-costs
 visit-returns-in_err-leaf-clause-costs g t c =
@@ -316,4 +319,4 @@ pub visit-returns-then-is_late-clause-costs : goal.visit-returns-then-is_late-cl
 visit-returns-then-is_late-clause-costs g t c =
     let some = tree_size-positive c.args.node c.args.moves in
     let paid = c.in_ok-enter.ensures.paid in
-    costs_memory (EntersEach c.args.self.now.rules g.S.FrontStore.blind) (tree_size bridge c.args.node c.args.moves) c.args.self.now.budget.now.left c.enter.new.self.left (Err Memory) refl (omega arith) (omega arith)
+    costs_late (EntersEach c.args.self.now.rules g.S.FrontStore.blind) (tree_size bridge c.args.node c.args.moves) c.args.self.now.budget.now.left c.enter.new.self.left (omega arith) (omega arith)

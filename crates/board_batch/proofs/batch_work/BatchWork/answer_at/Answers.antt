@@ -1,5 +1,5 @@
 use Rattle.std.proofs.Common.{◌≡◌, Err, subst}
-use Rattle.alphamu_core.specs.declared.answers.RootFault.{RootFault}
+use Rattle.strategy_tree.specs.declared.root_fault.RootFault.{RootFault}
 use Rattle.board_batch.specs.declared.fault.BatchFault.TheVariants.{Spent}
 use Rattle.board_batch.specs.Batches.{IsOutcome}
 use Rattle.board_batch.proofs.batch_work.BatchWork.answer_at.Goals as goal

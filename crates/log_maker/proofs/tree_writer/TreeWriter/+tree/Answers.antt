@@ -1,7 +1,7 @@
 use Rattle.std.proofs.Common.{[], List, ℕ, Err, sym, ap, subst, arith}
 use Rattle.alphamu_core.specs.declared.answers.SearchFault.TheVariants.{Spent}
 use Rattle.plain_fronts.proofs.CardByCard.{falls, child_fits, over_no_card, over_one_more, over_all}
-use Rattle.log_maker.specs.LogsFor.{line_of}
+use Rattle.log_check.specs.LogsFor.{line_of}
 use Rattle.log_maker.proofs.Faults.{passed_on}
 use Rattle.log_maker.proofs.Depths.{path_room, path_deeper}
 use Rattle.log_maker.proofs.Growing.{AreWritten, written_none}

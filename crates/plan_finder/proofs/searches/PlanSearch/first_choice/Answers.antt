@@ -1,5 +1,5 @@
 use Rattle.std.proofs.Common.{◌≡◌, ◌∙◌, ◌-◌, [], IfSome, sym, ap, subst, true≢false, Err}
-use Rattle.alphamu_core.specs.declared.answers.RootFault.TheVariants.{Spent}
+use Rattle.strategy_tree.specs.declared.root_fault.RootFault.TheVariants.{Spent}
 use Rattle.strategy_games.specs.Choosing.{IsPick}
 use Rattle.strategy_tree.specs.Bridge.{bridge}
 use Rattle.plan_finder.specs.Choices.{IsChoiceSpentAt}

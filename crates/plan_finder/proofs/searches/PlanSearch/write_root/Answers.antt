@@ -1,5 +1,5 @@
 use Rattle.std.proofs.Common.{◌≡◌, ◌∙◌, sym, ap, subst, Err, arith}
-use Rattle.alphamu_core.specs.declared.answers.RootFault.TheVariants.{Spent as RootSpent}
+use Rattle.strategy_tree.specs.declared.root_fault.RootFault.TheVariants.{Spent as RootSpent}
 use Rattle.plan_finder.specs.SpentPlans.{IsPlanSpentAt}
 use Rattle.plan_finder.proofs.SameSearch.{same_more, still_larger}
 use Rattle.plan_finder.proofs.Picks.{open_at, length-of_front, too_large_first, too_large_below, node_after, vector_after, passed_on}

@@ -5,7 +5,7 @@ use Rattle.strategy_tree.specs.Bridge.{bridge}
 use Rattle.cut_rules.specs.declared.CutRules.{CutRules}
 use Rattle.cut_rules.specs.declared.Stop.TheVariants.{SameFront, SameWeight}
 use Rattle.front_table.specs.Proven.{IsFrontAt}
-use Rattle.alphamu_core.specs.declared.answers.RootFault.TheVariants.{Spent}
+use Rattle.strategy_tree.specs.declared.root_fault.RootFault.TheVariants.{Spent}
 use Rattle.root_workers.proofs.Seen.{seen_more}
 use Rattle.root_workers.proofs.Stops.{passed_on, spent_more}
 use Rattle.root_workers.proofs.RootEnds.{spent_end}
