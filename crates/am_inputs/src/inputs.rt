@@ -106,10 +106,14 @@ fn read_job<S: Shelf>(
     }
 }
 
-// The files that the words name: the deal, then the layouts, then the report, then the log; for all
-// games of a deal, after it the layout file of each.
+/// Reads the files that a request names: the deal, then the layouts, then the report, then the log;
+/// for all games of a deal, after it the layout file of each.
 #[tactic(auto, unfolding(am_answer::specs::Files::named_read))]
-fn read_named<S: Shelf>(alloc: Global, shelf: &mut S, ask: NamedAsk<'_>) -> Result<Inputs, Status>
+pub fn read_named<S: Shelf>(
+    alloc: Global,
+    shelf: &mut S,
+    ask: NamedAsk<'_>,
+) -> Result<Inputs, Status>
     requires { IsWithinLimits (ask_of ask) }
     ensures within { IfOk result AreWithin }
     ensures read { IfSome (S.told shelf.old) (λ files.

@@ -3,8 +3,8 @@ use Rattle.std.proofs.Common.{◌≡◌, ℕ, List, refl, subst}
 use Rattle.strategy_tree.specs.RootTrees.{IsSpentAt}
 use Rattle.job_words.specs.declared.asks.Search.{Search}
 use Rattle.root_workers.specs.declared.root.Options.{Options}
-use Rattle.alphamu_core.specs.declared.answers.RootFault.{RootFault}
-use Rattle.alphamu_core.specs.declared.answers.RootFault.TheVariants.{Spent, Memory}
+use Rattle.strategy_tree.specs.declared.root_fault.RootFault.{RootFault}
+use Rattle.strategy_tree.specs.declared.root_fault.RootFault.TheVariants.{Spent, Memory}
 use Rattle.am_answer.specs.declared.root.Root.{Root}
 use Rattle.am_answer.specs.Refusals.{root_status}
 use Rattle.card_brackets.specs.declared.table.CardTable.{CardTable}

@@ -6,8 +6,8 @@ use Rattle.strategy_tree.specs.RootTrees.{IsSpentAt}
 use Rattle.pbn_deal.specs.Boards.{BoardValue}
 use Rattle.layout_list.specs.declared.fault.LayoutFault.{LayoutFault}
 use Rattle.layout_list.specs.declared.fault.LayoutFault.TheVariants as faults
-use Rattle.alphamu_core.specs.declared.answers.RootFault.{RootFault}
-use Rattle.alphamu_core.specs.declared.answers.RootFault.TheVariants.{Spent, Memory}
+use Rattle.strategy_tree.specs.declared.root_fault.RootFault.{RootFault}
+use Rattle.strategy_tree.specs.declared.root_fault.RootFault.TheVariants.{Spent, Memory}
 use Rattle.am_answer.specs.Refusals.{layout_status, root_status}
 use Rattle.board_decisions.specs.declared.list.Decision.{Decision}
 use Rattle.board_decisions.specs.Decisions.{AreDecisions, IsFaultBefore}

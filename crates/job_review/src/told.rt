@@ -7,7 +7,6 @@ ghost use Rattle.trick_rules.specs.Nodes.{choices};
 ghost use Rattle.card_brackets.specs.declared.rows.CardRow.{CardRow};
 ghost use Rattle.job_review.specs.Reviews.{IsRowOf, IsToldOf};
 
-use alphamu_core::RootFault;
 use board_decisions::{Decision, trick_of};
 use card_brackets::{CardRow, CardTable, card_table};
 use card_forms::weight_of_all;
@@ -16,6 +15,7 @@ use pbn_deal::Board;
 use review_text::Reviewed;
 use root_workers::Question;
 use shared_table::Pass;
+use strategy_tree::RootFault;
 
 // The row of a card in a table that has one.
 fn row_of(table: &CardTable, card: Card) -> CardRow

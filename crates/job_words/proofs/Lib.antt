@@ -1,4 +1,5 @@
 mod CommandLemmas
 mod NumberLemmas
 mod PlainLemmas
+mod PlaceLemmas
 mod TextLemmas

@@ -1,5 +1,5 @@
 -- The command whose options the words are, as clap reads it.
-use Rattle.std.specs.Prelude.{◌++◌, ◌∷◌, List, [], Some, map, fold, codes, true}
+use Rattle.std.specs.Prelude.{◌∷◌, List, [], Some, map, fold, codes, true}
 use Rattle.clap.specs.Walk.{Rule, Text}
 use Rattle.clap.specs.Simple.{App, new_rule, new_shape, with_rule}
 use Rattle.clap.specs.declared.builder.action.ArgAction.TheVariants.{Set, SetTrue}
@@ -14,10 +14,11 @@ flag_option name = record (new_rule name) { long = Some name; action = Some SetT
 
 abbrev pub value_names : List Text
 value_names = codes "job" ∷ codes "deal" ∷ codes "layouts" ∷ codes "report" ∷ codes "moves"
-    ∷ codes "number" ∷ codes "layout" ∷ codes "switch" ∷ codes "log" ∷ codes "nodes" ∷ codes "workers" ∷ codes "shards" ∷ codes "room" ∷ []
+    ∷ codes "number" ∷ codes "layout" ∷ codes "switch" ∷ codes "log" ∷ codes "nodes" ∷ codes "workers" ∷ codes "shards" ∷ codes "room"
+    ∷ codes "form" ∷ codes "from" ∷ []
 
 abbrev pub flag_names : List Text
-flag_names = codes "no-table" ∷ codes "no-cuts" ∷ []
+flag_names = codes "no-table" ∷ codes "no-cuts" ∷ codes "games" ∷ []
 
 -- a command with no options, no help and no version, whose words don't begin with its name
 abbrev pub bare_command : App
@@ -31,7 +32,10 @@ bare_command = record {
   subs = [];
 }
 
+-- the command with these options and no flags
+unfoldable pub value_command : App
+value_command = fold with_rule bare_command (map value_option value_names)
+
 -- the command with these options and flags and no others, none of which it requires
 unfoldable pub option_command : App
-option_command =
-    fold with_rule bare_command (map value_option value_names ++ map flag_option flag_names)
+option_command = fold with_rule value_command (map flag_option flag_names)

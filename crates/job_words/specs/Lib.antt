@@ -3,5 +3,7 @@ pub mod Options
 pub mod Values
 pub mod Table
 pub mod Asks
+pub mod StudyAsks
 pub mod Words
+pub mod StudyWords
 pub mod Plain

@@ -30,6 +30,9 @@ pub record OptionValues : Type 0 where
   pub log : Option Text
   pub nodes : Option Text
   pub search : SearchOptionValues
+  pub form : Option Text
+  pub from : Option Text
+  pub games : Bool
 
 -- a flag holds the text `true` if it was given
 abbrev pub has_flag : Text → List Row → Bool
@@ -55,6 +58,9 @@ options_at rows = record {
     no_table = has_flag (codes "no-table") rows;
     no_cuts = has_flag (codes "no-cuts") rows;
   };
+  form = first_of (codes "form") rows;
+  from = first_of (codes "from") rows;
+  games = has_flag (codes "games") rows;
 }
 
 -- the values in the words, where clap finds no fault in them
@@ -86,4 +92,7 @@ options_of o = record {
   log = option_map (λ s. s.now) o.log;
   nodes = option_map (λ s. s.now) o.nodes;
   search = search_options_of o.search;
+  form = option_map (λ s. s.now) o.form;
+  from = option_map (λ s. s.now) o.from;
+  games = o.games;
 }

@@ -1,7 +1,9 @@
--- What the words of the command line ask for.
-use Rattle.std.specs.Prelude.{◌*◌, ◌-◌, ◌^◌, ℕ, Bool, not, List, Option, Some, None, codes, nat_le, option_and_then, option_map, if◌then◌else◌}
+-- What the words of the command line ask of `alphamu`.
+use Rattle.std.specs.Prelude.{◌*◌, ◌-◌, ◌^◌, ◌||◌, ◌++◌, ℕ, Bool, not, List, [], ◌∷◌, length, Option, Some, None, Result, Ok, Err, codes, nat_le, is_some, ok_or, option_and_then, if◌then◌else◌}
 use Rattle.std.specs.List.{list_any}
+use Rattle.std.specs.Result.{result_ok}
 use Rattle.std.specs.Str.{bytes_eq}
+use Rattle.byte_text.specs.Steps.{◌>>=◌}
 use Rattle.trick_rules.specs.Nodes.{most_moves}
 use Rattle.job_words.specs.declared.asks.Search.{Search}
 use Rattle.job_words.specs.declared.table.Job as jobs
@@ -10,35 +12,38 @@ use Rattle.job_words.specs.declared.asks.Ask.TheVariants.{OnLayouts, Boards, Mad
 use Rattle.job_words.specs.declared.asks.LayoutsJob.TheVariants.{Solve, Card, Match, Check, Fusion, Prove, Audit}
 use Rattle.job_words.specs.Asks.{AskValue, LayoutsJobValue, most_entries, most_logged}
 use Rattle.job_words.specs.Options.{OptionValues, options_read}
-use Rattle.job_words.specs.Values.{file_named, job_named, number_in, number_or}
-use Rattle.job_words.specs.Table.{keeps_to, uses_by}
+use Rattle.job_words.specs.declared.bad_word.BadWord.{BadWord}
+use Rattle.job_words.specs.declared.bad_word.BadWord.TheVariants.{Missing, Value}
+use Rattle.job_words.specs.declared.bad_word.OptionName.TheVariants as name
+use Rattle.job_words.specs.Values.{file_of, job_named, number_of, number_or, result_map}
+use Rattle.job_words.specs.Table.{misused, uses_by}
 
-infixl 10 ◌>>=◌
--- a step, and then the next; a step that refuses ends them
-abbrev pub ◌>>=◌ : {A B : Type 0} → Option A → (A → Option B) → Option B
-step >>= next = option_and_then next step
+-- what is named, unless it comes with a fault
+abbrev pub unless_fault : {A : Type 0} → Option BadWord → A → Result A BadWord
+unless_fault None named = Ok named
+unless_fault (Some fault) named = Err fault
 
--- the job that the options name, where they are those that it takes
-unfoldable pub job_in : OptionValues → Option jobs.Job
+-- the job that the options name, if they are those that it takes
+unfoldable pub job_in : OptionValues → Result jobs.Job BadWord
 job_in o = do
-  name ← o.job
-  job ← job_named name
-  if keeps_to (uses_by job) o then Some job else None
+  text ← ok_or o.job (Missing name.Job)
+  job ← ok_or (job_named text) (Value name.Job)
+  unless_fault (misused (uses_by job) o) job
 
 -- the shards of the table and the room of each, for 262,144 entries in all at most
-unfoldable pub table_in : OptionValues → Option (ℕ × ℕ)
+unfoldable pub table_in : OptionValues → Result (ℕ × ℕ) BadWord
 table_in o = do
-  shards ← number_or 16 1 64 o.search.shards
-  room ← number_or 16384 1 65536 o.search.room
-  if nat_le (shards * room) most_entries then Some (shards, room) else None
+  shards ← number_or name.Shards 16 1 64 o.search.shards
+  room ← number_or name.Room 16384 1 65536 o.search.room
+  if nat_le (shards * room) most_entries then Ok (shards, room) else Err (Value name.Room)
 
 -- how to search
-unfoldable pub search_in : OptionValues → Option Search
+unfoldable pub search_in : OptionValues → Result Search BadWord
 search_in o = do
-  nodes ← number_or 10000000 1 (2 ^ 64 - 1) o.nodes
-  workers ← number_or 1 1 64 o.search.workers
+  nodes ← number_or name.Nodes 10000000 1 (2 ^ 64 - 1) o.nodes
+  workers ← number_or name.Workers 1 1 64 o.search.workers
   size ← table_in o
-  Some (record {
+  Ok (record {
     nodes = nodes;
     workers = workers;
     shards = size.0;
@@ -48,91 +53,91 @@ search_in o = do
   })
 
 -- how many cards of declarer's side a search goes through
-unfoldable pub moves_in : OptionValues → Option ℕ
-moves_in o = o.moves >>= number_in 1 most_moves
+unfoldable pub moves_in : OptionValues → Result ℕ BadWord
+moves_in o = number_of name.Moves 1 most_moves o.moves
 
 -- every best trade-off, by a search
-unfoldable pub solve_in : OptionValues → Option LayoutsJobValue
+unfoldable pub solve_in : OptionValues → Result LayoutsJobValue BadWord
 solve_in o = do
   moves ← moves_in o
   search ← search_in o
-  Some (Solve moves search)
+  Ok (Solve moves search)
 
 -- the card to play, by the same search
-unfoldable pub card_in : OptionValues → Option LayoutsJobValue
+unfoldable pub card_in : OptionValues → Result LayoutsJobValue BadWord
 card_in o = do
   moves ← moves_in o
   search ← search_in o
-  Some (Card moves search)
+  Ok (Card moves search)
 
 -- the number of the card before which another defender comes in, where one is to come
-abbrev pub switch_or_none : Option (List ℕ) → Option (Option ℕ)
-switch_or_none None = Some None
-switch_or_none (Some text) = option_map Some (number_in 1 52 text)
+abbrev pub switch_or_none : Option (List ℕ) → Result (Option ℕ) BadWord
+switch_or_none None = Ok None
+switch_or_none (Some text) = result_map Some (number_of name.Switch 1 52 (Some text))
 
-unfoldable pub switch_in : OptionValues → Option (Option ℕ)
+unfoldable pub switch_in : OptionValues → Result (Option ℕ) BadWord
 switch_in o = switch_or_none o.switch
 
 -- the first strategy of the front by the same search, played out in one layout
-unfoldable pub match_in : OptionValues → Option LayoutsJobValue
+unfoldable pub match_in : OptionValues → Result LayoutsJobValue BadWord
 match_in o = do
   moves ← moves_in o
   search ← search_in o
-  layout ← o.layout >>= number_in 1 256
+  layout ← number_of name.Layout 1 256 o.layout
   switch ← switch_in o
-  Some (Match moves search layout switch)
+  Ok (Match moves search layout switch)
 
 -- the check of a report
-unfoldable pub check_in : OptionValues → Option LayoutsJobValue
+unfoldable pub check_in : OptionValues → Result LayoutsJobValue BadWord
 check_in o = do
-  report ← o.report >>= file_named
-  Some (Check report)
+  report ← file_of name.Report o.report
+  Ok (Check report)
 
 -- the log that proves a front complete, if the tree of each card has at most this many nodes
-unfoldable pub prove_in : OptionValues → Option LayoutsJobValue
+unfoldable pub prove_in : OptionValues → Result LayoutsJobValue BadWord
 prove_in o = do
   moves ← moves_in o
-  nodes ← number_or 10000000 1 most_logged o.nodes
-  Some (Prove moves nodes)
+  nodes ← number_or name.Nodes 10000000 1 most_logged o.nodes
+  Ok (Prove moves nodes)
 
 -- the audit of a report by a log
-unfoldable pub audit_in : OptionValues → Option LayoutsJobValue
+unfoldable pub audit_in : OptionValues → Result LayoutsJobValue BadWord
 audit_in o = do
-  report ← o.report >>= file_named
-  log ← o.log >>= file_named
-  Some (Audit report log)
+  report ← file_of name.Report o.report
+  log ← file_of name.Log o.log
+  Ok (Audit report log)
 
 -- a job on the two files
-unfoldable pub on_layouts : OptionValues → LayoutsJobValue → Option AskValue
+unfoldable pub on_layouts : OptionValues → LayoutsJobValue → Result AskValue BadWord
 on_layouts o job = do
-  deal ← o.deal >>= file_named
-  layouts ← o.layouts >>= file_named
-  Some (OnLayouts deal layouts job)
+  deal ← file_of name.Deal o.deal
+  layouts ← file_of name.Layouts o.layouts
+  Ok (OnLayouts deal layouts job)
 
 -- all layouts of a deal
-unfoldable pub list_in : OptionValues → Option AskValue
+unfoldable pub list_in : OptionValues → Result AskValue BadWord
 list_in o = do
-  deal ← o.deal >>= file_named
-  Some (asks.List deal)
+  deal ← file_of name.Deal o.deal
+  Ok (asks.List deal)
 
 -- the problem made from a number
-unfoldable pub made_in : OptionValues → Option AskValue
+unfoldable pub made_in : OptionValues → Result AskValue BadWord
 made_in o = do
-  number ← o.number >>= number_in 0 (2 ^ 64 - 1)
+  number ← number_of name.Number 0 (2 ^ 64 - 1) o.number
   search ← search_in o
-  Some (Made number search)
+  Ok (Made number search)
 
 -- every game of a deal, by a search
-unfoldable pub boards_in : OptionValues → Option AskValue
+unfoldable pub boards_in : OptionValues → Result AskValue BadWord
 boards_in o = do
-  deal ← o.deal >>= file_named
-  layouts ← o.layouts >>= file_named
+  deal ← file_of name.Deal o.deal
+  layouts ← file_of name.Layouts o.layouts
   moves ← moves_in o
   search ← search_in o
-  Some (Boards (record { deal = deal; layouts = layouts }) moves search)
+  Ok (Boards (record { deal = deal; layouts = layouts }) moves search)
 
 -- what the options ask for, by the job
-abbrev pub ask_by : jobs.Job → OptionValues → Option AskValue
+abbrev pub ask_by : jobs.Job → OptionValues → Result AskValue BadWord
 ask_by jobs.TheVariants.Solve o = solve_in o >>= on_layouts o
 ask_by jobs.TheVariants.Card o = card_in o >>= on_layouts o
 ask_by jobs.TheVariants.Match o = match_in o >>= on_layouts o
@@ -145,7 +150,7 @@ ask_by jobs.TheVariants.Audit o = audit_in o >>= on_layouts o
 ask_by jobs.TheVariants.Boards o = boards_in o
 
 -- what the options ask for
-unfoldable pub ask_in : OptionValues → Option AskValue
+unfoldable pub ask_in : OptionValues → Result AskValue BadWord
 ask_in o = do
   job ← job_in o
   ask_by job o
@@ -154,6 +159,26 @@ ask_in o = do
 abbrev pub has_two_dashes : List (List ℕ) → Bool
 has_two_dashes = list_any (λ word. bytes_eq word (codes "--"))
 
--- what the words ask for, where they ask for anything
+-- the options in the words, if these are nothing but options with their values
+unfoldable pub options_found : List (List ℕ) → Option OptionValues
+options_found words = if has_two_dashes words then None else options_read words
+
+-- what the words ask for, if they ask for anything
 unfoldable pub words_read : List (List ℕ) → Option AskValue
-words_read words = if has_two_dashes words then None else options_read words >>= ask_in
+words_read words = option_and_then (λ o. result_ok (ask_in o)) (options_found words)
+
+-- ---- the first word that isn't understood
+
+-- the words are options with their values, or would be with one more value
+abbrev pub are_begun : List (List ℕ) → Bool
+are_begun words = is_some (options_found words) || is_some (options_found (words ++ codes "0" ∷ []))
+
+-- the place of the first of the later words at which the words up to there are no such words; if there is none, of their end
+abbrev pub bad_place_after : List (List ℕ) → List (List ℕ) → ℕ
+bad_place_after words [] = length words
+bad_place_after words (word ∷ later) =
+    if are_begun (words ++ word ∷ []) then bad_place_after (words ++ word ∷ []) later else length words
+
+-- the place of the first word that is neither an option nor a value, counted from 0; if there is none, that of their end
+abbrev pub bad_place : List (List ℕ) → ℕ
+bad_place words = bad_place_after [] words

@@ -1,24 +1,25 @@
-//! What the options ask for, by the job that they name.
-ghost use Rattle.std.specs.Prelude.{◌≡◌, ◌≤◌, ◌*◌, IfSome, option_map};
+//! What the options ask of `alphamu`, by the job that they name.
+ghost use Rattle.std.specs.Prelude.{◌≡◌, ◌≤◌, ◌*◌, IfOk, IfSome};
 ghost use Rattle.job_words.specs.Asks.{IsJobWithinLimits, IsMoves, IsSearchWithinLimits};
 ghost use Rattle.job_words.specs.Asks.{IsSwitch, IsWithinLimits, ask_of, job_of, most_entries};
 ghost use Rattle.job_words.specs.Options.{options_of};
+ghost use Rattle.job_words.specs.Values.{result_map};
 ghost use Rattle.job_words.specs.Words.{ask_in, audit_in, boards_in, card_in, check_in, job_in};
 ghost use Rattle.job_words.specs.Words.{list_in, made_in, match_in, moves_in, on_layouts, prove_in};
 ghost use Rattle.job_words.specs.Words.{search_in, solve_in, switch_in, table_in};
 
 use crate::asks::{Ask, GameNames, LayoutsJob, MOST_ENTRIES, MOST_LOGGED, NamedAsk, Search};
+use crate::bad_word::{BadWord, OptionName};
 use crate::options::Options;
 use crate::table::{Job, uses_by};
-use crate::values::{file_named, job_named, number_in, number_or};
+use crate::values::{file_of, job_named, number_of, number_or};
 use trick_rules::MOST_MOVES;
 
-/// What the options ask for, or None where they aren't those of a job, or a value of theirs is
-/// refused.
+/// What the options ask for, or what in them isn't understood.
 #[tactic(auto, unfolding(crate::specs::Words::ask_in))]
-pub(crate) fn ask_in<'a>(options: &Options<'a>) -> Option<NamedAsk<'a>>
-    ensures ask { option_map ask_of result ≡ ask_in (options_of options.now) }
-    ensures limits { IfSome result (λ ask. IsWithinLimits (ask_of ask)) }
+pub(crate) fn ask_in<'a>(options: &Options<'a>) -> Result<NamedAsk<'a>, BadWord>
+    ensures ask { result_map ask_of result ≡ ask_in (options_of options.now) }
+    ensures limits { IfOk result (λ ask. IsWithinLimits (ask_of ask)) }
 {
     match job_in(options)? {
         Job::Solve => on_layouts(options, solve_in(options)?),
@@ -35,41 +36,41 @@ pub(crate) fn ask_in<'a>(options: &Options<'a>) -> Option<NamedAsk<'a>>
 }
 
 #[tactic(auto, unfolding(crate::specs::Words::job_in))]
-fn job_in(options: &Options<'_>) -> Option<Job>
+fn job_in(options: &Options<'_>) -> Result<Job, BadWord>
     ensures { result ≡ job_in (options_of options.now) }
 {
-    let job = job_named(options.job?)?;
-    if uses_by(job).keeps_to(options) {
-        Some(job)
-    } else {
-        None
+    let name = options.job.ok_or(BadWord::Missing(OptionName::Job))?;
+    let job = job_named(name).ok_or(BadWord::Value(OptionName::Job))?;
+    match uses_by(job).misused(options) {
+        Some(fault) => Err(fault),
+        None => Ok(job),
     }
 }
 
 #[tactic(auto, unfolding(crate::specs::Words::table_in))]
-fn table_in(options: &Options<'_>) -> Option<(u32, u32)>
+fn table_in(options: &Options<'_>) -> Result<(u32, u32), BadWord>
     ensures size { result ≡ table_in (options_of options.now) }
-    ensures limits { IfSome result (λ size. (1 ≤ size.0) × (size.0 ≤ 64) × (1 ≤ size.1)
+    ensures limits { IfOk result (λ size. (1 ≤ size.0) × (size.0 ≤ 64) × (1 ≤ size.1)
         × (size.1 ≤ 65536) × (size.0 * size.1 ≤ most_entries)) }
 {
-    let shards = number_or(16, 1, 64, options.search.shards)?;
-    let room = number_or(16_384, 1, 65_536, options.search.room)?;
+    let shards = number_or(OptionName::Shards, 16, 1, 64, options.search.shards)?;
+    let room = number_or(OptionName::Room, 16_384, 1, 65_536, options.search.room)?;
     if shards * room <= MOST_ENTRIES {
-        Some((shards as u32, room as u32))
+        Ok((shards as u32, room as u32))
     } else {
-        None
+        Err(BadWord::Value(OptionName::Room))
     }
 }
 
 #[tactic(auto, unfolding(crate::specs::Words::search_in))]
-fn search_in(options: &Options<'_>) -> Option<Search>
+fn search_in(options: &Options<'_>) -> Result<Search, BadWord>
     ensures search { result ≡ search_in (options_of options.now) }
-    ensures limits { IfSome result IsSearchWithinLimits }
+    ensures limits { IfOk result IsSearchWithinLimits }
 {
-    let nodes = number_or(10_000_000, 1, u64::MAX, options.nodes)?;
-    let workers = number_or(1, 1, 64, options.search.workers)?;
+    let nodes = number_or(OptionName::Nodes, 10_000_000, 1, u64::MAX, options.nodes)?;
+    let workers = number_or(OptionName::Workers, 1, 1, 64, options.search.workers)?;
     let (shards, room) = table_in(options)?;
-    Some(Search {
+    Ok(Search {
         nodes,
         workers: workers as u32,
         shards,
@@ -80,58 +81,58 @@ fn search_in(options: &Options<'_>) -> Option<Search>
 }
 
 #[tactic(auto, unfolding(crate::specs::Words::moves_in))]
-fn moves_in(options: &Options<'_>) -> Option<u8>
+fn moves_in(options: &Options<'_>) -> Result<u8, BadWord>
     ensures moves { result ≡ moves_in (options_of options.now) }
-    ensures limits { IfSome result IsMoves }
+    ensures limits { IfOk result IsMoves }
 {
-    let moves = number_in(1, u64::from(MOST_MOVES), options.moves?)?;
-    Some(moves as u8)
+    let moves = number_of(OptionName::Moves, 1, u64::from(MOST_MOVES), options.moves)?;
+    Ok(moves as u8)
 }
 
 #[tactic(auto, unfolding(crate::specs::Words::solve_in))]
-fn solve_in<'a>(options: &Options<'a>) -> Option<LayoutsJob<&'a str>>
-    ensures job { option_map job_of result ≡ solve_in (options_of options.now) }
-    ensures limits { IfSome result (λ job. IsJobWithinLimits (job_of job)) }
+pub(crate) fn solve_in<'a>(options: &Options<'a>) -> Result<LayoutsJob<&'a str>, BadWord>
+    ensures job { result_map job_of result ≡ solve_in (options_of options.now) }
+    ensures limits { IfOk result (λ job. IsJobWithinLimits (job_of job)) }
 {
     let moves = moves_in(options)?;
     let search = search_in(options)?;
-    Some(LayoutsJob::Solve { moves, search })
+    Ok(LayoutsJob::Solve { moves, search })
 }
 
 #[tactic(auto, unfolding(crate::specs::Words::card_in))]
-fn card_in<'a>(options: &Options<'a>) -> Option<LayoutsJob<&'a str>>
-    ensures job { option_map job_of result ≡ card_in (options_of options.now) }
-    ensures limits { IfSome result (λ job. IsJobWithinLimits (job_of job)) }
+pub(crate) fn card_in<'a>(options: &Options<'a>) -> Result<LayoutsJob<&'a str>, BadWord>
+    ensures job { result_map job_of result ≡ card_in (options_of options.now) }
+    ensures limits { IfOk result (λ job. IsJobWithinLimits (job_of job)) }
 {
     let moves = moves_in(options)?;
     let search = search_in(options)?;
-    Some(LayoutsJob::Card { moves, search })
+    Ok(LayoutsJob::Card { moves, search })
 }
 
 #[tactic(auto, unfolding(crate::specs::Words::switch_in))]
-fn switch_in(options: &Options<'_>) -> Option<Option<u16>>
+fn switch_in(options: &Options<'_>) -> Result<Option<u16>, BadWord>
     ensures switch { result ≡ switch_in (options_of options.now) }
-    ensures limits { IfSome result (λ switch. IfSome switch IsSwitch) }
+    ensures limits { IfOk result (λ switch. IfSome switch IsSwitch) }
 {
     match options.switch {
-        Some(text) => {
-            let at = number_in(1, 52, text)?;
-            Some(Some(at as u16))
+        Some(_) => {
+            let at = number_of(OptionName::Switch, 1, 52, options.switch)?;
+            Ok(Some(at as u16))
         }
-        None => Some(None),
+        None => Ok(None),
     }
 }
 
 #[tactic(auto, unfolding(crate::specs::Words::match_in))]
-fn match_in<'a>(options: &Options<'a>) -> Option<LayoutsJob<&'a str>>
-    ensures job { option_map job_of result ≡ match_in (options_of options.now) }
-    ensures limits { IfSome result (λ job. IsJobWithinLimits (job_of job)) }
+fn match_in<'a>(options: &Options<'a>) -> Result<LayoutsJob<&'a str>, BadWord>
+    ensures job { result_map job_of result ≡ match_in (options_of options.now) }
+    ensures limits { IfOk result (λ job. IsJobWithinLimits (job_of job)) }
 {
     let moves = moves_in(options)?;
     let search = search_in(options)?;
-    let layout = number_in(1, 256, options.layout?)?;
+    let layout = number_of(OptionName::Layout, 1, 256, options.layout)?;
     let switch = switch_in(options)?;
-    Some(LayoutsJob::Match {
+    Ok(LayoutsJob::Match {
         moves,
         search,
         layout: layout as u16,
@@ -140,66 +141,69 @@ fn match_in<'a>(options: &Options<'a>) -> Option<LayoutsJob<&'a str>>
 }
 
 #[tactic(auto, unfolding(crate::specs::Words::check_in))]
-fn check_in<'a>(options: &Options<'a>) -> Option<LayoutsJob<&'a str>>
-    ensures job { option_map job_of result ≡ check_in (options_of options.now) }
-    ensures limits { IfSome result (λ job. IsJobWithinLimits (job_of job)) }
+pub(crate) fn check_in<'a>(options: &Options<'a>) -> Result<LayoutsJob<&'a str>, BadWord>
+    ensures job { result_map job_of result ≡ check_in (options_of options.now) }
+    ensures limits { IfOk result (λ job. IsJobWithinLimits (job_of job)) }
 {
-    let report = file_named(options.report?)?;
-    Some(LayoutsJob::Check { report })
+    let report = file_of(OptionName::Report, options.report)?;
+    Ok(LayoutsJob::Check { report })
 }
 
 #[tactic(auto, unfolding(crate::specs::Words::prove_in))]
-fn prove_in<'a>(options: &Options<'a>) -> Option<LayoutsJob<&'a str>>
-    ensures job { option_map job_of result ≡ prove_in (options_of options.now) }
-    ensures limits { IfSome result (λ job. IsJobWithinLimits (job_of job)) }
+fn prove_in<'a>(options: &Options<'a>) -> Result<LayoutsJob<&'a str>, BadWord>
+    ensures job { result_map job_of result ≡ prove_in (options_of options.now) }
+    ensures limits { IfOk result (λ job. IsJobWithinLimits (job_of job)) }
 {
     let moves = moves_in(options)?;
-    let nodes = number_or(10_000_000, 1, MOST_LOGGED, options.nodes)?;
-    Some(LayoutsJob::Prove { moves, nodes })
+    let nodes = number_or(OptionName::Nodes, 10_000_000, 1, MOST_LOGGED, options.nodes)?;
+    Ok(LayoutsJob::Prove { moves, nodes })
 }
 
 #[tactic(auto, unfolding(crate::specs::Words::audit_in))]
-fn audit_in<'a>(options: &Options<'a>) -> Option<LayoutsJob<&'a str>>
-    ensures job { option_map job_of result ≡ audit_in (options_of options.now) }
-    ensures limits { IfSome result (λ job. IsJobWithinLimits (job_of job)) }
+fn audit_in<'a>(options: &Options<'a>) -> Result<LayoutsJob<&'a str>, BadWord>
+    ensures job { result_map job_of result ≡ audit_in (options_of options.now) }
+    ensures limits { IfOk result (λ job. IsJobWithinLimits (job_of job)) }
 {
-    let report = file_named(options.report?)?;
-    let log = file_named(options.log?)?;
-    Some(LayoutsJob::Audit { report, log })
+    let report = file_of(OptionName::Report, options.report)?;
+    let log = file_of(OptionName::Log, options.log)?;
+    Ok(LayoutsJob::Audit { report, log })
 }
 
 #[tactic(auto, unfolding(crate::specs::Words::on_layouts))]
-fn on_layouts<'a>(options: &Options<'a>, job: LayoutsJob<&'a str>) -> Option<NamedAsk<'a>>
-    ensures ask { option_map ask_of result
+pub(crate) fn on_layouts<'a>(
+    options: &Options<'a>,
+    job: LayoutsJob<&'a str>,
+) -> Result<NamedAsk<'a>, BadWord>
+    ensures ask { result_map ask_of result
         ≡ on_layouts (options_of options.now) (job_of job.entry) }
     ensures limits { IsJobWithinLimits (job_of job.entry)
-        → IfSome result (λ ask. IsWithinLimits (ask_of ask)) }
+        → IfOk result (λ ask. IsWithinLimits (ask_of ask)) }
 {
-    let deal = file_named(options.deal?)?;
-    let layouts = file_named(options.layouts?)?;
-    Some(Ask::OnLayouts { deal, layouts, job })
+    let deal = file_of(OptionName::Deal, options.deal)?;
+    let layouts = file_of(OptionName::Layouts, options.layouts)?;
+    Ok(Ask::OnLayouts { deal, layouts, job })
 }
 
 #[tactic(auto, unfolding(crate::specs::Words::list_in))]
-fn list_in<'a>(options: &Options<'a>) -> Option<NamedAsk<'a>>
-    ensures ask { option_map ask_of result ≡ list_in (options_of options.now) }
-    ensures limits { IfSome result (λ ask. IsWithinLimits (ask_of ask)) }
+fn list_in<'a>(options: &Options<'a>) -> Result<NamedAsk<'a>, BadWord>
+    ensures ask { result_map ask_of result ≡ list_in (options_of options.now) }
+    ensures limits { IfOk result (λ ask. IsWithinLimits (ask_of ask)) }
 {
-    let deal = file_named(options.deal?)?;
-    Some(Ask::List { deal })
+    let deal = file_of(OptionName::Deal, options.deal)?;
+    Ok(Ask::List { deal })
 }
 
 #[tactic(auto, unfolding(crate::specs::Words::boards_in))]
-fn boards_in<'a>(options: &Options<'a>) -> Option<NamedAsk<'a>>
-    ensures ask { option_map ask_of result ≡ boards_in (options_of options.now) }
-    ensures limits { IfSome result (λ ask. IsWithinLimits (ask_of ask)) }
+pub(crate) fn boards_in<'a>(options: &Options<'a>) -> Result<NamedAsk<'a>, BadWord>
+    ensures ask { result_map ask_of result ≡ boards_in (options_of options.now) }
+    ensures limits { IfOk result (λ ask. IsWithinLimits (ask_of ask)) }
 {
-    let deal = file_named(options.deal?)?;
-    let layouts = file_named(options.layouts?)?;
+    let deal = file_of(OptionName::Deal, options.deal)?;
+    let layouts = file_of(OptionName::Layouts, options.layouts)?;
     let moves = moves_in(options)?;
     let search = search_in(options)?;
     let games = GameNames { deal, layouts };
-    Some(Ask::Boards {
+    Ok(Ask::Boards {
         games,
         moves,
         search,
@@ -207,11 +211,11 @@ fn boards_in<'a>(options: &Options<'a>) -> Option<NamedAsk<'a>>
 }
 
 #[tactic(auto, unfolding(crate::specs::Words::made_in))]
-fn made_in<'a>(options: &Options<'a>) -> Option<NamedAsk<'a>>
-    ensures ask { option_map ask_of result ≡ made_in (options_of options.now) }
-    ensures limits { IfSome result (λ ask. IsWithinLimits (ask_of ask)) }
+fn made_in<'a>(options: &Options<'a>) -> Result<NamedAsk<'a>, BadWord>
+    ensures ask { result_map ask_of result ≡ made_in (options_of options.now) }
+    ensures limits { IfOk result (λ ask. IsWithinLimits (ask_of ask)) }
 {
-    let number = number_in(0, u64::MAX, options.number?)?;
+    let number = number_of(OptionName::Number, 0, u64::MAX, options.number)?;
     let search = search_in(options)?;
-    Some(Ask::Made { number, search })
+    Ok(Ask::Made { number, search })
 }

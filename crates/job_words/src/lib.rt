@@ -1,6 +1,7 @@
-//! What the words of the command line ask for: one of ten jobs, with just what that job needs. It
-//! builds on clap, which reads the options as one simple command. Its contract promises the one ask
-//! that the grammar of the words gives, or the refusal of all other words.
+//! What the words of the command line ask for: a job of `alphamu` or of `alphamu_study`, with just
+//! what that job needs. It builds on clap, which reads the options of both as one simple command.
+//! Its contracts promise the one ask that the grammar of the words gives, or the refusal of all
+//! other words, and for a study what in them isn't understood.
 #![tactic(auto)]
 
 ghost use Rattle.std.specs.Prelude.{◌≡◌, ◌-◌, ◌^◌, ℕ, List, None, Some, IfOk, IfSome, option_map, true};
@@ -13,21 +14,30 @@ ghost use Rattle.job_words.specs.declared.asks.LayoutsJob.TheVariants.{Check, Pr
 ghost use Rattle.job_words.specs.Plain.{audit_words, boards_words, card_words, check_words};
 ghost use Rattle.job_words.specs.Plain.{fusion_words, list_words, made_words, match_words};
 ghost use Rattle.job_words.specs.Plain.{plain_search, prove_words, solve_words};
-ghost use Rattle.job_words.specs.Values.{is_value, number_in};
-ghost use Rattle.job_words.specs.Words.{has_two_dashes, words_read};
+ghost use Rattle.job_words.specs.StudyAsks.{IsStudyWithinLimits, study_ask_of};
+ghost use Rattle.job_words.specs.StudyWords.{study_read};
+ghost use Rattle.job_words.specs.Values.{is_value, number_in, result_map};
+ghost use Rattle.job_words.specs.Words.{words_read};
 
 mod asks;
+mod bad_word;
 mod by_job;
+mod by_study;
 mod options;
+mod place;
+mod study;
 mod table;
 mod values;
 
 pub use asks::{Ask, GameNames, LayoutsJob, NamedAsk, Search};
+pub use bad_word::{BadWord, OptionName};
 use by_job::ask_in;
-use options::read_options;
+use by_study::study_in;
+use place::{bad_place, find_options};
 use std::alloc::{AllocError, Global};
+pub use study::{FormName, NamedStudyAsk, Study, StudyAsk};
 
-/// What the words ask for, or `None` if the program takes no such words. The program's own name
+/// What the words ask of `alphamu`, or `None` if it takes no such words. The program's own name
 /// isn't one of them.
 #[tactic(auto, unfolding(crate::specs::Words::words_read))]
 pub fn read_words<'a>(
@@ -37,12 +47,26 @@ pub fn read_words<'a>(
     ensures read { IfOk result (λ r. option_map ask_of r ≡ words_read (texts_of words.now)) }
     ensures limits { IfOk result (λ r. IfSome r (λ ask. IsWithinLimits (ask_of ask))) }
 {
-    if has_two_dashes(words) {
-        return Ok(None);
-    }
-    match read_options(alloc, words)? {
-        Some(options) => Ok(ask_in(&options)),
+    match find_options(alloc, words)? {
+        Some(options) => Ok(ask_in(&options).ok()),
         None => Ok(None),
+    }
+}
+
+/// What the words ask of `alphamu_study`, or what in them it doesn't understand. The program's own
+/// name isn't one of them.
+#[tactic(auto, unfolding(crate::specs::StudyWords::study_read))]
+pub fn read_study<'a>(
+    alloc: Global,
+    words: &'a [String],
+) -> Result<Result<NamedStudyAsk<'a>, BadWord>, AllocError>
+    ensures read { IfOk result (λ r.
+        result_map study_ask_of r ≡ study_read (texts_of words.now)) }
+    ensures limits { IfOk result (λ r. IfOk r (λ ask. IsStudyWithinLimits (study_ask_of ask))) }
+{
+    match find_options(alloc, words)? {
+        Some(options) => Ok(study_in(&options)),
+        None => Ok(Err(BadWord::At(bad_place(alloc, words)?))),
     }
 }
 
@@ -91,9 +115,3 @@ pub fn plain_words_are_read()
         → words_read (boards_words deal layouts moves)
         ≡ Some (Boards (record { deal = deal; layouts = layouts }) number plain_search) }
 {}
-
-fn has_two_dashes(words: &[String]) -> bool
-    ensures { result ≡ has_two_dashes (texts_of words.now) }
-{
-    words.iter().any(|word| word.as_str() == "--")
-}

@@ -1,7 +1,8 @@
 //! The options of the words, as clap reads them.
 ghost use Rattle.std.specs.Prelude.{◌≡◌, IfOk, false, option_map};
 ghost use Rattle.clap.specs.Words.{app_of, first_of, found_of, rows_of, rule_of};
-ghost use Rattle.job_words.specs.Command.{bare_command, flag_option, option_command, value_option};
+ghost use Rattle.job_words.specs.Command.{bare_command, flag_option, option_command};
+ghost use Rattle.job_words.specs.Command.{value_command, value_option};
 ghost use Rattle.job_words.specs.Options.{has_flag, options_at, options_of, options_read};
 ghost use Rattle.job_words.specs.Asks.{texts_of};
 
@@ -33,6 +34,9 @@ pub(crate) struct Options<'a> {
     pub(crate) log: Option<&'a str>,
     pub(crate) nodes: Option<&'a str>,
     pub(crate) search: SearchOptions<'a>,
+    pub(crate) form: Option<&'a str>,
+    pub(crate) from: Option<&'a str>,
+    pub(crate) games: bool,
 }
 
 /// The options in the words, or None where clap finds a fault in them.
@@ -52,21 +56,31 @@ pub(crate) fn read_options<'a>(
     }
 }
 
-const VALUE_NAMES: [&str; 13] = [
+const VALUE_NAMES: [&str; 15] = [
     "job", "deal", "layouts", "report", "moves", "number", "layout", "switch", "log", "nodes",
-    "workers", "shards", "room",
+    "workers", "shards", "room", "form", "from",
 ];
 
-fn option_command<'a>(alloc: Global) -> Result<Command<'a>, AllocError>
-    ensures { IfOk result (λ command. app_of command ≡ option_command) }
+const FLAG_NAMES: [&str; 3] = ["no-table", "no-cuts", "games"];
+
+fn value_command<'a>(alloc: Global) -> Result<Command<'a>, AllocError>
+    ensures { IfOk result (λ command. app_of command ≡ value_command) }
 {
     let mut command = bare_command(alloc);
     for name in VALUE_NAMES {
         command = command.arg(value_option(alloc, name))?;
     }
-    command
-        .arg(flag_option(alloc, "no-table"))?
-        .arg(flag_option(alloc, "no-cuts"))
+    Ok(command)
+}
+
+fn option_command<'a>(alloc: Global) -> Result<Command<'a>, AllocError>
+    ensures { IfOk result (λ command. app_of command ≡ option_command) }
+{
+    let mut command = value_command(alloc)?;
+    for name in FLAG_NAMES {
+        command = command.arg(flag_option(alloc, name))?;
+    }
+    Ok(command)
 }
 
 fn value_option<'a>(alloc: Global, name: &'a str) -> Arg<'a>
@@ -114,6 +128,9 @@ fn options_in<'a>(matches: &ArgMatches<'a>) -> Options<'a>
             no_table: has_flag(matches, "no-table"),
             no_cuts: has_flag(matches, "no-cuts"),
         },
+        form: value_of(matches, "form"),
+        from: value_of(matches, "from"),
+        games: has_flag(matches, "games"),
     }
 }
 

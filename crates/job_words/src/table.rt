@@ -1,11 +1,13 @@
 //! Which options each job requires, allows and refuses.
-ghost use Rattle.std.specs.Prelude.{◌≡◌};
-ghost use Rattle.job_words.specs.Options.{options_of, search_options_of};
-ghost use Rattle.job_words.specs.Table.{has_search, is_used_so, keeps_to, uses_by};
+ghost use Rattle.std.specs.Prelude.{◌≡◌, option_map, is_some};
+ghost use Rattle.job_words.specs.Options.{options_of};
+ghost use Rattle.job_words.specs.Table.{fault_of_row, first_fault, is_used_so, misused, rows_of};
+ghost use Rattle.job_words.specs.Table.{uses_by, uses_by_study};
 
-use crate::options::{Options, SearchOptions};
+use crate::bad_word::{BadWord, OptionName};
+use crate::options::Options;
 
-/// The jobs that have names.
+/// The jobs of `alphamu`.
 #[derive(Clone, Copy)]
 pub(crate) enum Job {
     Solve,
@@ -20,22 +22,39 @@ pub(crate) enum Job {
     Boards,
 }
 
+/// The jobs of `alphamu_study`.
+#[derive(Clone, Copy)]
+pub(crate) enum StudyJob {
+    Words,
+    Lines,
+    Page,
+    Cards,
+    Review,
+}
+
 /// What a job makes of an option.
 #[derive(Clone, Copy)]
 pub(crate) enum Use {
     Required,
     Allowed,
     Refused,
+    /// Required without `--moves`, and refused with it.
+    InPlaceOfMoves,
+    /// Allowed with `--moves`, and refused without it.
+    WithMoves,
 }
 
 impl Use {
-    fn is_used_so(self, given: bool) -> bool
-        ensures { result ≡ is_used_so self given }
+    // Whether an option that is given, or isn't, is used so. With `--moves` a search is asked for.
+    fn is_used_so(self, searches: bool, given: bool) -> bool
+        ensures { result ≡ is_used_so self searches given }
     {
         match self {
             Use::Required => given,
             Use::Allowed => true,
             Use::Refused => !given,
+            Use::InPlaceOfMoves => given != searches,
+            Use::WithMoves => searches || !given,
         }
     }
 }
@@ -54,6 +73,9 @@ pub(crate) struct Uses {
     pub(crate) log: Use,
     pub(crate) nodes: Use,
     pub(crate) search: Use,
+    pub(crate) form: Use,
+    pub(crate) from: Use,
+    pub(crate) games: Use,
 }
 
 const NO_OPTIONS: Uses = Uses {
@@ -67,9 +89,12 @@ const NO_OPTIONS: Uses = Uses {
     log: Use::Refused,
     nodes: Use::Refused,
     search: Use::Refused,
+    form: Use::Refused,
+    from: Use::Refused,
+    games: Use::Refused,
 };
 
-/// The row of the table for this job.
+/// The row of the table for this job of `alphamu`.
 pub(crate) fn uses_by(job: Job) -> Uses
     ensures { result ≡ uses_by job }
 {
@@ -130,35 +155,126 @@ pub(crate) fn uses_by(job: Job) -> Uses
     }
 }
 
-impl Uses {
-    /// Whether the options that are given are those that a job with these uses takes.
-    #[tactic(auto, unfolding(crate::specs::Table::keeps_to))]
-    pub(crate) fn keeps_to(&self, options: &Options<'_>) -> bool
-        ensures { result ≡ keeps_to self.now (options_of options.now) }
-    {
-        let uses = [
-            (self.deal, options.deal.is_some()),
-            (self.layouts, options.layouts.is_some()),
-            (self.report, options.report.is_some()),
-            (self.moves, options.moves.is_some()),
-            (self.number, options.number.is_some()),
-            (self.layout, options.layout.is_some()),
-            (self.switch, options.switch.is_some()),
-            (self.log, options.log.is_some()),
-            (self.nodes, options.nodes.is_some()),
-            (self.search, has_search(&options.search)),
-        ];
-        uses.iter().all(|(wanted, given)| wanted.is_used_so(*given))
+/// The row of the table for this job of `alphamu_study`.
+pub(crate) fn uses_by_study(job: StudyJob) -> Uses
+    ensures { result ≡ uses_by_study job }
+{
+    match job {
+        StudyJob::Words | StudyJob::Lines | StudyJob::Page => Uses {
+            deal: Use::Required,
+            layouts: Use::Required,
+            report: Use::InPlaceOfMoves,
+            moves: Use::Allowed,
+            nodes: Use::WithMoves,
+            search: Use::WithMoves,
+            ..NO_OPTIONS
+        },
+        StudyJob::Cards => Uses {
+            deal: Use::Required,
+            layouts: Use::Required,
+            moves: Use::Required,
+            nodes: Use::Allowed,
+            search: Use::Allowed,
+            form: Use::Allowed,
+            ..NO_OPTIONS
+        },
+        StudyJob::Review => Uses {
+            deal: Use::Required,
+            layouts: Use::Required,
+            moves: Use::Required,
+            nodes: Use::Allowed,
+            search: Use::Allowed,
+            form: Use::Allowed,
+            from: Use::Allowed,
+            games: Use::Allowed,
+            ..NO_OPTIONS
+        },
     }
 }
 
-// Whether an option on how to search is given, except the number of nodes.
-fn has_search(options: &SearchOptions<'_>) -> bool
-    ensures { result ≡ has_search (search_options_of options.now) }
+/// An option, what a job makes of it, and whether it is given.
+#[derive(Clone, Copy)]
+struct OptionUse {
+    name: OptionName,
+    wanted: Use,
+    given: bool,
+}
+
+impl OptionUse {
+    // Why the option isn't used as wanted, if it isn't.
+    fn fault(&self, searches: bool) -> Option<BadWord>
+        ensures { result ≡ fault_of_row searches self.now }
+    {
+        if self.wanted.is_used_so(searches, self.given) {
+            None
+        } else if self.given {
+            Some(BadWord::NotTaken(self.name))
+        } else {
+            Some(BadWord::Missing(self.name))
+        }
+    }
+}
+
+fn use_of(name: OptionName, wanted: Use, given: bool) -> OptionUse
+    ensures { result ≡ record { name = name; wanted = wanted; given = given } }
 {
-    options.workers.is_some()
-        || options.shards.is_some()
-        || options.room.is_some()
-        || options.no_table
-        || options.no_cuts
+    OptionUse {
+        name,
+        wanted,
+        given,
+    }
+}
+
+fn is_given(value: Option<&str>) -> bool
+    ensures { result ≡ is_some (option_map (λ s. s.now) value.entry) }
+{
+    value.is_some()
+}
+
+// The first fault in rows.
+fn first_fault(searches: bool, rows: &[OptionUse]) -> Option<BadWord>
+    ensures { result ≡ first_fault searches rows.now }
+{
+    for row in rows {
+        if let Some(fault) = row.fault(searches) {
+            return Some(fault);
+        }
+    }
+    None
+}
+
+impl Uses {
+    // What a job with these uses makes of each option.
+    fn rows(&self, options: &Options<'_>) -> [OptionUse; 17]
+        ensures { result ≡ rows_of self.now (options_of options.now) }
+    {
+        let search = &options.search;
+        [
+            use_of(OptionName::Deal, self.deal, is_given(options.deal)),
+            use_of(OptionName::Layouts, self.layouts, is_given(options.layouts)),
+            use_of(OptionName::Report, self.report, is_given(options.report)),
+            use_of(OptionName::Moves, self.moves, is_given(options.moves)),
+            use_of(OptionName::Number, self.number, is_given(options.number)),
+            use_of(OptionName::Layout, self.layout, is_given(options.layout)),
+            use_of(OptionName::Switch, self.switch, is_given(options.switch)),
+            use_of(OptionName::Log, self.log, is_given(options.log)),
+            use_of(OptionName::Nodes, self.nodes, is_given(options.nodes)),
+            use_of(OptionName::Workers, self.search, is_given(search.workers)),
+            use_of(OptionName::Shards, self.search, is_given(search.shards)),
+            use_of(OptionName::Room, self.search, is_given(search.room)),
+            use_of(OptionName::NoTable, self.search, search.no_table),
+            use_of(OptionName::NoCuts, self.search, search.no_cuts),
+            use_of(OptionName::Form, self.form, is_given(options.form)),
+            use_of(OptionName::From, self.from, is_given(options.from)),
+            use_of(OptionName::Games, self.games, options.games),
+        ]
+    }
+
+    /// The first option that isn't used as a job with these uses wants it.
+    #[tactic(auto, unfolding(crate::specs::Table::misused))]
+    pub(crate) fn misused(&self, options: &Options<'_>) -> Option<BadWord>
+        ensures { result ≡ misused self.now (options_of options.now) }
+    {
+        first_fault(is_given(options.moves), &self.rows(options))
+    }
 }

@@ -1,4 +1,3 @@
 pub mod RootBoard
 pub mod RootWeights
-pub mod AskedFor
 pub mod SolvedTold

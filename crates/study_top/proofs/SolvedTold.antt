@@ -13,8 +13,8 @@ use Rattle.am_answer.specs.Answers.{task_at, IsRoot}
 use Rattle.am_answer.specs.Reports.{IsText, IsSolveText}
 use Rattle.am_answer.specs.Stages.{IsFileRefusal, IsTextFor}
 use Rattle.am_answer.specs.Tasks.{TaskValue, Solve}
-use Rattle.study_top.specs.declared.job.StudyJob.{StudyJob}
-use Rattle.study_top.specs.declared.job.StudyJob.TheVariants.{Words, Lines, Page, Cards, Review, Reviews}
+use Rattle.job_words.specs.declared.study.Study.{Study}
+use Rattle.job_words.specs.declared.study.Study.TheVariants.{Words, Lines, Page, Cards, Review}
 use Rattle.study_top.specs.Solved.{IsSolvedReport, IsUnsolved}
 use Rattle.study_top.specs.Study.{IsReportRefusal, IsSearchRefusal}
 
@@ -56,11 +56,9 @@ module _ (root : Root) (moves : ℕ) (search : Search) where
         let good = text-good root moves report node is_root.weighed each some (solve_text_of report solved.solved) short in
         unsolved_memory status (only_memory (task_at root (jobs.Check report)) _ good.1 status refused)
 
-    pub never_refused : (job : Option StudyJob) (status : Status) → IsReportRefusal job root report status → IsSearchRefusal job root moves search status
-    never_refused (Some Words) status refused = inl (good_or_memory status refused)
-    never_refused (Some Lines) status refused = inl (good_or_memory status refused)
-    never_refused (Some Page) status refused = inl (good_or_memory status refused)
-    never_refused (Some Cards) status refused = inr (inr refused)
-    never_refused (Some Review) status refused = inr (inr refused)
-    never_refused (Some Reviews) status refused = inr (inr refused)
-    never_refused None status refused = inr (inr refused)
+    pub never_refused : (study : Study) (status : Status) → IsReportRefusal study root report status → IsSearchRefusal study root moves search status
+    never_refused Words status refused = inl (good_or_memory status refused)
+    never_refused Lines status refused = inl (good_or_memory status refused)
+    never_refused Page status refused = inl (good_or_memory status refused)
+    never_refused (Cards form) status refused = inr (inr refused)
+    never_refused (Review form from) status refused = inr (inr refused)

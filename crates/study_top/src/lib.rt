@@ -3,15 +3,10 @@
 //! `job_lines`, `job_page`, `job_cards` and `job_review`, and on the line of a refusal.
 #![tactic(auto)]
 
-mod all_games;
-mod apart;
 mod form;
-mod job;
-mod parted;
 mod program;
 mod solved;
 mod study;
-mod trick;
 
 pub use am_answer::Status;
 pub use program::run_study;

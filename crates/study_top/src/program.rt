@@ -9,19 +9,18 @@ ghost use Rattle.job_words.specs.Asks.{texts_of, IsMoves, IsSearchWithinLimits};
 ghost use Rattle.job_words.specs.declared.asks.Ask.TheVariants.{OnLayouts};
 ghost use Rattle.am_answer.specs.Answers.{IsRoot, board_in};
 ghost use Rattle.am_answer.specs.Lines.{status_line};
-ghost use Rattle.am_answer.specs.Refusals.{IsUnread};
 ghost use Rattle.am_line.specs.Said.{IsSaid};
 ghost use Rattle.am_answer.specs.Files.{AreWithin};
-ghost use Rattle.study_top.specs.Study.{asked_words, IsTextOf, IsRefusalOf, IsStudyText};
+ghost use Rattle.study_top.specs.Study.{IsTextOf, IsRefusalOf, IsStudyText, IsStudyUnread};
 ghost use Rattle.study_top.specs.Study.{IsStudyRefusal, IsTextOfReport, IsReportRefusal};
 ghost use Rattle.study_top.specs.Study.{AreCardsFor, AreCardsRefused, table_moves as moves_of};
 ghost use Rattle.study_top.specs.Study.{IsTextOfSearch, IsSearchRefusal};
 
-use crate::job::StudyJob;
+use crate::form::form_of;
 use crate::solved::solved_report;
-use crate::study::{Study, study_of};
+use crate::study::read_ask;
 use am_answer::{FileWord, Inputs, Root, Status};
-use am_inputs::{read_deal, read_inputs, read_root};
+use am_inputs::{read_deal, read_named, read_root};
 use am_line::refuse;
 use am_outside::{Shelf, Sink, write_whole};
 use byte_text::Text;
@@ -32,7 +31,7 @@ use job_page::tell_page;
 use job_review::{Asked, tell_review};
 use job_reviews::tell_reviews;
 use job_told::tell_report;
-use job_words::{Ask, LayoutsJob, Search};
+use job_words::{Ask, LayoutsJob, Search, Study, StudyAsk};
 use std::alloc::Global;
 use std::thread::Threads;
 
@@ -55,7 +54,7 @@ fn table_moves(root: &Root, moves: u8) -> u8
 // Every legal card of a root, if the job shows them.
 fn cards_for(
     alloc: Global,
-    job: Option<StudyJob>,
+    study: Study,
     root: &Root,
     moves: u8,
     search: &Search,
@@ -63,11 +62,11 @@ fn cards_for(
     requires root { IsRoot root.now }
     requires moves { IsMoves moves }
     requires limits { IsSearchWithinLimits search.now }
-    ensures cards { IfOk result (AreCardsFor job root.now moves) }
-    ensures refused { IfErr result (AreCardsRefused job root.now moves search.now) }
+    ensures cards { IfOk result (AreCardsFor study root.now moves) }
+    ensures refused { IfErr result (AreCardsRefused study root.now moves search.now) }
 {
-    match job {
-        Some(StudyJob::Page) => {
+    match study {
+        Study::Page => {
             let table = cards_of(alloc, root, table_moves(root, moves), search)?;
             Ok(Some(table))
         }
@@ -78,7 +77,7 @@ fn cards_for(
 // What a job tells of a report at the root of a deal, or why there is nothing.
 fn text_of(
     alloc: Global,
-    job: Option<StudyJob>,
+    study: Study,
     deal: &Text,
     root: &Root,
     report: &Text,
@@ -89,13 +88,13 @@ fn text_of(
     requires deal_short { length deal.now < 2 ^ 32 - 1 }
     requires report_short { length report.now < 2 ^ 32 - 1 }
     ensures text { IfOk result
-        (IsTextOfReport job deal.now root.now report.now (option_copied cards.entry)) }
-    ensures refused { IfErr result (IsReportRefusal job root.now report.now) }
+        (IsTextOfReport study deal.now root.now report.now (option_copied cards.entry)) }
+    ensures refused { IfErr result (IsReportRefusal study root.now report.now) }
 {
-    match job {
-        Some(StudyJob::Words) => tell_report(alloc, root, report),
-        Some(StudyJob::Lines) => tell_lines(alloc, deal, root, report),
-        Some(StudyJob::Page) => tell_page(alloc, deal, root, report, cards),
+    match study {
+        Study::Words => tell_report(alloc, root, report),
+        Study::Lines => tell_lines(alloc, deal, root, report),
+        Study::Page => tell_page(alloc, deal, root, report, cards),
         _ => Err(Status::BadWords),
     }
 }
@@ -104,7 +103,7 @@ fn text_of(
 fn text_by_search<R: Threads + Sync>(
     rt: &R,
     alloc: Global,
-    job: Option<StudyJob>,
+    study: Study,
     deal: &Text,
     root: &Root,
     moves: u8,
@@ -116,51 +115,49 @@ fn text_by_search<R: Threads + Sync>(
     requires deal_short { length deal.now < 2 ^ 32 - 1 }
     requires moves { IsMoves moves }
     requires limits { IsSearchWithinLimits search.now }
-    ensures text { IfOk result (IsTextOfSearch job deal.now root.now moves search.now) }
-    ensures refused { IfErr result (IsSearchRefusal job root.now moves search.now) }
+    ensures text { IfOk result (IsTextOfSearch study deal.now root.now moves search.now) }
+    ensures refused { IfErr result (IsSearchRefusal study root.now moves search.now) }
 {
     let report = solved_report(rt, alloc, root, moves, search)?;
-    let cards = cards_for(alloc, job, root, moves, search)?;
+    let cards = cards_for(alloc, study, root, moves, search)?;
     prove!(root.kept.node.width() > 0);
-    text_of(alloc, job, deal, root, &report, cards.as_ref())
+    text_of(alloc, study, deal, root, &report, cards.as_ref())
 }
 
 // What a job tells of a deal and its layouts, or why there is nothing.
 fn text_on<R: Threads + Sync>(
     rt: &R,
     alloc: Global,
-    study: &Study,
+    study: Study,
     deal: &Text,
     layouts: &Text,
-    asked: &LayoutsJob<Text>,
+    job: &LayoutsJob<Text>,
 ) -> Result<Text, Status>
-    requires { AreWithin (OnLayouts deal.now layouts.now asked.now) }
-    ensures text { IfOk result (IsTextOf study.now.job study.now.form study.now.from
-        (OnLayouts deal.now layouts.now asked.now)) }
-    ensures refused { IfErr result (IsRefusalOf study.now.job study.now.from
-        (OnLayouts deal.now layouts.now asked.now)) }
+    requires { AreWithin (OnLayouts deal.now layouts.now job.now) }
+    ensures text { IfOk result (IsTextOf study (OnLayouts deal.now layouts.now job.now)) }
+    ensures refused { IfErr result (IsRefusalOf study (OnLayouts deal.now layouts.now job.now)) }
 {
-    match (study.job, asked) {
-        (job, LayoutsJob::Check { report }) => {
+    match (study, job) {
+        (_, LayoutsJob::Check { report }) => {
             let root = read_root(alloc, deal, layouts)?;
-            text_of(alloc, job, deal, &root, report, None)
+            text_of(alloc, study, deal, &root, report, None)
         }
-        (job, LayoutsJob::Solve { moves, search }) => {
+        (_, LayoutsJob::Solve { moves, search }) => {
             let root = read_root(alloc, deal, layouts)?;
-            text_by_search(rt, alloc, job, deal, &root, *moves, search)
+            text_by_search(rt, alloc, study, deal, &root, *moves, search)
         }
-        (Some(StudyJob::Cards), LayoutsJob::Card { moves, search }) => {
+        (Study::Cards { form }, LayoutsJob::Card { moves, search }) => {
             let root = read_root(alloc, deal, layouts)?;
-            tell_cards(alloc, &root, *moves, search, study.form)
+            tell_cards(alloc, &root, *moves, search, form_of(form))
         }
-        (Some(StudyJob::Review), LayoutsJob::Card { moves, search }) => {
+        (Study::Review { form, from }, LayoutsJob::Card { moves, search }) => {
             let asked = Asked {
                 moves: *moves,
-                from: study.from,
+                from,
                 search: *search,
             };
             let board = read_deal(alloc, deal)?;
-            tell_review(alloc, &board, layouts, &asked, study.form)
+            tell_review(alloc, &board, layouts, &asked, form_of(form))
         }
         _ => Err(Status::BadWords),
     }
@@ -170,20 +167,19 @@ fn text_on<R: Threads + Sync>(
 fn text_in<R: Threads + Sync>(
     rt: &R,
     alloc: Global,
-    study: &Study,
+    study: Study,
     inputs: &Inputs,
 ) -> Result<Text, Status>
     requires { AreWithin inputs.now }
-    ensures text { IfOk result
-        (IsTextOf study.now.job study.now.form study.now.from inputs.now) }
-    ensures refused { IfErr result (IsRefusalOf study.now.job study.now.from inputs.now) }
+    ensures text { IfOk result (IsTextOf study inputs.now) }
+    ensures refused { IfErr result (IsRefusalOf study inputs.now) }
 {
-    match (study.job, inputs) {
+    match (study, inputs) {
         (_, Ask::OnLayouts { deal, layouts, job }) => {
             text_on(rt, alloc, study, deal, layouts, job)
         }
         (
-            Some(StudyJob::Reviews),
+            Study::Review { form, from },
             Ask::Boards {
                 games,
                 moves,
@@ -192,16 +188,17 @@ fn text_in<R: Threads + Sync>(
         ) => {
             let asked = Asked {
                 moves: *moves,
-                from: study.from,
+                from,
                 search: *search,
             };
-            Ok(tell_reviews(rt, alloc, games, &asked, study.form)?)
+            Ok(tell_reviews(rt, alloc, games, &asked, form_of(form))?)
         }
         _ => Err(Status::BadWords),
     }
 }
 
 // The text of the study, or why there is none.
+#[tactic(auto, unfolding(crate::specs::Study::study_inputs))]
 fn text_for<R: Threads + Sync, S: Shelf>(
     rt: &R,
     alloc: Global,
@@ -215,24 +212,19 @@ fn text_for<R: Threads + Sync, S: Shelf>(
     ensures not_done { IfErr result (λ status.
         (status ≢ Status.Done) × (status ≢ Status.Unwritten)) }
     ensures unread { (file : FileWord) → IsErrOf result (Status.Unread file)
-        → IsUnread (S.told shelf.old) (asked_words (texts_of words.now))
+        → IsStudyUnread (S.told shelf.old) (texts_of words.now)
         (S.faults shelf.old) (S.faults shelf.new) file }
     ensures same_files { S.told shelf.new ≡ S.told shelf.old }
 {
-    let study = study_of(alloc, words)?;
-    let inputs = read_inputs(alloc, &study.asked, shelf)?;
-    text_in(rt, alloc, &study, &inputs)
+    let StudyAsk { study, reads } = read_ask(alloc, words)?;
+    let inputs = read_named(alloc, shelf, reads)?;
+    text_in(rt, alloc, study, &inputs)
 }
 
 /// Tells the strategies of a report or shows it as a page, puts every legal card side by side, or
-/// goes through every decision of a played board. The words are those of `check`, except that the
-/// job is `words`, `lines` or `page`, and the report is refused as `check` refuses it; or with
-/// `--moves` those of `solve`, whose report is never refused; or those of `card`, except that the
-/// job is `cards` or `review`. With these two, `--form` may stand before
-/// the form, `text`, `csv` or `json`; with `review`, `--from` before the trick to begin with, 1 to
-/// 13. Such an option and its value may also be one word, joined by `=`. With `review`, `--games`
-/// may stand among the words, which are then those of `boards`: every game of the deal file is
-/// reviewed, with its own layout file. The words don't include the program's name.
+/// goes through every decision of a played board. What the words ask for, and which of them aren't
+/// understood, is `study_read` of `job_words`. A report that is read is refused as `check` refuses
+/// it, and one that is searched for never is. The words don't include the program's name.
 ///
 /// The whole text is made before its first byte is written. The workers are joined, so it may wait.
 pub fn run_study<R: Threads + Sync + AllocGlobal, S: Shelf, O: Sink, E: Sink>(
@@ -253,7 +245,7 @@ pub fn run_study<R: Threads + Sync + AllocGlobal, S: Shelf, O: Sink, E: Sink>(
         × AppendsPart (O.told out.old) text (O.told out.new)) }
     ensures untouched { (result ≢ Status.Done) → (result ≢ Status.Unwritten) → out.new ≡ out.old }
     ensures unread { (file : FileWord) → result ≡ Status.Unread file
-        → IsUnread (S.told shelf.old) (asked_words (texts_of words.now))
+        → IsStudyUnread (S.told shelf.old) (texts_of words.now)
         (S.faults shelf.old) (S.faults shelf.new) file }
     ensures unwritten { result ≡ Status.Unwritten → Rose (O.faults out.old) (O.faults out.new) }
     ensures quiet { result ≡ Status.Done → err.new ≡ err.old }

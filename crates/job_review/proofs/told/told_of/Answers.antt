@@ -1,5 +1,5 @@
 use Rattle.std.proofs.Common.{Err, ap, sym, refl, rules}
-use Rattle.alphamu_core.specs.declared.answers.RootFault.TheVariants.{Spent}
+use Rattle.strategy_tree.specs.declared.root_fault.RootFault.TheVariants.{Spent}
 use Rattle.am_answer.proofs.Passed.{passed_on}
 use Rattle.job_review.proofs.Rows.{row_of_choice, row_of_named}
 use Rattle.job_review.proofs.told.told_of.Goals as goal

@@ -9,11 +9,11 @@ use Rattle.study_top.proofs.program.text_by_search.Goals as goal
 
 pub returns-in_err-cards-clause-refused : goal.returns-in_err-cards-clause-refused
 returns-in_err-cards-clause-refused g c =
-    refused_by (IsSearchRefusal c.args.job c.args.root.now c.args.moves c.args.search.now) c.from_residual-in_err-cards.result c.in_err-cards.field-0.0 c.from_residual-in_err-cards.ensures.1
+    refused_by (IsSearchRefusal c.args.study c.args.root.now c.args.moves c.args.search.now) c.from_residual-in_err-cards.result c.in_err-cards.field-0.0 c.from_residual-in_err-cards.ensures.1
     (inr (inl c.in_err-cards.ensures.refused))
 
 pub returns-clause-refused : goal.returns-clause-refused
 returns-clause-refused g c =
     IfErr-weaker c.text_of.result _ _
-    (never_refused c.args.root.now c.args.moves c.args.search.now (subst (λ (root : Root). IsNode root.kept.node) c.root.view_is c.width.ensures.a_node) c.requires.root c.requires.weights c.requires.moves c.in_ok-report.report c.in_ok-report.ensures.text c.args.job)
+    (never_refused c.args.root.now c.args.moves c.args.search.now (subst (λ (root : Root). IsNode root.kept.node) c.root.view_is c.width.ensures.a_node) c.requires.root c.requires.weights c.requires.moves c.in_ok-report.report c.in_ok-report.ensures.text c.args.study)
     c.text_of.ensures.refused

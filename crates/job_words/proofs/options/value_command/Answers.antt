@@ -1,0 +1,18 @@
+use Rattle.std.proofs.Common.{◌≡◌, ◌∙◌, ap₂, sym, arith}
+use Rattle.std.specs.Borrow.{Bor}
+use Rattle.std.proofs.lemmas.List.Sums.{fold_more}
+use Rattle.clap.specs.Words.{App, Text, with_rule}
+use Rattle.job_words.specs.Command.{bare_command, value_command, value_option}
+use Rattle.job_words.proofs.options.value_command.Goals as goal
+
+pub returns : goal.returns
+unfolding value_command
+returns c =
+    let all : c.loop-name.name-index ≡ 15 = omega arith in
+    rw all at c.loop-name.invariant
+
+pub loop-name-preserved : goal.loop-name-preserved
+loop-name-preserved c =
+    c.in_ok-command.ensures.shape c.value_option.ensures.local
+    ∙ (ap₂ with_rule c.loop-name.invariant c.value_option.ensures.rule
+    ∙ sym (fold_more (λ (a : App) (name : Bor Text). with_rule a (value_option name.now)) bare_command _ c.loop-name.name-index _ (omega arith)))

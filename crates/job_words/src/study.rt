@@ -1,0 +1,52 @@
+//! What the words of a study can ask for.
+
+use crate::asks::{Ask, GameNames, NamedAsk};
+
+/// The form that a study's text is asked for.
+#[derive(Clone, Copy, Debug, PartialEq, Eq)]
+pub enum FormName {
+    /// Lines for people.
+    Text,
+    /// Records of CSV.
+    Csv,
+    /// One object of JSON.
+    Json,
+}
+
+/// What a study tells.
+#[derive(Clone, Copy, Debug, PartialEq, Eq)]
+pub enum Study {
+    /// The strategies of a report in the words of bridge.
+    Words,
+    /// The strategies of a report as PBN games, each played out in each kept layout.
+    Lines,
+    /// A report as a page of HTML.
+    Page,
+    /// Every legal card with the bounds of the weight that it wins.
+    Cards {
+        /// The form of the text.
+        form: FormName,
+    },
+    /// Every decision of a played board, or of each game of a deal file, and what each card cost.
+    Review {
+        /// The form of the text.
+        form: FormName,
+        /// The trick to begin with: 1 to 13.
+        from: u8,
+    },
+}
+
+/// What the words of a study ask for: what it tells, and of what. A file is an `F`: its name, or
+/// what was read of it. The files of a deal's games are a `G`.
+#[derive(Debug, Drop, PartialEq, Eq)]
+pub struct StudyAsk<F, G> {
+    /// What is told.
+    pub study: Study,
+    /// What is read, as the job of `alphamu` that reads the same. A report is that of
+    /// `check`, or the one that `solve` gives; cards and decisions are judged as by `card`, and
+    /// those of all games as by `boards`.
+    pub reads: Ask<F, G>,
+}
+
+/// What the words of a study ask for, by the names of the files.
+pub type NamedStudyAsk<'a> = StudyAsk<&'a str, GameNames<'a>>;
