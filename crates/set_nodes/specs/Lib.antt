@@ -1,0 +1,2 @@
+pub mod SetNodes
+pub mod Neighbours

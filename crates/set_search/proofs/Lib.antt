@@ -1,0 +1,4 @@
+pub mod Places
+pub mod OurCards
+pub mod Replies
+pub mod Roots
