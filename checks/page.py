@@ -10,8 +10,10 @@ be named, each with a card that gives it up by the words of the line. The weight
 agree with the report. What is said to decide a vector must be the first fact, or the first two, that by the hands on the page are so
 in exactly its layouts.
 Where the lines part must be where the report's plans, walked through level by level, first play different cards.
-If the study searches for the report of a case, its page must be the same but for two things: it promises that no line makes more,
-and it has a table of all cards, which must say what the job `cards` says.
+What the named card keeps is promised "whatever the defenders do" only if the report plans every card that declarer's side has left, or
+if the job `cards` says that the card wins no less; otherwise the promise is an upper bound, with that least if it is known.
+If the study searches for the report of a case, its page must be the same but for two things: what it promises, and a table of all
+cards, which must say what the job `cards` says. The card that the headline names is marked there, and no other.
 Each layout can be picked, has its rule of style, and has at the table the hands of the list; and the lines that are played out
 in it end and go, trick by trick, as the games of the job `lines` do.
 A report that `check` refuses must be refused with the same line and status. The exit status is 0 only if nothing is wrong, and if
@@ -35,11 +37,10 @@ from html.parser import HTMLParser
 
 sys.dont_write_bytecode = True
 import reading
-from cases import TOP, bytes_of, expected, is_ready, names_of_cases, parser_of, run, words_of
+from cases import STUDY, TOP, bytes_of, expected, is_ready, names_of_cases, parser_of, run, words_of
 from options import job_of, with_job
 from playing import card_named, name_of
 
-STUDY = os.path.join(TOP, "study")
 REPORT, LINES = b"report.of.the.case", b"words.of.the.case"
 # Reports with more lines are left out: telling them takes long.
 MOST_LINES, LEAST = 20000, 100
@@ -398,29 +399,58 @@ def faults_of(text, deal, report, words, fusion, games):
     wrong += faults_of_refutations(page, entries, fusion, told)
     wrong += faults_of_partings(page, entries, reading.board_of(reading.games_of(deal)[0]))
     wrong += faults_of_picker(page, len(entries[0][0])) + faults_of_plays(page, head, len(entries), games, fusion)
-    best = max(weight for _, weight, _ in entries)
-    shown = text.decode()
-    promised = re.search(r"<strong>(\d+) of", shown)
-    if int(promised[1]) == best and "No line of this report makes more." not in shown:
-        wrong.append("the best line is said not to be the best")
-    return wrong
+    return wrong + faults_of_promise(text.decode(), deal, report)
 
 
-def faults_of_search(searched, page, cards):
+def promise_of(deal, report, least=None):
+    """What a page must promise of the card that a report names, and how far it must say the lines are planned: by the least that the
+    card is known to win, if the report was searched for."""
+    _, moves, entries = reading.report_of(report)
+    hands = reading.moment_after(reading.board_of(reading.games_of(deal)[0])).hands
+    is_whole = len(hands[0]) + len(hands[2]) <= moves
+    card = card_named(re.search(rb"^card (..) ", report, re.M)[1])
+    kept = max((weight for _, weight, plan in entries if plan is None or plan[0] == card), default=0)
+    is_sure = is_whole or least == kept
+    rivals = "of this report makes" if least is None else "makes" if is_whole else "that plans as many cards makes"
+    others = f"No line {rivals} more." if kept == max(weight for _, weight, _ in entries) else "Another line of this report makes more."
+    known = "" if is_sure or least is None else f" Whatever the defenders do, a line that begins with it makes at least {least}."
+    most, ending = ("", ", whatever the defenders do.") if is_sure else ("at most ", f" (cards planned: {moves}).")
+    horizon = "Every card of declarer\u2019s side is planned, to the end of the play." if is_whole else (
+        f"Cards of declarer\u2019s side that are planned: {moves}. " + (
+            "Planning more cards doesn\u2019t change the figure: it is also the least that the card makes." if is_sure else
+            "If the result is open after them, it is judged as if all hands were seen: with more cards planned the figure can be lower, never higher."))
+    return rf"It keeps a line that makes {most}{kept} of \d+ (layouts|by weight){re.escape(f'{ending} {others}{known}')}", horizon
+
+
+def faults_of_promise(shown, deal, report, least=None):
+    """What is wrong with what a page promises of the card to play."""
+    page = xml.etree.ElementTree.fromstring(shown.split("\n", 1)[1])
+    told = [" ".join(text_of(it).split()) for it in next(page.iter("header")).findall("p")]
+    promise, horizon = promise_of(deal, report, least)
+    return [] if re.fullmatch(promise, told[0]) and horizon in told else ["what the card keeps is promised otherwise"]
+
+
+def without_promise(shown):
+    """A page without what it promises, and without how far its lines are planned."""
+    return re.sub(r"<p class='promise'>.*?</p>\n|<p>Cards of declarer&#8217;s side that are planned: .*?</p>\n", "", shown, flags=re.S)
+
+
+def faults_of_search(searched, page, cards, deal, report):
     """What is wrong with the page of a report that was searched for, by the page of that report and the text of the job cards."""
-    promise = "No line makes more." if "Every card of declarer&#8217;s side is planned" in page else "No line that plans as many cards makes more."
     parts = re.findall(r"<section id='cards'>.*?</section>\n", searched, re.S)
-    if [page.replace("No line of this report makes more.", promise, 1)] != [searched.replace(it, "") for it in parts]:
+    if [without_promise(page)] != [without_promise(searched).replace(it, "") for it in parts]:
         return ["the page of a report that is searched for differs"]
-    moves, named = (re.search(pattern, cards, re.M)[1] for pattern in (r"^moves (\d+)$", r"^named (..)$"))
-    wanted = [[f"{card} to play" if card == named else card, most, least, sampled, final] for card, most, least, sampled, final in re.findall(
-        r"^card (..) most (\d+) least (\d+) sampled (\d+) final (yes|no) ", cards, re.M)]
+    moves = re.search(r"^moves (\d+)$", cards, re.M)[1]
+    named = re.search(rb"^card (..) ", report, re.M)[1].decode()
+    rows = re.findall(r"^card (..) most (\d+) least (\d+) sampled (\d+) final (yes|no) ", cards, re.M)
+    wanted = [[f"{card} to play" if card == named else card, *others] for card, *others in rows]
     wrong = [] if rows_of(xml.etree.ElementTree.fromstring(searched.split("\n", 1)[1]), "cards") == wanted else ["the table of all cards differs"]
     total = re.search(r"^layouts (\d+) weight (\d+)$", cards, re.M)
     outs = f"out of {total[1]} layouts.", f"out of {total[2]} by weight."
     if f"planned here: {moves}. " not in parts[0] or not any(it in parts[0] for it in outs):
         wrong.append("the head of the table of all cards differs")
-    return wrong
+    least = next(int(least) for card, _, least, *_ in rows if card == named)
+    return wrong + faults_of_promise(searched, deal, report, least)
 
 
 def with_fewer(words, most):
@@ -434,7 +464,7 @@ def with_fewer(words, most):
     return [*words[:at], *fewer, *words[at + 2 - joined:]]
 
 
-def judge_search(case, page, seconds):
+def judge_search(case, page, deal, report, seconds):
     """What is wrong with the page that the study makes by a search, by the page of the case's report."""
     searched = run(STUDY, case, seconds, words=with_job(words_of(case), b"page"))
     kept = re.search(rb"^kept (.*)$", expected(case)[0], re.M)
@@ -442,7 +472,7 @@ def judge_search(case, page, seconds):
     cards = run(STUDY, case, seconds, words=with_fewer(with_job(words_of(case), b"cards"), most))
     if searched[2] or cards[2]:
         return [] if searched == cards else [f"the search for a page ends with {searched[1:]}"]
-    return faults_of_search(searched[0].decode(), page.decode(), cards[0].decode())
+    return faults_of_search(searched[0].decode(), page.decode(), cards[0].decode(), deal, report)
 
 
 def judge(case, program, seconds):
@@ -462,7 +492,7 @@ def judge(case, program, seconds):
         return [f"{case}: no page: {said!r}"], 0
     fusion = run(program, case, seconds, words=[b"--job", b"fusion", b"--deal", deal, b"--layouts", layouts])[0]
     text = bytes_of(case, os.fsdecode(deal))
-    wrong = faults_of(page, text, report, told(b"words")[0], fusion, told(b"lines")[0]) + judge_search(case, page, seconds)
+    wrong = faults_of(page, text, report, told(b"words")[0], fusion, told(b"lines")[0]) + judge_search(case, page, text, report, seconds)
     tags = b"".join(b'[%s "%s"]\n' % (name, HOSTILE) for name in (b"Event", b"Board"))
     hostile, _, status = told(b"page", {deal: tags + text}.items())
     reader = Reader()

@@ -1,5 +1,5 @@
 -- The page holds the report.
-use Rattle.std.proofs.Common.{◌≡◌, ◌∙◌, ◌++◌, ℕ, Option, is_some, List, [], ap, append_assoc}
+use Rattle.std.proofs.Common.{◌≡◌, ◌∙◌, ◌++◌, ℕ, Option, List, [], ap, append_assoc}
 use Rattle.std.proofs.lemmas.Grind.{flat_map-append}
 use Rattle.pbn_text.specs.Games.{GameValue}
 use Rattle.pbn_deal.specs.Boards.{BoardValue}
@@ -36,7 +36,7 @@ text_holds : (game : GameValue) (board : BoardValue) (kept : KeptValue) (read : 
     → text ≡ written (page game board kept read bytes known lines refuted besides played) → HoldsReport bytes text
 unfolding page
 text_holds game board kept read bytes known lines refuted besides played text is =
-    let front = top game board kept read (is_some known) lines ++ cards (scale_of kept read.version) known ++ middle board kept read lines refuted besides played in
+    let front = top game board kept read known lines ++ cards (scale_of kept read.version) read.card known ++ middle board kept read lines refuted besides played in
     record {
       before = written front;
       after = written (own END.now);

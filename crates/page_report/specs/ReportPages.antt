@@ -1,5 +1,5 @@
 -- The page of a report at a root.
-use Rattle.std.specs.Prelude.{◌≡◌, ℕ, ◌+◌, Bool, true, false, not, Option, None, Some, is_some, List, [], ◌∷◌, ◌++◌, length, sum, map, flat_map, codes, if◌then◌else◌}
+use Rattle.std.specs.Prelude.{◌≡◌, ℕ, ◌+◌, ◌==◌, Bool, true, false, not, find, Option, None, Some, is_some, List, [], ◌∷◌, ◌++◌, length, sum, map, flat_map, codes, if◌then◌else◌}
 use Rattle.std.specs.Fmt.{decimal}
 use Rattle.std.specs.Option.{option_map}
 use Rattle.card_sets.specs.declared.seat.Compass.{Compass}
@@ -26,6 +26,7 @@ use Rattle.told_layouts.specs.Looking.{step_layouts, reached}
 use Rattle.told_words.specs.Words.{told_text}
 use Rattle.told_words.specs.Reached.{lines_reached}
 use Rattle.told_report.specs.ToldReport.{AreToldOf}
+use Rattle.card_brackets.specs.declared.rows.CardRow.{CardRow}
 use Rattle.card_brackets.specs.declared.table.CardTable.{CardTable}
 use Rattle.html_text.specs.declared.page.Piece.{Piece}
 use Rattle.html_text.specs.Pages.{own, told, written}
@@ -37,9 +38,10 @@ use Rattle.page_text.specs.declared.script.TheConstants.{END}
 use Rattle.page_text.specs.declared.verdict.Rivals.{Rivals}
 use Rattle.page_text.specs.declared.verdict.Rivals.TheVariants.{Reported, Planned, All}
 use Rattle.page_text.specs.declared.verdict.Scale.{Scale}
+use Rattle.page_text.specs.declared.verdict.Surety.{Surety}
 use Rattle.page_text.specs.Cards.{cards}
 use Rattle.page_text.specs.Frames.{TagValues, start, facts, report}
-use Rattle.page_text.specs.Verdicts.{headline, promise, plans_all, horizon}
+use Rattle.page_text.specs.Verdicts.{headline, best_from, promise, plans_all, horizon}
 use Rattle.page_text.specs.Reasons.{kept_reason}
 use Rattle.page_text.specs.Tables.{table}
 use Rattle.page_text.specs.Lines.{trade_offs, lines_pieces}
@@ -131,18 +133,35 @@ left_out dropped = flat_map dropped_pieces dropped ++ own DROPPED_END.now
 abbrev pub rivals_of : Bool → PositionValue → ℕ → Rivals
 rivals_of is_best position moves = if not is_best then Reported else if plans_all position moves then All else Planned
 
+-- the row of a card, if it has one
+abbrev pub row_in : ℕ → CardTable → Option CardRow
+row_in card table = find (λ row. row.card == card) table.rows.items
+
+-- the least that a card is known to win
+abbrev pub least_of : ℕ → Option CardTable → Option ℕ
+least_of card None = None
+least_of card (Some table) = option_map (λ row. row.least) (row_in card table)
+
+-- how far the lines of a report are planned, and what is known of its card
+abbrev pub surety_of : KeptValue → ReadReportValue → Option CardTable → Surety
+surety_of kept read known = record {
+  moves = read.moves;
+  all = plans_all kept.node.position read.moves;
+  least = least_of read.card known;
+}
+
 -- the card to play, what it keeps, what decides that, and how far the lines are planned
-unfoldable pub verdict : Bool → Compass → KeptValue → ReadReportValue → List Line → List Piece
-verdict is_best declarer kept read lines =
+unfoldable pub verdict : Option CardTable → Compass → KeptValue → ReadReportValue → List Line → List Piece
+verdict known declarer kept read lines =
     headline kept.node.position read.card
-    ++ promise (scale_of kept read.version) (rivals_of is_best kept.node.position read.moves) read.card lines
-    ++ kept_reason declarer read.card lines ++ horizon kept.node.position read.moves
+    ++ promise (scale_of kept read.version) (surety_of kept read known) (rivals_of (is_some known) kept.node.position read.moves) read.card lines
+    ++ kept_reason declarer read.card lines ++ horizon (surety_of kept read known) (best_from read.card lines)
 
 -- the top of the page
-unfoldable pub top : GameValue → BoardValue → KeptValue → ReadReportValue → Bool → List Line → List Piece
-top game board kept read is_best lines =
+unfoldable pub top : GameValue → BoardValue → KeptValue → ReadReportValue → Option CardTable → List Line → List Piece
+top game board kept read known lines =
     start read.card (length kept.node.lefts) ++ facts (tags_of game) (compass_of board.declarer (to_play kept.node.position))
-    ++ verdict is_best board.declarer kept read lines ++ own NAVIGATION.now
+    ++ verdict known board.declarer kept read lines ++ own NAVIGATION.now
 
 -- the lines side by side, with what plain sampling believes, and in words
 unfoldable pub play : Compass → KeptValue → ReadReportValue → List Line → List (Option Refutation) → List Piece
@@ -175,7 +194,7 @@ middle board kept read lines refuted besides played =
 -- the page, which ends with the report: with every legal card, if the report was searched for
 unfoldable pub page : GameValue → BoardValue → KeptValue → ReadReportValue → List ℕ → Option CardTable → List Line → List (Option Refutation) → List Beside → List PlayedLine → List Piece
 page game board kept read bytes known lines refuted besides played =
-    top game board kept read (is_some known) lines ++ cards (scale_of kept read.version) known ++ middle board kept read lines refuted besides played
+    top game board kept read known lines ++ cards (scale_of kept read.version) read.card known ++ middle board kept read lines refuted besides played
     ++ report bytes ++ own END.now
 
 -- a page of a report, with its strategies in words, where they part, the first of them played out, and why sampling believes in

@@ -10,7 +10,7 @@ ghost use Rattle.am_report.specs.Reading.{report_of};
 ghost use Rattle.page_text.specs.Frames.{told_by};
 ghost use Rattle.page_report.specs.BesideLines.{AreBeside};
 ghost use Rattle.page_report.specs.ReportPages.{scale_of, is_weighed, value_of as value_in};
-ghost use Rattle.page_report.specs.ReportPages.{tags_of, rivals_of};
+ghost use Rattle.page_report.specs.ReportPages.{tags_of, rivals_of, row_in, least_of, surety_of};
 ghost use Rattle.page_report.specs.ReportPages.{beliefs_of as beliefs_at, verdict, top, play};
 ghost use Rattle.page_report.specs.ReportPages.{all_layouts, middle, page as page_of, IsReportPage};
 
@@ -22,15 +22,15 @@ use crate::plays::played_lines;
 use crate::refuted::refuted_of;
 use am_report::{ReadReport, Version};
 use byte_text::Text;
-use card_brackets::CardTable;
-use card_sets::Compass;
+use card_brackets::{CardRow, CardTable};
+use card_sets::{Card, Compass};
 use html_text::Page;
 use layout_list::Kept;
 use page_text::{
-    Belief, Beside, Layouts, Line, PlayedLine, Refutation, Rivals, Scale, Tags, plans_all,
-    push_cards, push_end, push_facts, push_headline, push_horizon, push_kept_reason, push_layouts,
-    push_lines, push_navigation, push_numbers, push_partings, push_promise, push_report,
-    push_sampling, push_start, push_table, push_trade_offs,
+    Belief, Beside, Layouts, Line, PlayedLine, Refutation, Rivals, Scale, Surety, Tags, best_from,
+    plans_all, push_cards, push_end, push_facts, push_headline, push_horizon, push_kept_reason,
+    push_layouts, push_lines, push_navigation, push_numbers, push_partings, push_promise,
+    push_report, push_sampling, push_start, push_table, push_trade_offs,
 };
 use pbn_deal::Board;
 use pbn_text::{Game, Tag};
@@ -104,11 +104,40 @@ fn tags_of(game: &Game) -> Tags<'_>
     }
 }
 
-// Whether a report has the best lines of all that plan as many cards: it was searched for.
-fn has_best(shown: &Shown) -> bool
-    ensures { result ≡ is_some (option_copied shown.now.cards) }
+// The row of a card, if it has one.
+fn row_in(card: Card, table: &CardTable) -> Option<&CardRow>
+    ensures { option_copied result ≡ row_in card table.now }
 {
-    matches!(shown.cards, Some(_))
+    table.rows.iter().find(|row| row.card == card)
+}
+
+// The least that a card is known to win.
+fn least_of(card: Card, cards: Option<&CardTable>) -> Option<u32>
+    ensures { result ≡ least_of card (option_copied cards.entry) }
+{
+    match row_in(card, cards?) {
+        Some(row) => Some(row.least),
+        None => None,
+    }
+}
+
+// How far the lines of a report are planned, and what is known of its card.
+fn surety_of(kept: &Kept, report: &ReadReport, cards: Option<&CardTable>) -> Surety
+    ensures { result
+        ≡ surety_of kept.now (report_of report.now) (option_copied cards.entry) }
+{
+    Surety {
+        moves: report.moves,
+        all: plans_all(kept.node.position(), report.moves),
+        least: least_of(report.card, cards),
+    }
+}
+
+// Whether a report has the best lines of all that plan as many cards: it was searched for.
+fn has_best(cards: Option<&CardTable>) -> bool
+    ensures { result ≡ is_some (option_copied cards.entry) }
+{
+    matches!(cards, Some(_))
 }
 
 // The lines that make no more than the best of the report.
@@ -127,29 +156,30 @@ fn rivals_of(is_best: bool, position: &Position, moves: u8) -> Rivals
 #[tactic(auto, unfolding(crate::specs::ReportPages::verdict))]
 fn push_verdict(
     page: &mut Page,
-    is_best: bool,
+    cards: Option<&CardTable>,
     declarer: Compass,
     kept: &Kept,
     report: &ReadReport,
     lines: &[Line],
 ) -> Result<(), AllocError>
-    ensures { OnOk result (page.new
-        ≡ page.old ++ verdict is_best declarer kept.now (report_of report.now) lines.now) }
+    ensures { OnOk result (page.new ≡ page.old ++ verdict (option_copied cards.entry) declarer
+        kept.now (report_of report.now) lines.now) }
 {
     let position = kept.node.position();
     let scale = scale_of(kept, report.version);
-    let rivals = rivals_of(is_best, position, report.moves);
+    let surety = surety_of(kept, report, cards);
+    let rivals = rivals_of(has_best(cards), position, report.moves);
     push_headline(page, position, report.card)?;
-    push_promise(page, scale, rivals, report.card, lines)?;
+    push_promise(page, scale, surety, rivals, report.card, lines)?;
     push_kept_reason(page, declarer, report.card, lines)?;
-    push_horizon(page, position, report.moves)
+    push_horizon(page, surety, best_from(report.card, lines))
 }
 
 #[tactic(auto, unfolding(crate::specs::ReportPages::top))]
 fn push_top(page: &mut Page, alloc: Global, shown: &Shown, lines: &[Line]) -> Result<(), AllocError>
     ensures { OnOk result (page.new ≡ page.old ++ top shown.now.game.now shown.now.board.now
         shown.now.kept.now (report_of shown.now.report.now)
-        (is_some (option_copied shown.now.cards)) lines.now) }
+        (option_copied shown.now.cards) lines.now) }
 {
     let board = shown.board;
     let kept = shown.kept;
@@ -161,7 +191,7 @@ fn push_top(page: &mut Page, alloc: Global, shown: &Shown, lines: &[Line]) -> Re
         &tags_of(shown.game),
         board.compass(kept.node.position().to_play()),
     )?;
-    push_verdict(page, has_best(shown), board.declarer(), kept, report, lines)?;
+    push_verdict(page, shown.cards, board.declarer(), kept, report, lines)?;
     push_navigation(page)
 }
 
@@ -256,10 +286,11 @@ fn page_of(alloc: Global, shown: &Shown, found: &Found) -> Result<Page, AllocErr
         found.now.besides.items found.now.played.items) }
 {
     let bytes = shown.bytes;
-    let scale = scale_of(shown.kept, shown.report.version);
+    let report = shown.report;
+    let scale = scale_of(shown.kept, report.version);
     let mut page = Page::new(alloc);
     push_top(&mut page, alloc, shown, &found.lines)?;
-    push_cards(&mut page, scale, shown.cards)?;
+    push_cards(&mut page, scale, report.card, shown.cards)?;
     push_middle(&mut page, shown, found)?;
     push_report(&mut page, bytes.bytes())?;
     push_end(&mut page)?;

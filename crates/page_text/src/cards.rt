@@ -4,7 +4,7 @@ ghost use Rattle.page_text.specs.Cards.{card_end, row_end, card_cell, bounds, ca
 ghost use Rattle.page_text.specs.Cards.{cards_head, card_rows, cards as cards_known};
 
 use crate::markup::{
-    CARDS, CARDS_HEAD, FIGURES_OF, FIRST_CARD, NAMED, OPEN, ROW, ROWS, ROWS_END, SETTLED, WEIGHT,
+    CARDS, CARDS_HEAD, FIGURES_OF, FIRST_CARD, OPEN, ROW, ROWS, ROWS_END, SETTLED, TO_PLAY, WEIGHT,
 };
 use crate::signs::push_card;
 use crate::verdict::{Scale, unit};
@@ -14,11 +14,11 @@ use html_text::Page;
 use std::alloc::AllocError;
 
 // The end of a card's cell, which says whether it is the one to play.
-fn card_end(is_named: bool) -> &'static [u8]
-    ensures { result.now ≡ card_end is_named }
+fn card_end(is_to_play: bool) -> &'static [u8]
+    ensures { result.now ≡ card_end is_to_play }
 {
-    match is_named {
-        true => NAMED,
+    match is_to_play {
+        true => TO_PLAY,
         false => FIRST_CARD,
     }
 }
@@ -31,12 +31,12 @@ fn row_end(row: &CardRow) -> &'static [u8]
 }
 
 #[tactic(auto, unfolding(crate::specs::Cards::card_cell))]
-fn push_card_cell(page: &mut Page, named: Card, card: Card) -> Result<(), AllocError>
-    ensures { OnOk result (page.new ≡ page.old ++ card_cell named card) }
+fn push_card_cell(page: &mut Page, to_play: Card, card: Card) -> Result<(), AllocError>
+    ensures { OnOk result (page.new ≡ page.old ++ card_cell to_play card) }
 {
     page.own(ROW)?;
     push_card(page, card)?;
-    page.own(card_end(card == named))
+    page.own(card_end(card == to_play))
 }
 
 // Adds what is known of a card.
@@ -51,19 +51,19 @@ fn push_bounds(page: &mut Page, row: &CardRow) -> Result<(), AllocError>
 }
 
 #[tactic(auto, unfolding(crate::specs::Cards::card_row))]
-fn push_row(page: &mut Page, named: Card, row: &CardRow) -> Result<(), AllocError>
-    ensures { OnOk result (page.new ≡ page.old ++ card_row named row.now) }
+fn push_row(page: &mut Page, to_play: Card, row: &CardRow) -> Result<(), AllocError>
+    ensures { OnOk result (page.new ≡ page.old ++ card_row to_play row.now) }
 {
-    push_card_cell(page, named, row.card)?;
+    push_card_cell(page, to_play, row.card)?;
     push_bounds(page, row)
 }
 
-fn push_rows(page: &mut Page, table: &CardTable) -> Result<(), AllocError>
+fn push_rows(page: &mut Page, to_play: Card, table: &CardTable) -> Result<(), AllocError>
     ensures { OnOk result
-        (page.new ≡ page.old ++ flat_map (card_row table.now.named) table.now.rows.items) }
+        (page.new ≡ page.old ++ flat_map (card_row to_play) table.now.rows.items) }
 {
     for row in &table.rows {
-        push_row(page, table.named, row)?;
+        push_row(page, to_play, row)?;
     }
     Ok(())
 }
@@ -79,27 +79,34 @@ fn push_head(page: &mut Page, scale: Scale, moves: u8) -> Result<(), AllocError>
 }
 
 #[tactic(auto, unfolding(crate::specs::Cards::card_rows))]
-fn push_table(page: &mut Page, scale: Scale, table: &CardTable) -> Result<(), AllocError>
-    ensures { OnOk result (page.new ≡ page.old ++ card_rows scale table.now) }
+fn push_table(
+    page: &mut Page,
+    scale: Scale,
+    to_play: Card,
+    table: &CardTable,
+) -> Result<(), AllocError>
+    ensures { OnOk result (page.new ≡ page.old ++ card_rows scale to_play table.now) }
 {
     push_head(page, scale, table.moves)?;
     page.own(ROWS)?;
-    push_rows(page, table)?;
+    push_rows(page, to_play, table)?;
     page.own(ROWS_END)
 }
 
 /// Adds every legal card with what is known of it, if that is known: in card order the bounds of
-/// what is won after it, what sampling believes, and whether more planned cards change nothing.
+/// what is won after it, what sampling believes, and whether more planned cards change nothing. The
+/// card to play is marked.
 pub fn push_cards(
     page: &mut Page,
     scale: Scale,
+    to_play: Card,
     cards: Option<&CardTable>,
 ) -> Result<(), AllocError>
     ensures { OnOk result
-        (page.new ≡ page.old ++ cards_known scale (option_copied cards.entry)) }
+        (page.new ≡ page.old ++ cards_known scale to_play (option_copied cards.entry)) }
 {
     match cards {
-        Some(table) => push_table(page, scale, table),
+        Some(table) => push_table(page, scale, to_play, table),
         None => Ok(()),
     }
 }

@@ -35,4 +35,6 @@ pub use reached::Reached;
 pub use reasons::push_kept_reason;
 pub use refutations::{Refutation, refuting_place};
 pub use table::push_table;
-pub use verdict::{Rivals, Scale, plans_all, push_headline, push_horizon, push_promise};
+pub use verdict::{
+    Rivals, Scale, Surety, best_from, plans_all, push_headline, push_horizon, push_promise,
+};

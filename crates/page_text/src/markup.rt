@@ -113,9 +113,10 @@ pub const REPORT_END: &[u8] = b"</pre></details>\n</section>\n";
 
 pub const HEADLINE: &[u8] = b"<h1>Play the ";
 
-pub const PROMISE: &[u8] = b"<p class='promise'>It keeps a line that makes <strong>";
+pub const MOST_END: &[u8] = b"</strong> (cards planned: ";
 
-pub const WHATEVER: &[u8] = b"</strong>, whatever the defenders do. ";
+pub const AT_LEAST: &[u8] =
+    b" Whatever the defenders do, a line that begins with it makes at least ";
 
 pub const ALL_PLANNED: &[u8] =
     b"<p>Every card of declarer&#8217;s side is planned, to the end of the play.</p>\n";
@@ -125,6 +126,9 @@ pub const PLANNED: &[u8] = b"<p>Cards of declarer&#8217;s side that are planned:
 pub const PLANNED_END: &[u8] =
     b". If the result is open after them, it is judged as if all hands were seen: with more cards
 planned the figure can be lower, never higher.</p>\n";
+
+pub const SURE_END: &[u8] =
+    b". Planning more cards doesn&#8217;t change the figure: it is also the least that the card makes.</p>\n";
 
 // ---- every legal card
 
@@ -143,7 +147,7 @@ pub const CARDS_HEAD: &[u8] = b".</p>
 <thead><tr><th scope='col'>Card</th><th scope='col'>most</th><th scope='col'>least</th>
 <th scope='col'>sampled</th><th scope='col'>settled</th>";
 
-pub const NAMED: &[u8] = b" <b>to play</b></th><td>";
+pub const TO_PLAY: &[u8] = b" <b>to play</b></th><td>";
 
 pub const SETTLED: &[u8] = b"</td><td>yes</td></tr>\n";
 
