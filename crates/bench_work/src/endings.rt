@@ -8,7 +8,7 @@ use workload::{Question, Strain, Workload, answers_of};
 
 /// The words: how many tricks an ending has, how many endings are passed over, and how many are
 /// answered. Then, in any order, `plain` for plain minimax in place of the solver, `needs`,
-/// `plain-needs`, `tricks` or `sampling` for another question, and `notrump` or `suit` for endings
+/// `plain-needs` or `tricks` for another question, and `notrump` or `suit` for endings
 /// without or with trumps alone. Other words say nothing.
 pub fn run(rt: &impl Print, alloc: Global, words: &[&str]) -> anyhow::Result<()> {
     let mut numbers = [0u64; 3];
@@ -23,7 +23,6 @@ pub fn run(rt: &impl Print, alloc: Global, words: &[&str]) -> anyhow::Result<()>
                 "needs" => question = Question::Needs,
                 "plain-needs" => question = Question::PlainNeeds,
                 "tricks" => question = Question::Tricks,
-                "sampling" => question = Question::Sampling,
                 "notrump" => strain = Strain::NoTrump,
                 "suit" => strain = Strain::Suit,
                 _ => {}

@@ -3,13 +3,21 @@
 
 mod workload;
 
-use crate::words::choice_and_numbers;
 use std::alloc::Global;
 use workload::{Outcome, inserts, joins};
 
-/// The words: `inserts` or `joins`, how many vectors a front has, and how many rounds.
+/// The words: `inserts` or `joins`, how many vectors a front has, and how many rounds. What is missing
+/// counts as 0.
 pub fn run(rt: &impl Print, alloc: Global, words: &[&str]) -> anyhow::Result<()> {
-    let (is_join, numbers) = choice_and_numbers(words, "joins")?;
+    let mut is_join = false;
+    let mut numbers = [0u64; 2];
+    for (place, word) in words.iter().enumerate() {
+        if place == 0 {
+            is_join = *word == "joins";
+        } else if place <= 2 {
+            numbers[place - 1] = word.parse()?;
+        }
+    }
     let outcome = if is_join {
         joins(alloc, numbers[0], numbers[1])?
     } else {

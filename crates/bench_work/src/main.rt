@@ -7,11 +7,8 @@ mod draws;
 mod endings;
 mod files;
 mod fronts;
-mod pbn;
-mod plans;
 mod search;
 mod store;
-mod words;
 
 use std::alloc::Global;
 use std::env;
@@ -22,28 +19,17 @@ use std::rt::Files;
 enum Work {
     Fronts,
     DoubleDummy,
-    Pbn,
-    Plans,
     Search,
     Store,
 }
 
 impl Work {
-    const ALL: [Work; 6] = [
-        Work::Fronts,
-        Work::DoubleDummy,
-        Work::Pbn,
-        Work::Plans,
-        Work::Search,
-        Work::Store,
-    ];
+    const ALL: [Work; 4] = [Work::Fronts, Work::DoubleDummy, Work::Search, Work::Store];
 
     fn of_word(word: &str) -> Option<Work> {
         match word {
             "fronts" => Some(Work::Fronts),
             "double_dummy" => Some(Work::DoubleDummy),
-            "pbn" => Some(Work::Pbn),
-            "plans" => Some(Work::Plans),
             "search" => Some(Work::Search),
             "store" => Some(Work::Store),
             _ => None,
@@ -55,8 +41,6 @@ impl Work {
         match self {
             Work::Fronts => fronts::run(rt, alloc, words),
             Work::DoubleDummy => endings::run(rt, alloc, words),
-            Work::Pbn => pbn::run(rt, alloc, words),
-            Work::Plans => plans::run(rt, alloc, words),
             Work::Search => search::run(rt, alloc, words),
             Work::Store => store::run(rt, alloc, words),
         }
@@ -67,8 +51,6 @@ impl Work {
         match self {
             Work::Fronts => self.run(rt, alloc, &["inserts", "8", "20"]),
             Work::DoubleDummy => self.run(rt, alloc, &["5", "0", "200"]),
-            Work::Pbn => self.run(rt, alloc, &["records", "65536", "2"]),
-            Work::Plans => self.run(rt, alloc, &["read", "120", "1"]),
             Work::Search => self.run(rt, alloc, &["k.pbn", "k.lay", "2", "plain"]),
             Work::Store => self.run(rt, alloc, &["local", "50", "200", "hits"]),
         }
@@ -93,7 +75,7 @@ fn main(rt: HostRuntime) -> anyhow::Result<()> {
         }
         [name, rest @ ..] => match Work::of_word(name) {
             Some(work) => work.run(&rt, alloc, rest),
-            None => anyhow::bail!("fronts|double_dummy|pbn|plans|search|store"),
+            None => anyhow::bail!("fronts|double_dummy|search|store"),
         },
     }
 }

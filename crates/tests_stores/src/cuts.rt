@@ -4,9 +4,8 @@
 //! The numbers are counted by hand. Declarer holds SK SJ, and dummy leads S2 from S3 S2. Left has
 //! SQ S5 or SA S5, so Right may play S7 in both layouts, SQ in one and SA in the other. After each
 //! of the three declarer has two cards, and then no move is left: 1 + 3 * (1 + 2) = 10 nodes.
-use crate::endings::{all_fit, set_of};
+use crate::endings::{HANDS, KING_JACK, QUEEN_ACE, after, guess, root};
 use alphamu_core::{Budget, Found, search};
-use card_sets::{Card, Seat};
 use cut_rules::{CutRules, Stop};
 use dd_solver::Solver;
 use front_table::{FrontStore, LocalStore, NoStore};
@@ -14,58 +13,8 @@ use pareto_fronts::Front;
 use std::alloc::{AllocError, Global};
 use std::process::Abort;
 use std::test::Fail;
-use trick_rules::{Node, Position, Trump};
+use trick_rules::Node;
 use win_vectors::WinVector;
-
-/// Declarer's cards: SK SJ.
-const KING_JACK: [u8; 2] = [9, 11];
-
-/// The defenders' cards where declarer has these: S5 S7 SQ SA.
-const QUEEN_ACE: [u8; 4] = [3, 5, 10, 12];
-
-/// The hands of Left: SQ S5 and SA S5.
-const HANDS: [[u8; 2]; 2] = [[3, 10], [3, 12]];
-
-/// Dummy leads from S3 S2, and this many of the two tricks are needed. Left has one of the hands.
-fn root(
-    rt: &impl Abort,
-    alloc: Global,
-    declarer: &[u8],
-    unseen: &[u8],
-    need: u8,
-    hands: &[[u8; 2]],
-) -> Result<Node, AllocError> {
-    let position = Position::between_tricks(
-        set_of(declarer),
-        set_of(&[0, 1]),
-        set_of(unseen),
-        Seat::Dummy,
-        need,
-        Trump::NoTrump,
-    )
-    .expect(rt, "the ending is sound");
-    let mut lefts = Vec::new(alloc);
-    for hand in hands {
-        lefts.push(set_of(hand))?;
-    }
-    assert!(rt; !lefts.is_empty() && lefts.len() <= 64);
-    assert!(rt; all_fit(&position, lefts.as_slice()));
-    Node::new(alloc, position, lefts.as_slice())
-}
-
-/// The root where one trick is needed.
-fn guess(rt: &impl Abort, alloc: Global) -> Result<Node, AllocError> {
-    root(rt, alloc, &KING_JACK, &QUEEN_ACE, 1, &HANDS)
-}
-
-/// The node after a card, by its number.
-fn after(rt: &impl Abort, alloc: Global, node: &Node, number: u8) -> Result<Node, AllocError> {
-    assert!(rt; number < 52);
-    let card = Card::from_number(number);
-    assert!(rt; node.choices().has(card));
-    let (child, _) = node.child(alloc, card)?;
-    Ok(child)
-}
 
 /// The front of the vectors whose bits these are, the first layout first.
 fn front_of(rt: &impl Abort, alloc: Global, bits: &[[bool; 2]]) -> Result<Front, AllocError> {

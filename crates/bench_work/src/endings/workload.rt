@@ -29,9 +29,6 @@ pub enum Question {
     PlainNeeds,
     /// How many tricks declarer's side takes.
     Tricks,
-    /// How many of declarer's cards keep the tricks of the first of 20 layouts, summed over the
-    /// layouts.
-    Sampling,
 }
 
 /// How many tricks an ending has, what is asked of it, and which trumps there are.
@@ -41,9 +38,6 @@ pub struct Workload {
     pub question: Question,
     pub strain: Strain,
 }
-
-/// How many layouts are sampled.
-const LAYOUTS: usize = 20;
 
 /// The most cards that are played before needs are asked of.
 const MOST_PLAYED: usize = 7;
@@ -98,23 +92,6 @@ impl Ending {
         tricks
     }
 
-    // How many of declarer's cards keep the need where Left holds these cards, by one solver.
-    fn cards_made(&self, solver: &mut Solver, left: CardSet, need: u8) -> u64 {
-        let mut made: u64 = 0;
-        let Some(position) = self.position(need) else {
-            return 0;
-        };
-        for card in self.declarer {
-            if position.held_by(position.to_play()).has(card) {
-                let after = play(&position, card);
-                if after.fits(left) && solver.makes(&after, left) {
-                    made = made.saturating_add(1);
-                }
-            }
-        }
-        made
-    }
-
     // The position after a card for each of these numbers, which say which legal card it is, and
     // Left's hand there.
     fn played(&self, left: CardSet, need: u8, numbers: &[u8]) -> Option<(Position, CardSet)> {
@@ -146,17 +123,6 @@ impl Ending {
             }
         }
         needs
-    }
-
-    // How many cards keep the tricks of the first layout, summed over the layouts. As in `fusion`
-    // each layout has a solver of its own.
-    fn sampled(&self, alloc: Global, lefts: &[CardSet; LAYOUTS]) -> u64 {
-        let need = self.tricks(&mut Solver::new(alloc), lefts[0]).max(1);
-        let mut made: u64 = 0;
-        for left in lefts.as_slice() {
-            made = made.saturating_add(self.cards_made(&mut Solver::new(alloc), *left, need));
-        }
-        made
     }
 }
 
@@ -197,16 +163,6 @@ impl Draws {
         (numbers, played.min(MOST_PLAYED))
     }
 
-    // Left's hands in the layouts of an ending, the first of them given.
-    fn lefts(&mut self, unseen: CardSet, first: CardSet) -> [CardSet; LAYOUTS] {
-        let mut lefts = [first; LAYOUTS];
-        for place in 1..LAYOUTS {
-            let mut used = CardSet::pack().minus(unseen);
-            lefts[place] = self.hand(first.count(), &mut used);
-        }
-        lefts
-    }
-
     // The cards of the next ending, Left's hand, and a need.
     fn ending(&mut self, work: Workload) -> (Ending, CardSet, u8) {
         let mut used = CardSet::empty();
@@ -238,10 +194,6 @@ impl Draws {
                 ending.needs(&mut solver, left, &numbers[..played], plain)
             }
             Question::Tricks => u64::from(ending.tricks(&mut solver, left)),
-            Question::Sampling => {
-                let lefts = self.lefts(ending.unseen, left);
-                ending.sampled(alloc, &lefts)
-            }
         }
     }
 }

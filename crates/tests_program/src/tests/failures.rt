@@ -1,7 +1,7 @@
 //! Reads and writes that fail.
 use super::queen::{QUEEN, QUEEN_LAYOUTS, QUEEN_REPORT, Sinks, ended, shelf_of, words_of};
 use am_outside::{MemorySink, OpenGate};
-use am_top::{FileWord, PbnKind, Status};
+use am_top::{FileWord, Status};
 use byte_text::Text;
 use std::alloc::{AllocError, Global};
 use std::test::Fail;
@@ -24,7 +24,7 @@ fn failing_reads_end_a_run(rt: HostRuntime) -> Result<(), Fail> {
         shelf.add("report", QUEEN_REPORT.as_bytes())?;
         shelf.fail_at(call)?;
         let mut sinks = Sinks::new(alloc)?;
-        let (status, _) = ended(&rt, alloc, &words, &mut shelf, &mut sinks, &OpenGate)?;
+        let status = ended(&rt, alloc, &words, &mut shelf, &mut sinks, &OpenGate)?;
         assert!(rt; status == Status::Unread(file) && sinks.out.bytes().is_empty());
     }
     Ok(())
@@ -43,7 +43,7 @@ fn leaves<R: Threads + Sync>(
     let mut shelf = shelf_of(alloc, QUEEN, QUEEN_LAYOUTS)?;
     let err = MemorySink::new(alloc, 100, 0)?;
     let mut sinks = Sinks { out, err };
-    let (end, _) = ended(rt, alloc, &words, &mut shelf, &mut sinks, &OpenGate)?;
+    let end = ended(rt, alloc, &words, &mut shelf, &mut sinks, &OpenGate)?;
     let line = if status == Status::Done {
         ""
     } else {
@@ -66,20 +66,5 @@ fn each_write_failing_in_turn(rt: HostRuntime) -> Result<(), Fail> {
     }
     let out = MemorySink::in_steps(alloc, 1000, 7, write)?;
     assert!(rt; leaves(&rt, alloc, out, Status::Done, QUEEN_REPORT.as_bytes())?);
-    Ok(())
-}
-
-#[test]
-fn a_failing_line_changes_no_status(rt: HostRuntime) -> Result<(), Fail> {
-    let alloc = rt.alloc();
-    let words = words_of(alloc, SOLVE)?;
-    let mut shelf = shelf_of(alloc, "", QUEEN_LAYOUTS)?;
-    let mut sinks = Sinks {
-        out: MemorySink::new(alloc, 1000, 0)?,
-        err: MemorySink::new(alloc, 100, 1)?,
-    };
-    let (status, _) = ended(&rt, alloc, &words, &mut shelf, &mut sinks, &OpenGate)?;
-    assert!(rt; status == Status::BadPbn(1, PbnKind::NoGame) && sinks.out.bytes().is_empty());
-    assert!(rt; sinks.err.bytes().is_empty());
     Ok(())
 }

@@ -3,7 +3,6 @@ use am_match::{Defender, HighCard, LowCard};
 use am_outside::{Gate, MemoryShelf, MemorySink, OpenGate};
 use am_top::{Status, run};
 use std::alloc::{AllocError, Global};
-use std::test::Fail;
 use std::thread::Threads;
 
 /// Two spades opposite king and jack, with one of two tricks needed and North, dummy, to lead.
@@ -78,7 +77,7 @@ pub fn ran_at<R: Threads + Sync, G: Gate>(
 ) -> Result<Run, AllocError> {
     let words = words_of(alloc, text)?;
     let mut sinks = Sinks::new(alloc)?;
-    let (status, _) = ended(rt, alloc, &words, shelf, &mut sinks, gate)?;
+    let status = ended(rt, alloc, &words, shelf, &mut sinks, gate)?;
     let Sinks { out, err } = sinks;
     Ok(Run { status, out, err })
 }
@@ -101,8 +100,7 @@ impl Sinks {
     }
 }
 
-/// How the words end, and the defenders then at a table of two playing low and a third playing
-/// high.
+/// How the words end, with three defenders at the table.
 /// No clause, as at `Run::ends_with`.
 pub fn ended<R: Threads + Sync, G: Gate>(
     rt: &R,
@@ -111,21 +109,12 @@ pub fn ended<R: Threads + Sync, G: Gate>(
     shelf: &mut MemoryShelf,
     sinks: &mut Sinks,
     gate: &G,
-) -> Result<(Status, Vec<Box<dyn Defender>>), AllocError> {
+) -> Result<Status, AllocError> {
     let mut table: Vec<Box<dyn Defender>> = Vec::new(alloc);
     table.push(Box::new(alloc, LowCard::new())?)?;
     table.push(Box::new(alloc, LowCard::new())?)?;
     table.push(Box::new(alloc, HighCard::new())?)?;
     let out = &mut sinks.out;
     let err = &mut sinks.err;
-    let status = run(rt, alloc, words, shelf, out, err, gate, &mut table);
-    Ok((status, table))
-}
-
-#[test]
-fn the_report_is_written(rt: HostRuntime) -> Result<(), Fail> {
-    let words = "--job solve --deal deal --layouts layouts --moves 2";
-    let run = ran(&rt, rt.alloc(), words, QUEEN, QUEEN_LAYOUTS)?;
-    assert!(rt; run.ends_with(Status::Done, QUEEN_REPORT, ""));
-    Ok(())
+    Ok(run(rt, alloc, words, shelf, out, err, gate, &mut table))
 }
