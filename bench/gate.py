@@ -2,7 +2,9 @@
 """gate.py [--anew | --pid N] [--log FILE] [--rows FILE] [--table FILE]
 
 Shows where the time of `rt ci` goes: for each crate, the seconds of the processor that its proof, the proof of its tests and its
-must-fail edits take, as the table of docs/SPEED.md.
+must-fail edits take, as the table of docs/SPEED.md. Then it says how many times as much the whole run took as the proof of the crate
+UNIT in the same run. Machines differ by a factor of three, and other work on one slows all of it down, so this number says more of
+the gate than its seconds do. It needs a run from nothing: --anew, or a machine that keeps nothing.
 
 It runs `rt ci` at the top of the repository, and what the toolchain prints goes to the log. With --anew the toolchain proves all again;
 otherwise it passes over what an earlier run proved on this machine. The rows of such crates come from the file of --rows, which keeps
@@ -24,6 +26,8 @@ import time
 
 TOP = os.path.dirname(os.path.dirname(os.path.abspath(__file__)))
 KINDS = ("proof", "tests", "edits")
+# The crate whose proof is the unit: of middling size, and seldom changed.
+UNIT = "am_report"
 TICKS = os.sysconf("SC_CLK_TCK")
 
 
@@ -126,9 +130,17 @@ def minutes(rows):
     return sum(sum(row.values()) for row in rows.values()) / 60
 
 
+def multiple(whole, rows):
+    """A line: how many times as much the whole run took as the proof of one crate in it."""
+    unit = rows.get(UNIT, {}).get("proof")
+    if not unit:
+        return f"This run didn't prove {UNIT}, so there is no unit."
+    return f"{whole / unit:.1f} times the proof of {UNIT}, which took {unit:.0f} seconds of a processor in this run."
+
+
 def about(wall, whole, rows, rows_of_all, log):
-    """Two lines: what the run took, and what the toolchain says of it."""
-    text = (f"{wall / 60:.1f} minutes on {os.cpu_count()} processors, {whole / 60:.1f} minutes of a processor, of which the table "
+    """Three lines: what the run took, in two units, and what the toolchain says of it."""
+    text = multiple(whole, rows) + "\n" + (f"{wall / 60:.1f} minutes on {os.cpu_count()} processors, {whole / 60:.1f} minutes of a processor, of which the table "
             f"has {minutes(rows):.1f}, and {minutes(rows_of_all) - minutes(rows):.1f} of earlier runs.")
     try:
         with open(log, encoding="utf-8", errors="replace") as file:

@@ -1,15 +1,17 @@
-"""What the benchmarks share: the program with the workloads, the processor time of a program, and how often it must run to be timed."""
+"""What the benchmarks share: both programs, and the processor time that they take."""
 import pathlib
 import resource
 import subprocess
 import sys
 
-WORKLOADS = pathlib.Path(__file__).resolve().parent.parent / "crates" / "bench_work" / "out" / "bench_work"
+CRATES = pathlib.Path(__file__).resolve().parent.parent / "crates"
+PROGRAM = CRATES / "alphamu" / "out" / "alphamu"
+WORKLOADS = CRATES / "bench_work" / "out" / "bench_work"
 
 
 def build_workloads():
     """Proves and builds the program with the workloads, whose first word is the name of one. Only a run builds it, so it runs a short one."""
-    words = ["rt", "run", "--", "pbn"]
+    words = ["rt", "run", "--", "fronts"]
     subprocess.run(words, cwd=WORKLOADS.parent.parent, check=True, stdout=subprocess.DEVNULL, stderr=subprocess.DEVNULL)
 
 
@@ -23,20 +25,15 @@ def processor_seconds(words):
     return after.ru_utime + after.ru_stime - before.ru_utime - before.ru_stime, done.stdout
 
 
-def rounds_for(seconds, least):
-    """The number of rounds that takes at least the least time; `seconds` gives the time of a number of rounds."""
-    rounds = 1
-    while seconds(rounds) - seconds(0) < least:
-        rounds *= 2
-    return rounds
-
-
-def least_seconds(seconds, sizes, rounds, runs):
-    """The least time of this many rounds at each size, in turn, without the time that a run takes for anything else."""
-    idle = [[] for _ in sizes]
-    busy = [[] for _ in sizes]
-    for _ in range(runs):
-        for place, size in enumerate(sizes):
-            idle[place].append(seconds(size, 0))
-            busy[place].append(seconds(size, rounds))
-    return [max(min(some) - min(none), 1e-6) for some, none in zip(busy, idle)]
+def seconds_of_runs(words, idle_words, runs, times):
+    """Seconds of the processor that a run takes more than an idle one: the least of some sums over this many runs each."""
+    def least(asked):
+        sums = []
+        for _ in range(times):
+            before = resource.getrusage(resource.RUSAGE_CHILDREN)
+            for _ in range(runs):
+                subprocess.run(asked, stdout=subprocess.DEVNULL, stderr=subprocess.DEVNULL)
+            after = resource.getrusage(resource.RUSAGE_CHILDREN)
+            sums.append(after.ru_utime + after.ru_stime - before.ru_utime - before.ru_stime)
+        return min(sums)
+    return max(least(words) - least(idle_words), 1e-6) / runs

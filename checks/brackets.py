@@ -25,8 +25,7 @@ from concurrent.futures import ProcessPoolExecutor
 sys.dont_write_bytecode = True
 import reading
 from cards import cards_text
-from cases import LAUNCHER, is_ready
-from lines import STUDY
+from cases import PROGRAM, STUDY, is_ready
 
 ALL_MOVES, NODES, DONE = 26, 2000000, 0
 ROW = re.compile(rb"^card (..) most (\d+) least (\d+) sampled \d+ final (yes|no) ", re.M)
@@ -120,7 +119,7 @@ def judge_larger(program, seed, seconds):
 
 def main():
     parser = argparse.ArgumentParser(description="Puts the cards of drawn endings side by side.", allow_abbrev=False)
-    parser.add_argument("program", nargs="?", default=LAUNCHER)
+    parser.add_argument("program", nargs="?", default=PROGRAM)
     parser.add_argument("--small", type=int, default=500)
     parser.add_argument("--larger", type=int, default=300)
     parser.add_argument("--first", type=int, default=1)

@@ -3,7 +3,7 @@
 
 Asks ./study for every card (`cards`) of each case in cases/ that expects a report or a card, with at most MOST_MOVES moves and
 NODES nodes. In endings of at most MOST_CARDS cards a hand, with at most MOST_LAYOUTS layouts, the answer must be that of a second
-reading of the definitions (playing.py, assured.py), byte for byte. In every case with an answer PROGRAM, which is ./alphamu if
+reading of the definitions (playing.py, assured.py), byte for byte. In every case with an answer PROGRAM, which is that of cases.py if
 you name none, must agree: `card` with the moves that the text says names the same card, whose weight is its `most`, and `fusion`
 believes in the same weights. Each is asked again with three choices of the options for the search, which may change no byte. Each
 answer in the forms `csv` and `json` must be what Python's modules of these names write for the values of the text. A case that
@@ -25,11 +25,10 @@ sys.dont_write_bytecode = True
 import assured
 import playing
 import reading
-from cases import TOP, bytes_of, expected, is_ready, names_of_cases, parser_of, run, words_of
+from cases import STUDY, TOP, bytes_of, expected, is_ready, names_of_cases, parser_of, run, words_of
 from jobs import REFUSED, USAGE
 from options import ONE_WORKER, choices_for, job_of
 
-STUDY = os.path.join(TOP, "study")
 MOST_CARDS, MOST_LAYOUTS, MOST_MOVES, NODES, LEAST = 3, 6, 4, 20000, 70
 SPENT = 7
 

@@ -1,10 +1,11 @@
 #!/usr/bin/env python3
 """cases.py [--jobs N] [--seconds N] [--only PATTERN] [PROGRAM]
 
-Runs a program on each case in cases/, and ./study on each in cases/study/, and compares standard output, standard error and
-exit status with what the case expects. If you name no program it is ./alphamu at the top of the repository. Both must have a
-current proved program: ./build makes them. Prints what differs, and the faults of the cases themselves. The exit status is 0 only if there is
-nothing to print. cases/README.md says what a case is.
+Runs a program on each case in cases/, and alphamu_study on each in cases/study/, and compares standard output, standard
+error and exit status with what the case expects. If you name no program it is the proved one, which ./build makes, or, if
+that isn't there or is older than its sources, the one that `./build test` or a first question compiled unproved. Prints what
+differs, and the faults of the cases themselves. The exit status is 0 only if there is nothing to print. cases/README.md says
+what a case is.
 """
 import argparse
 import fnmatch
@@ -15,13 +16,13 @@ import sys
 import tempfile
 from concurrent.futures import ThreadPoolExecutor
 
+sys.dont_write_bytecode = True
+import unproved
+
 TOP = os.path.dirname(os.path.dirname(os.path.abspath(__file__)))
 CASES = os.path.join(TOP, "cases")
-LAUNCHER, STUDY = os.path.join(TOP, "alphamu"), os.path.join(TOP, "study")
 # The folder of the cases of alphamu_study, which are run by STUDY.
 OF_STUDY = "study"
-# Why there is no current proved program, by the exit status of checks/program_state.
-STATES = {1: "the proved program is older than its sources", 2: "there is no proved program"}
 # The files of a case that aren't input.
 OWN = ("about", "args", "fill", "stdout", "stderr", "status", "stdout_to")
 # The only case without words. In any other a missing file of words is a fault.
@@ -53,10 +54,32 @@ def names_of_study_cases():
     return [os.path.join(OF_STUDY, name) for name in folders_in(OF_STUDY)]
 
 
+def is_proved(name):
+    """Whether the proved program is there and no source is newer."""
+    return subprocess.run([os.path.join(TOP, "checks", "program_state"), name], check=False).returncode == 0
+
+
+def current(name):
+    """The proved program if it is current, and otherwise the one for the present sources that is compiled unproved, which
+    need not be there."""
+    return os.path.join(TOP, "crates", name, "out", name) if is_proved(name) else unproved.kept(TOP, name)
+
+
+# The programs that the checks run. They aren't the launchers, which may add a line of their own.
+LAUNCHER = os.path.join(TOP, "alphamu")
+PROGRAM, STUDY = map(current, unproved.CALLED)
+
+
 def lacks_program():
-    """Why there is no current proved program, and the command that makes it; nothing if there is one."""
-    status = subprocess.run([os.path.join(TOP, "checks", "program_state")], check=False).returncode
-    return status and f"{STATES.get(status, 'checks/program_state failed')}: run ./build"
+    """Why there is no program to run, and the commands that make it; nothing if both are there."""
+    if not all(map(unproved.is_there, (PROGRAM, STUDY))):
+        return "there is no program for the present sources: run ./build, or ./build test"
+
+
+def lacks_proved():
+    """The same for the proved programs."""
+    if not all(map(is_proved, unproved.CALLED)):
+        return "there are no proved programs, or they are older than their sources: run ./build"
 
 
 def faults(case):
@@ -137,16 +160,16 @@ def report(cases, told):
 def parser_of(description):
     """A parser for the words that all checks over the cases take."""
     parser = argparse.ArgumentParser(description=description, allow_abbrev=False)
-    parser.add_argument("program", nargs="?", default=LAUNCHER)
+    parser.add_argument("program", nargs="?", default=PROGRAM)
     parser.add_argument("--jobs", type=int, default=len(os.sched_getaffinity(0)))
-    parser.add_argument("--seconds", type=float, default=300)
+    parser.add_argument("--seconds", type=float, default=1200)
     parser.add_argument("--only", default="*", metavar="PATTERN")
     return parser
 
 
 def is_ready(program, check):
     """Whether there is a program to run. Prints a line if there is none."""
-    lacking = lacks_program() if program == LAUNCHER else None
+    lacking = lacks_program() if program == PROGRAM else None
     if lacking:
         print(f"{check}: {lacking}")
     return not lacking

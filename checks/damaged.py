@@ -27,7 +27,6 @@ import cases
 import logs
 import reading
 
-PROVED = os.path.join(cases.TOP, "crates", "alphamu", "out", "alphamu")
 NAMES = {"deal": b"deal.pbn", "layouts": b"layouts.lay", "report": b"report.txt", "log": b"log.txt"}
 # The layout files of the first games, for `boards`.
 OF_GAMES = [b"layouts.lay.%d" % number for number in (1, 2, 3)]
@@ -348,7 +347,7 @@ def work(part):
 
 def main():
     parser = argparse.ArgumentParser(description="Runs alphamu on damaged files and words.", allow_abbrev=False)
-    parser.add_argument("program", nargs="?", default=PROVED)
+    parser.add_argument("program", nargs="?", default=cases.PROGRAM)
     parser.add_argument("--count", type=int, default=1000)
     parser.add_argument("--first", type=int, default=0)
     parser.add_argument("--seed", type=int, default=1)
@@ -356,7 +355,7 @@ def main():
     parser.add_argument("--seconds", type=float, default=60)
     parser.add_argument("--keep", default=os.path.join(tempfile.gettempdir(), "damaged"))
     given = parser.parse_args()
-    lacking = cases.lacks_program() if given.program == PROVED else None
+    lacking = cases.lacks_program() if given.program == cases.PROGRAM else None
     if lacking:
         print(f"damaged: {lacking}")
         return 1

@@ -14,11 +14,15 @@ cases/ and of bindings/. The check fails in these cases:
 - A crate of crates.txt has no README.md, or one with another heading; or a README.md belongs to no crate.
 - ARCHITECTURE's storeys or PROVED's table lack a crate, have one twice, or have one that isn't there. A crate is above
   one that it uses, or to its left, except in PROVED.
-- A line of a walk in ARCHITECTURE has a function that its crate doesn't have, or that the crate above it doesn't call.
+- ARCHITECTURE's table of the ten crates whose change proves the most crates again has other rows than crates.txt says.
+- A line of a walk in ARCHITECTURE has a function that its crate doesn't have, or to which the function above it doesn't
+  lead: by a call, or through functions of the same crate. A function on that way that puts the question into another
+  container is a step of its own.
 - An option, a job, an exit status or the name of a fault is on neither of the pages for users, USING and REFUSALS.
 
 Prints each finding with its place. The exit status is 0 only if there is none.
 """
+import functools
 import os
 import pathlib
 import re
@@ -40,11 +44,13 @@ OTHER_OPTIONS = frozenset("""--help --version --only --test --jobs --start --all
 OTHER_STATUSES = frozenset((64, 70, 124, 129, 130, 131, 137, 143, 255))
 # Names of other programs: of Slurm, ssh and rt.
 OTHER_NAMES = frozenset("JobID ExitCode ServerAliveInterval ServerAliveCountMax start_lib".split())
-# A file that FIRST-CHANGE has its reader write and remove again; the packages, and what lies in them.
+# A file that FIRST-CHANGE has its reader write and remove again; the packages, and what lies in them; where programs are kept.
 OTHER_FILES = frozenset("""crates/card_letters/must-fail/jack_read_as_ten.edit out/alphamu-VERSION-linux-x86_64.tar.gz
     out/alphamu_VERSION_amd64.deb lib/alphamu/alphamu share/doc/alphamu share/doc/alphamu/BUILD share/alphamu/python
-    share/alphamu/rust""".split())
+    share/alphamu/rust out/unproved""".split())
 ENDINGS = (".md", ".py", ".rt", ".antt", ".cpp", ".edit", ".sbatch")
+# What takes a question further, from the words to a node: a walk has each function that makes one.
+CONTAINERS = ("Rounds", "Round", "Task", "RoundWork", "TreeSearch")
 NAME = re.compile(r"(?:[A-Za-z]\w*::)*[A-Za-z]\w*")
 
 
@@ -250,25 +256,83 @@ def wrong_tables(repository, page, heading, in_order):
                 yield places[name][0], f"{name} comes after {used}, which it uses"
 
 
-def steps_of(page):
-    """The steps of the walks: line, function, crate, and the crate of the function that calls it, if one does."""
-    step, above = re.compile(r"( *)(\w+) {2,}(\w+)(?: {2,}.*)?"), []
+def proved_again(crates):
+    """How many crates are proved again if one changes, for each: itself, and those that use it, also through others."""
+    @functools.cache
+    def below(name):
+        return {name}.union(*map(below, crates[name]))
+    return Counter(used for name in crates for used in below(name))
+
+
+def wrong_counts(repository, page, heading):
+    counts = proved_again(repository.crates)
+    largest = sorted(counts, key=lambda name: (-counts[name], name))[:10]
+    wanted = [f"| [{name}](../crates/{name}/README.md) | {counts[name]} |" for name in largest]
+    section = page.section(heading)
+    if [line for _, line in section if line.startswith("| [")] != wanted:
+        yield section[0][0] if section else 1, "\n".join([f"by crates.txt the rows of '{heading}' are", *wanted])
+
+
+def steps_of(page, crates):
+    """The steps of the walks: line, function, crate, and the function that calls it with its crate, if one does."""
+    above, inside = [], False
     for number, line in enumerate(page.text.split("\n"), 1):
-        if found := step.fullmatch(line):
-            indent, function, crate = len(found[1]), found[2], found[3]
+        found = re.fullmatch(r"( *)(\w+) +(\w+)(?: {2,}.*| +\w.*)?", line) if inside else None
+        if found and found[3] in crates:
+            indent, step = len(found[1]), (found[2], found[3])
             above = [it for it in above if it[0] < indent]
-            yield number, function, crate, above[-1][1] if above else None
-            above.append((indent, crate))
+            yield number, *step, above[-1][1] if above else None
+            above.append((indent, step))
         else:
-            above = []
+            inside, above = inside != line.startswith("```"), []
+
+
+class Calls:
+    """Which functions of a crate lead to which, by their names alone."""
+
+    def __init__(self, repository, crate):
+        text = repository.sources_of(crate)
+        starts = [*re.finditer(r"\bfn (\w+)", text)]
+        self.bodies = {}
+        for start, end in zip(starts, [it.start() for it in starts[1:]] + [len(text)]):
+            self.bodies[start[1]] = self.bodies.get(start[1], "") + text[start.end():end]
+
+    def ways(self, function):
+        """The functions of the crate that a function leads to, each with the ones on a way to it."""
+        ways, left = {function: (function,)}, [function]
+        while left:
+            name = left.pop(0)
+            for word in re.findall(r"\w+", self.bodies.get(name, "")):
+                if word in self.bodies and word not in ways:
+                    ways[word] = (*ways[name], word)
+                    left.append(word)
+        return ways
+
+    def way(self, function, called):
+        """The functions on the way from one to a call of another; none if no way leads there."""
+        ways = self.ways(function)
+        return next((way for name, way in ways.items() if name != called and re.search(rf"\b{called}\b", self.bodies.get(name, ""))), ())
+
+    def puts_in(self, function):
+        """The containers that a function puts the question in."""
+        return {name for name in CONTAINERS if re.search(rf"\b{name} \{{", self.bodies.get(function, ""))}
 
 
 def wrong_walks(repository, page):
-    for number, function, crate, caller in steps_of(page):
+    calls, steps = {}, [*steps_of(page, repository.crates)]
+    known = {(function, crate) for _, function, crate, _ in steps}
+    for number, function, crate, caller in steps:
         if not re.search(rf"\bfn {function}\b", repository.sources_of(crate)):
             yield number, f"{crate} has no function {function}"
-        elif caller and not re.search(rf"(?<!fn )\b{function}\(", repository.sources_of(caller)):
-            yield number, f"{caller} doesn't call {function}"
+        elif caller:
+            above, home = caller
+            inside = calls.setdefault(home, Calls(repository, home))
+            way = inside.way(above, function)
+            if not way:
+                yield number, f"{above} of {home} doesn't lead to {function}"
+            for left_out in way[1:]:
+                if (left_out, home) not in known and inside.puts_in(left_out):
+                    yield number, f"{left_out} of {home}, on the way from {above} to {function}, is no step, but makes a {' and a '.join(sorted(inside.puts_in(left_out)))}"
 
 
 def wrong_readmes(repository):
@@ -305,7 +369,8 @@ def main():
         found = [*wrong_names(repository, page), *wrong_homes(repository, page), *wrong_options(repository, page, options | OTHER_OPTIONS),
                  *wrong_statuses(page, statuses), *wrong_links(top, page, anchors)]
         if page.name == "docs/ARCHITECTURE.md":
-            found += [*wrong_tables(repository, page, "The storeys", True), *wrong_walks(repository, page)]
+            found += [*wrong_tables(repository, page, "The storeys", True), *wrong_walks(repository, page),
+                      *wrong_counts(repository, page, "What a change proves again")]
         if page.name == "docs/PROVED.md":
             found += wrong_tables(repository, page, "Crate by crate", False)
         findings += [(page.name, number, what) for number, what in found]

@@ -12,7 +12,7 @@ bytes. So a body that answers more than was written, or less than is there, is p
   an odd number of bytes at a time.
 - An error is the end of the file, or of the output. Caught by the trials on streams and files of checks/machine.py.
 
-The programs are the proved ones, which ./build makes. Prints what was wrong. The exit status is 0 only if nothing was. It
+The programs are those of checks/cases.py. Prints what was wrong. The exit status is 0 only if nothing was. It
 takes less than a minute.
 """
 import argparse
@@ -173,7 +173,7 @@ def all_trials():
 def main():
     parser = argparse.ArgumentParser(description="Tests what writes to streams and reads files.", allow_abbrev=False)
     parser.add_argument("--jobs", type=int, default=len(os.sched_getaffinity(0)))
-    parser.add_argument("--seconds", type=float, default=60)
+    parser.add_argument("--seconds", type=float, default=600)
     parser.add_argument("--only", default="*", metavar="PATTERN")
     given = parser.parse_args()
     lacking = cases.lacks_program()
@@ -182,7 +182,7 @@ def main():
         return 1
     with tempfile.TemporaryDirectory() as room, ThreadPoolExecutor(given.jobs) as pool:
         os.chmod(room, 0o755)
-        program = shutil.copy(machine.PROVED, room)
+        program = shutil.copy(cases.PROGRAM, room)
         chosen = [it for it in all_trials() if fnmatch.fnmatch(it[0], given.only)]
         made = [machine.Trial(program, room, given.seconds, machine.FIRST_USER + at) for at in range(len(chosen))]
         told = list(pool.map(lambda it, trial: it[1](trial), chosen, made))

@@ -19,10 +19,10 @@ from concurrent.futures import ThreadPoolExecutor
 
 sys.dont_write_bytecode = True
 import review
-from cases import TOP
+from cases import STUDY, TOP
 from jobs import REFUSED, USAGE
 
-STUDY, MAKE = os.path.join(TOP, "study"), os.path.join(TOP, "examples", "evening", "make.py")
+MAKE = os.path.join(TOP, "examples", "evening", "make.py")
 FIRST, MOVES, FEW, WORKERS, LEAST = 5, 2, 30, (1, 4), 20
 # The game that is given the layouts of another.
 MIXED_UP = 3

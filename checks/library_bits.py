@@ -22,7 +22,7 @@ def program(case, job, *more):
     """What the program prints for the files of a case, or none if it prints nothing."""
     options = jobs.split([it.decode() for it in cases.words_of(case)])
     files = [f"--{it}={options[it]}".encode() for it in ("deal", "layouts")]
-    out, _, status = cases.run(cases.LAUNCHER, case, SECONDS, words=[b"--job", job.encode(), *files, *more])
+    out, _, status = cases.run(cases.PROGRAM, case, SECONDS, words=[b"--job", job.encode(), *files, *more])
     return out.decode() if status == 0 else None
 
 

@@ -3,7 +3,7 @@
 
 Asks ./study for the games (`lines`) of each case in cases/ that expects a report, if its hands have at most MOST_TRICKS cards and
 it has at most MOST_GAMES games. The answer must be that of a second reading of the definitions (reading.py, playing.py), byte for
-byte, with the case's report and with its moves in place of the report. `list` of PROGRAM, which is ./alphamu if you name none, must read the first READ games of each, and give exactly the game's
+byte, with the case's report and with its moves in place of the report. `list` of PROGRAM, which is that of cases.py if you name none, must read the first READ games of each, and give exactly the game's
 own layout. A report that `check` refuses must be refused with the same line and status. The exit status is 0 only if nothing
 differs, and if at least LEAST games were told.
 
@@ -15,11 +15,10 @@ from concurrent.futures import ProcessPoolExecutor
 
 sys.dont_write_bytecode = True
 import reading
-from cases import TOP, bytes_of, expected, is_ready, names_of_cases, parser_of, run, words_of
+from cases import STUDY, TOP, bytes_of, expected, is_ready, names_of_cases, parser_of, run, words_of
 from options import job_of, with_job
 from playing import after, legal, makes, name_of, winner_of
 
-STUDY = os.path.join(TOP, "study")
 REPORT, GAME = b"report.of.the.case", b"game.of.the.case"
 COPIED = b"Dealer", b"Vulnerable", b"Contract"
 MOST_TRICKS, MOST_GAMES, READ, LEAST = 6, 300, 3, 300

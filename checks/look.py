@@ -23,7 +23,7 @@ import sys
 import tempfile
 
 sys.dont_write_bytecode = True
-from cases import LAUNCHER, STUDY, TOP, is_ready
+from cases import PROGRAM, STUDY, TOP, is_ready
 
 EXAMPLES, MOVES = ("restricted-choice", "squeeze-or-finesse", "two-way-finesse"), "4"
 # How many cards of a line are played out.
@@ -288,7 +288,7 @@ def main():
     if not program:
         print("look: there is no chromium here, so no page was looked at")
         return 0
-    if not given.pages and not is_ready(LAUNCHER, "look"):
+    if not given.pages and not is_ready(PROGRAM, "look"):
         return 1
     if given.pictures:
         os.makedirs(given.pictures, exist_ok=True)

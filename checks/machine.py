@@ -25,7 +25,6 @@ from concurrent.futures import ThreadPoolExecutor
 sys.dont_write_bytecode = True
 import cases
 
-PROVED, PROVED_STUDY = (os.path.join(cases.TOP, "crates", name, "out", name) for name in ("alphamu", "alphamu_study"))
 # A run of each job, one with workers, and one with all cards played out.
 JOBS = {
     "solve": "queen-two-ways",
@@ -117,7 +116,7 @@ class Trial:
         if spoil:
             spoil(folder)
         wrapped = [sys.executable, "-I", "-c", WRAPPER.format(before=before)] if before else []
-        program = PROVED_STUDY if case.startswith(cases.OF_STUDY + "/") else self.program
+        program = cases.STUDY if case.startswith(cases.OF_STUDY + "/") else self.program
         return subprocess.Popen([*wrapped, os.fsencode(program), *(words or cases.words_of(case))], cwd=folder,
                                 stdin=subprocess.DEVNULL, stdout=out, stderr=err)
 
@@ -386,13 +385,13 @@ def main():
     parser.add_argument("--seconds", type=float, default=120)
     parser.add_argument("--only", default="*", metavar="PATTERN")
     given = parser.parse_args()
-    lacking = cases.lacks_program()
+    lacking = cases.lacks_proved()
     if lacking:
         print(f"machine: {lacking}")
         return 1
     with tempfile.TemporaryDirectory() as room:
         os.chmod(room, 0o755)
-        program = shutil.copy(PROVED, room)
+        program = shutil.copy(cases.PROGRAM, room)
         chosen = [it for it in all_trials(program) if fnmatch.fnmatch(it[1], given.only)]
         made = [Trial(it[2], room, given.seconds, FIRST_USER + at) for at, it in enumerate(chosen)]
         with ThreadPoolExecutor(given.jobs) as pool:

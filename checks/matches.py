@@ -3,7 +3,7 @@
 
 Plays out each kept layout of each case in cases/ that expects a report, twice: against two defenders who play low, and
 with one at declarer's left who plays high from the first card on. The bits must be those of the first vector of the
-report, and a layout with a 1 must be made. If you name no program it is ./alphamu, as for cases.py. The exit status is
+report, and a layout with a 1 must be made. If you name no program it is that of cases.py. The exit status is
 0 only if nothing differs and something was played.
 """
 import fnmatch

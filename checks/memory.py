@@ -144,7 +144,7 @@ def main():
     parser.add_argument("--seconds", type=float, default=120)
     parser.add_argument("--only", default="*", metavar="PATTERN")
     given = parser.parse_args()
-    lacking = cases.lacks_program()
+    lacking = cases.lacks_proved()
     if lacking:
         print(f"memory: {lacking}")
         return 1

@@ -1,15 +1,14 @@
 #!/usr/bin/env python3
 """odd_places.py [--jobs N] [--seconds N] [--only PATTERN]
 
-Calls ./alphamu and ./build in odd places: without the commands that they could use, without a second process, met by a
+Calls ./alphamu, ./study and ./build in odd places: without the commands that they could use, without a second process, met by a
 signal in the first moments, by other shells and names, over a program that is old or cut off, and with words that can't
-be right. Each call is made in a copy of the launcher, with the proved program, which ./build makes, or without it. The
-toolchain is a script of a line or two that answers, waits or fails, so nothing is compiled.
+be right. Each call is made in a copy of the launcher, with a proved program, in whose place another may stand, or without it. The
+toolchain is a script of a line or two that runs the program, waits or fails, so nothing is compiled.
 
 Prints what was wrong. The exit status is 0 only if nothing was. It takes less than a minute.
 """
 import argparse
-import contextlib
 import fnmatch
 import os
 import pty
@@ -28,19 +27,22 @@ import cases
 import jobs
 import unproved
 
-PROVED = os.path.join(cases.TOP, "crates", "alphamu", "out", "alphamu")
-LAUNCHER = ("alphamu", "build", "checks/program_state", "checks/unproved.py", "checks/jobs.py")
-SOURCES = ("crates.txt", "HANDLES", "crates/alphamu/src/main.rt", "crates/alphamu/src/deep/er/most.rt")
+LAUNCHER = ("alphamu", "study", "build", "checks/launch", "checks/program_state", "checks/unproved.py", "checks/jobs.py")
+SOURCES = ("crates.txt", "HANDLES", "crates/alphamu/src/main.rt", "crates/alphamu/src/deep/er/most.rt", "crates/alphamu_study/src/main.rt")
 CASE = "queen-two-ways"
 # Users without processes, one for each trial.
 FIRST_USER = 61000
 # What the toolchain does in a trial.
-ANSWERS = """echo answer; echo "alphamu: a line" >&2; echo "run=ended status=7 races=unchecked proved=no" >&2; exit 7"""
+ANSWERS = f"""while [ "$1" != -- ]; do shift; done; shift
+case $PWD in *_study) program='{cases.STUDY}' ;; *) program='{cases.PROGRAM}' ;; esac
+cp "$program" "$TMPDIR/program"; exec "$TMPDIR/program" "$@" """
 FAILS = """echo "checked: no-answer: too hot" >&2; echo "run=none proved=no" >&2; exit 2"""
 # (a TERM that comes before the child runs `sleep` would be lost)
-WAITS = """trap 'kill -9 $!; exit 143' TERM; sleep 60 & echo $! >>"$TMPDIR/../children"; wait"""
-BUILDS = f"""cp '{PROVED}' "out/${{PWD##*/}}" """
-ANSWER = b"answer\n", b"alphamu: a line\n", 7
+WAITS = """trap 'kill -9 $!; exit 143' TERM; sleep 60 & echo $! >>"$CHILDREN"; wait"""
+CHANGES = f"""echo >>src/main.rt; {ANSWERS}"""
+BUILDS = f"""cp '{cases.PROGRAM}' "out/${{PWD##*/}}" """
+ANSWER = cases.expected(CASE)
+OF_STUDY = "study/cards-queen-two-ways"
 
 
 class Place:
@@ -49,7 +51,7 @@ class Place:
     def __init__(self, room, user, seconds):
         self.room, self.user, self.seconds = tempfile.mkdtemp(dir=room), user, seconds
         self.top = self.room + "/top of it"
-        self.work, self.bin, self.temporary = (f"{self.room}/{name}" for name in ("work", "bin", "tmp"))
+        self.work, self.bin, self.kept = f"{self.room}/work", f"{self.room}/bin", f"{self.top}/out/unproved"
         self.program = self.top + "/crates/alphamu/out/alphamu"
         for file in (*LAUNCHER, *SOURCES):
             os.makedirs(os.path.dirname(f"{self.top}/{file}"), exist_ok=True)
@@ -57,15 +59,15 @@ class Place:
                 shutil.copy(os.path.join(cases.TOP, file), f"{self.top}/{file}")
             else:
                 open(f"{self.top}/{file}", "wb").close()
-        for folder in (self.work, self.bin, self.temporary, os.path.dirname(self.program)):
-            os.mkdir(folder)
+        for folder in (self.work, self.bin, self.kept, os.path.dirname(self.program)):
+            os.makedirs(folder)
         os.chmod(self.room, 0o755)
-        os.chmod(self.temporary, 0o777)
+        os.chmod(self.kept, 0o777)
         cases.lay_out(CASE, self.work)
 
     def add_program(self, size=None, age=-1):
         """The proved program, or its first bytes, older than the source by this many seconds."""
-        shutil.copy(PROVED, self.program)
+        shutil.copy(cases.PROGRAM, self.program)
         if size is not None:
             os.truncate(self.program, size)
         at = time.time() - age
@@ -80,15 +82,15 @@ class Place:
         """How often the toolchain was called."""
         return os.path.getsize(self.room + "/calls") if os.path.exists(self.room + "/calls") else 0
 
-    def line(self, text):
-        return f"alphamu: {text.format(top=self.top)}\n".encode()
+    def line(self, text, called="alphamu"):
+        return f"{called}: {text.format(top=self.top)}\n".encode()
 
     def start(self, words, command=None, path=None, cwd=None, before=None, err=subprocess.PIPE):
         def prepare():
             resource.setrlimit(resource.RLIMIT_CORE, (0, 0))
             if before:
                 before(self)
-        env = {"PATH": f"{self.bin}:{os.environ['PATH']}" if path is None else path, "TMPDIR": self.temporary, "HOME": "/"}
+        env = {"PATH": f"{self.bin}:{os.environ['PATH']}" if path is None else path, "CHILDREN": self.room + "/children", "HOME": "/"}
         return subprocess.Popen([*(command or [self.top + "/alphamu"]), *words], cwd=cwd or self.work, env=env, stderr=err,
                                 stdin=subprocess.DEVNULL, stdout=subprocess.PIPE, start_new_session=True, preexec_fn=prepare)
 
@@ -105,14 +107,16 @@ class Place:
     def run(self, words, **more):
         return self.ended(self.start(words, **more))
 
+    def children(self):
+        """What is left of what the toolchain started."""
+        if not os.path.exists(self.room + "/children"):
+            return []
+        with open(self.room + "/children", encoding="ascii") as file:
+            return [it for it in file.read().split() if os.path.exists(f"/proc/{it}")]
+
     def left(self):
-        """What is left of temporary files and of what the toolchain started."""
-        children, found = self.temporary + "/children", os.listdir(self.temporary)
-        if "children" in found:
-            found.remove("children")
-            with open(children, encoding="ascii") as file:
-                found += [it for it in file.read().split() if os.path.exists(f"/proc/{it}")]
-        return found
+        """The same, and the folders of compiles."""
+        return [*self.children(), *(it for it in os.listdir(self.kept) if it.startswith("tmp"))]
 
 
 def words():
@@ -128,9 +132,16 @@ def unanswered(place, text):
     return b"", place.line(text), unproved.NO_ANSWER
 
 
-def by_source(place, out, err, status, is_first=True):
+def by_source(place, out, err, status, is_first=True, called="alphamu"):
     """What comes of an answer from the source."""
-    return out, place.line(unproved.NOTICE) + err + (place.line(unproved.ADVICE) if is_first else b""), status
+    begun = place.line(unproved.BEGINNING, called) if is_first else b""
+    return out, begun + place.line(unproved.NOTICE, called) + err, status
+
+
+def without_progress(found):
+    """The same without the lines that come while the toolchain takes long."""
+    out, err, status = found
+    return out, b"".join(it for it in err.splitlines(True) if b": compiling: " not in it), status
 
 
 # Without commands, processes and streams.
@@ -204,27 +215,80 @@ def nothing_without_toolchain(place):
 def nothing_without_processes(place):
     place.add_toolchain(ANSWERS)
     out, err, status = place.run(words(), before=forbid_processes)
-    return differs((out, err[-len(place.line("cannot start another process")):], status),
-                   unanswered(place, "cannot start another process"))
+    is_told = not out and b": cannot start " in err and status == unproved.NO_ANSWER
+    return None if is_told else f"{out!r} {err!r} {status}"
 
 
 def failing_toolchain(place):
     place.add_toolchain(FAILS)
-    _, said, status = unanswered(place, "no answer from the unproved source (too hot): {top}/build makes the proved program")
-    return differs(place.run(words()), (b"", place.line(unproved.NOTICE) + said, status))
+    out, err, status = place.run(words())
+    begun = place.line(unproved.BEGINNING)
+    told = b" can't be compiled; the toolchain says:\nchecked: no-answer: too hot\nrun=none proved=no\n"
+    is_told = not out and err.startswith(begun) and err.endswith(told) and status == unproved.NO_ANSWER
+    return None if is_told and not place.left() else f"{out!r} {err!r} {status} {place.left()}"
 
 
 def answers_once(place):
     place.add_toolchain(ANSWERS)
     found = [place.run(words()) for _ in range(2)]
-    return differs(found[0], by_source(place, *ANSWER)) or differs(found[1], by_source(place, *ANSWER, is_first=False))
+    once = place.calls()
+    return (differs(without_progress(found[0]), by_source(place, *ANSWER)) or differs(found[1], by_source(place, *ANSWER, is_first=False))
+            or (None if once == place.calls() <= 2 and not place.left() else f"called {once} times; left {place.left()}"))
+
+
+def answers_two_at_once(place):
+    """One of them compiles, and the other waits for it."""
+    place.add_toolchain(ANSWERS)
+    started = [place.start(words()) for _ in range(2)]
+    found = [place.ended(it) for it in started]
+    told = [out == ANSWER[0] and status == ANSWER[2] and err.endswith(place.line(unproved.NOTICE) + ANSWER[1]) for out, err, status in found]
+    return None if all(told) and place.calls() <= 2 and not place.left() else f"{found!r}, called {place.calls()} times"
+
+
+def study_by_source(place):
+    place.add_toolchain(ANSWERS)
+    cases.lay_out(OF_STUDY, place.work)
+    for is_first in (True, False):
+        found = place.run(cases.words_of(OF_STUDY), command=[place.top + "/study"])
+        told = differs(without_progress(found), by_source(place, *cases.expected(OF_STUDY), is_first=is_first, called="study"))
+        if told:
+            return told
+    return None
+
+
+def old_study_without_toolchain(place):
+    os.makedirs(f"{place.top}/crates/alphamu_study/out")
+    shutil.copy(cases.STUDY, f"{place.top}/crates/alphamu_study/out/alphamu_study")
+    os.utime(f"{place.top}/crates/alphamu_study/out/alphamu_study", (1, 1))
+    cases.lay_out(OF_STUDY, place.work)
+    out, err, status = cases.expected(OF_STUDY)
+    said = place.line("this answer comes from a proved program that is older than its source: rt and python3 aren't both on the path", "study")
+    return differs(place.run(cases.words_of(OF_STUDY), command=[place.top + "/study"], path=path_of(place)), (out, said + err, status))
+
+
+def changed_source(place):
+    """What was compiled from a source that is no longer there isn't run."""
+    place.add_toolchain(CHANGES)
+    said = place.line(unproved.BEGINNING) + place.line("a source was changed while it was compiled: ask again")
+    return differs(without_progress(place.run(words())), (b"", said, unproved.NO_ANSWER)) or (
+        place.left() or os.listdir(place.kept) != ["lock"]) and "something is kept"
+
+
+def other_source(place):
+    """After a change of a source the program is compiled again."""
+    place.add_toolchain(ANSWERS)
+    place.run(words())
+    with open(f"{place.top}/{SOURCES[2]}", "a", encoding="ascii") as file:
+        file.write("// more")
+    return differs(without_progress(place.run(words())), by_source(place, *ANSWER)) or (
+        None if len(os.listdir(place.kept)) == 2 else "the older program is still kept")
 
 
 def without_streams(*streams):
     def trial(place):
         place.add_toolchain(ANSWERS)
-        found = place.run(words(), before=lambda _: [os.close(it) for it in streams])
-        out, err, status = ANSWER if 1 not in streams else (b"", ANSWER[1] + place.line("cannot write"), unproved.UNWRITTEN)
+        found = without_progress(place.run(words(), before=lambda _: [os.close(it) for it in streams]))
+        out, err, status = ANSWER if 1 not in streams else (b"", ANSWER[1] + place.line("cannot write"), 8)
         out, err, status = by_source(place, out, err, status)
         return differs(found, (out, b"" if 2 in streams else err, status))
     return trial
@@ -232,11 +296,11 @@ def without_streams(*streams):
 
 def standard_input(place):
     """A file that comes by standard input, and one by a high number, reach the source."""
-    place.add_toolchain('cat "$TMPDIR/deal" "$TMPDIR/layouts"; echo "run=ended status=0 proved=no" >&2')
+    place.add_toolchain(ANSWERS)
     asked = "--job=fusion --deal=/dev/stdin --layouts=/dev/fd/9".split()
     command = ["sh", "-c", 'cat deal.pbn | "$@" 9<layouts.lay', "sh", place.top + "/alphamu"]
-    both = b"".join(cases.bytes_of(CASE, name) for name in ("deal.pbn", "layouts.lay"))
-    return differs(place.run(asked, command=command), by_source(place, both, b"", 0))
+    wanted = place.run(["--job=fusion", "--deal=deal.pbn", "--layouts=layouts.lay"], command=[cases.PROGRAM])
+    return differs(without_progress(place.run(asked, command=command)), by_source(place, *wanted))
 
 
 def lacks():
@@ -251,6 +315,11 @@ def lacks():
     yield "no program and no second process", nothing_without_processes
     yield "no program and a toolchain that fails", failing_toolchain
     yield "no program, twice", answers_once
+    yield "no program, two at once", answers_two_at_once
+    yield "no program of the study", study_by_source
+    yield "an old program of the study without rt", old_study_without_toolchain
+    yield "a source that changes while it is compiled", changed_source
+    yield "a source that was changed since", other_source
     yield "no program, and files from streams", standard_input
     for gone in ((0,), (1,), (2,), (0, 1), (0, 2), (1, 2), (0, 1, 2)):
         yield f"no program without the streams {gone}", without_streams(*gone)
@@ -285,75 +354,48 @@ def names():
 
 # Signals. Keys of a terminal send theirs to the launcher and all that it started.
 
-def met_by(name, delay, by_key, by_pipe=False):
-    """The signal comes while the launcher or the toolchain is at work, or while a pipe is waited for."""
+def met_by(name, delay, by_key):
+    """The signal comes while the launcher or the toolchain is at work. Python may name one that comes as it starts."""
     def trial(place):
         place.add_toolchain(WAITS)
-        if by_pipe:
-            os.remove(place.work + "/deal.pbn")
-            os.mkfifo(place.work + "/deal.pbn")
         process = place.start(words())
         time.sleep(delay)
         (os.killpg if by_key else os.kill)(process.pid, getattr(signal, "SIG" + name))
-        found = place.ended(process)
-        status = -getattr(signal, "SIG" + name)
-        return differs(found, (b"", b"", status), (b"", place.line(unproved.NOTICE), status)) or gone(place)
+        out, err, status = place.ended(process)
+        ended = -getattr(signal, "SIG" + name)
+        is_early = name == "INT" and status in (1, ended) and err.endswith(b"KeyboardInterrupt\n")
+        wanted = [(b"", it, ended) for it in (b"", place.line(unproved.BEGINNING))]
+        return (None if is_early else differs((out, err, status), *wanted)) or gone(place)
     return trial
 
 
-def gone(place):
+def gone(place, left=Place.left):
     """What is still left a few seconds later."""
     end = time.monotonic() + 10
-    while place.left() and time.monotonic() < end:
+    while left(place) and time.monotonic() < end:
         time.sleep(0.05)
-    return f"left behind: {place.left()}" if place.left() else None
-
-
-def children_of(pid):
-    for it in filter(str.isdigit, os.listdir("/proc")):
-        with contextlib.suppress(OSError), open(f"/proc/{it}/stat", encoding="utf-8", errors="replace") as file:
-            if int(file.read().rpartition(")")[2].split()[1]) == pid:
-                yield int(it)
-
-
-def until_called(place):
-    end = time.monotonic() + place.seconds
-    while not os.path.exists(place.temporary + "/children") and time.monotonic() < end:
-        time.sleep(0.02)
+    return f"left behind: {left(place)}" if left(place) else None
 
 
 def launcher_killed(place):
-    """What the launcher started removes its files and ends."""
+    """What the launcher started ends. The next compile removes its folder."""
     place.add_toolchain(WAITS)
-    process = place.start(words())
-    until_called(place)
+    process, end = place.start(words()), time.monotonic() + place.seconds
+    while not os.path.exists(place.room + "/children") and time.monotonic() < end:
+        time.sleep(0.02)
     process.kill()
     process.wait()
-    return gone(place)
-
-
-def worker_killed(place):
-    """The temporary folder is left behind, and the toolchain goes on, which this ends."""
-    place.add_toolchain(WAITS)
-    process = place.start(words())
-    until_called(place)
-    for it in children_of(process.pid):
-        os.kill(it, signal.SIGKILL)
-    found = place.ended(process)
-    for it in filter(str.isdigit, place.left()):
-        os.kill(int(it), signal.SIGTERM)
-    _, said, status = unanswered(place, "no answer: the work on the unproved source was ended")
-    return differs((found[0], found[1][-len(said):], found[2]), (b"", said, status))
+    if told := gone(place, Place.children):
+        return told
+    place.add_toolchain(ANSWERS)
+    return differs(without_progress(place.run(words())), by_source(place, *ANSWER)) or gone(place)
 
 
 def signals():
     for delay in (0, 0.002, 0.005, 0.01, 0.02, 0.04, 0.08, 0.2, 0.6):
         for name, by_key in (("INT", True), ("QUIT", True), ("HUP", False), ("TERM", False)):
             yield f"{name} after {delay} s", met_by(name, delay, by_key)
-    for name, by_key in (("INT", True), ("TERM", False)):
-        yield f"{name} while a pipe is waited for", met_by(name, 1, by_key, by_pipe=True)
     yield "KILL for the launcher", launcher_killed
-    yield "KILL for what it started", worker_killed
 
 
 # Words that can't be right.
@@ -423,7 +465,7 @@ def seen_as(wanted, change):
         change(place)
         if state(place) != wanted:
             return f"the state is {state(place)}, and not {wanted}"
-        return differs(place.run(words()), by_source(place, *ANSWER))
+        return differs(without_progress(place.run(words())), by_source(place, *ANSWER))
     return trial
 
 
@@ -489,7 +531,7 @@ def tell(name, trial, place):
 def main():
     parser = argparse.ArgumentParser(description="Calls the launcher in odd places.", allow_abbrev=False)
     parser.add_argument("--jobs", type=int, default=2 * len(os.sched_getaffinity(0)))
-    parser.add_argument("--seconds", type=float, default=60)
+    parser.add_argument("--seconds", type=float, default=300)
     parser.add_argument("--only", default="*", metavar="PATTERN")
     given = parser.parse_args()
     lacking = cases.lacks_program()

@@ -4,7 +4,7 @@
 Runs a program on each case in cases/ whose job searches and which expects an output, with various options for the
 search. If the run is done, it compares the output. Each case is run with each choice of options for one worker, and with
 two of the choices for several workers, which rotate from case to case; with --whole it is run with all of them. If you
-name no program it is ./alphamu, as for cases.py. Each case that expects a report is also shown as a page that ./study
+name no program it is that of cases.py. Each case that expects a report is also shown as a page that ./study
 searches for, once without any choice and once with one, which rotates; the two pages must be the same. Prints the runs that
 wrote something else, or that ended neither done nor spent. The exit status is 0 only if there is none, and if some run of
 each choice was done by each program.
@@ -15,9 +15,8 @@ import sys
 from concurrent.futures import ThreadPoolExecutor
 
 import jobs
-from cases import TOP, expected, is_ready, names_of_cases, parser_of, run, words_of
+from cases import STUDY, TOP, expected, is_ready, names_of_cases, parser_of, run, words_of
 
-STUDY = os.path.join(TOP, "study")
 # A table of one entry is a table that is always full.
 ONE_WORKER = [
     [b"--no-cuts"],

@@ -8,16 +8,22 @@ next heading, the command must print the lines of the block, standard output and
 further lines. If no block follows, the command must end with status 0. The commands of one page run in order, since some write
 files in /tmp for later ones.
 
-There must be current proved programs, which ./build makes."""
+If the proved programs aren't there, the launchers answer by the unproved ones, whose line on standard error is left out."""
 import pathlib
 import re
 import shutil
 import subprocess
 import sys
 
+sys.dont_write_bytecode = True
+import cases
+import unproved
+
 TOP = pathlib.Path(__file__).resolve().parent.parent
 PAGES = [*(TOP / it for it in ("README.md", "docs/USING.md", "docs/REFUSALS.md", "docs/PROGRAMS.md", "docs/FORMS.md")), *sorted(TOP.glob("examples/**/README.md"))]
 COMMAND = re.compile(r"^    ((?:\./alphamu|\./study|examples/|(?:grep|awk|timeout|cat|/usr/games/dealer) )\S*.*)$")
+
+NOTICES = {f"{called}: {unproved.NOTICE.format(top='.')}" for called in unproved.CALLED.values()}
 
 
 def commands(text):
@@ -54,8 +60,9 @@ def agrees(expected, printed):
 
 
 def main():
-    if subprocess.run([TOP / "checks" / "program_state"]).returncode != 0:
-        sys.exit("pages: there is no current proved program: run ./build")
+    lacking = cases.lacks_program()
+    if lacking:
+        sys.exit(f"pages: {lacking}")
     run = differ = left_out = 0
     for page in PAGES:
         for number, command, expected in commands(page.read_text()):
@@ -64,7 +71,7 @@ def main():
                 continue
             done = subprocess.run(["bash", "-c", command], cwd=TOP, capture_output=True, text=True, stdin=subprocess.DEVNULL)
             run += 1
-            if (done.returncode and expected is None) or not agrees(expected, (done.stdout + done.stderr).splitlines()):
+            if (done.returncode and expected is None) or not agrees(expected, [it for it in (done.stdout + done.stderr).splitlines() if it not in NOTICES]):
                 differ += 1
                 print(f"{page.relative_to(TOP)}:{number}: {command}\n{done.stdout}{done.stderr}")
     print(f"pages: {run} commands run, {differ} differ, {left_out} left out")

@@ -5,7 +5,7 @@ Asks for the log of each case in cases/ that expects a report, with at most 10,0
 it: the log must prove it complete, with as many lines as the log has. Then the log is damaged: a line is dropped, two
 neighbouring lines are exchanged, a 1 in the last line becomes a 0, or a line cites one line less. Each damaged log is audited
 too, and must get the line and the status that a second reading of the rules gives (checks/logs.py). If you name no program it
-is ./alphamu, as for cases.py. The exit status is 0 only if nothing differs, and if some damaged logs were refused and some
+is that of cases.py. The exit status is 0 only if nothing differs, and if some damaged logs were refused and some
 still prove everything.
 """
 import fnmatch

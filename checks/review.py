@@ -5,7 +5,7 @@ Asks ./study for the decisions (`review`) of the cases in cases/ with a deal and
 from the first trick and from the last but one: of each deal with a Play section; and of each that has an answer and at most
 MOST_CARDS cards a hand, played out in its first kept layout. The text must be that of a second teller: it cuts the deal file before
 each card of declarer's side, finds by its own rules (reading.py, playing.py) which layouts are left and whether two legal cards
-differ, and asks `cards` there for the bounds, and PROGRAM, which is ./alphamu if you name none, for the card (`card`). A file that
+differ, and asks `cards` there for the bounds, and PROGRAM, which is that of cases.py if you name none, for the card (`card`). A file that
 `card` refuses there must be refused with the same line and status, and so must a play without a decision. From the last trick but
 one the CSV and the JSON must have the values of the text, byte for byte as docs/FORMS.md says. Words with a `--from` or a `--form`
 that can't be right must be refused. The exit status is 0 only if nothing differs, and if at least LEAST texts were told.
@@ -21,11 +21,10 @@ from concurrent.futures import ProcessPoolExecutor
 sys.dont_write_bytecode = True
 import playing
 import reading
-from cases import CASES, TOP, bytes_of, expected, is_ready, names_of_cases, parser_of, run, words_of
+from cases import CASES, STUDY, TOP, bytes_of, expected, is_ready, names_of_cases, parser_of, run, words_of
 from jobs import REFUSED, USAGE
 from options import job_of
 
-STUDY = os.path.join(TOP, "study")
 MOVES, NODES, MOST_CARDS, LEAST, SPENT = 2, 20000, 5, 70, 7
 LINE = re.compile(rb"card (\d+) trick (\d+) seat (.) played (..) most (\d+) least (\d+) named (..) most (\d+) "
                   rb"layouts (\d+) weight (\d+) cost (\d+)\n")

@@ -6,7 +6,7 @@ and `card` with all moves the column "True", in percent of the weight of all lay
 that page. It fails if a value differs, if a row asks for another number of tricks than the ending that examples/suits/make.py writes, or if
 the page has fewer than LEAST rows.
 
-The proved program must be there and current: ./build makes it. It takes about fifteen seconds of the processor."""
+It takes about fifteen seconds of the processor."""
 import os
 import pathlib
 import re
@@ -14,6 +14,9 @@ import subprocess
 import sys
 import tempfile
 from concurrent.futures import ThreadPoolExecutor
+
+sys.dont_write_bytecode = True
+import cases
 
 TOP = pathlib.Path(__file__).resolve().parent.parent
 MAKE = TOP / "examples" / "suits" / "make.py"
@@ -28,7 +31,7 @@ LEAST = 16
 
 def answer(job, name, *more):
     """What the program prints about an ending."""
-    words = [TOP / "alphamu", "--job", job, "--deal", f"{name}.pbn", "--layouts", f"{name}.lay", *more]
+    words = [cases.PROGRAM, "--job", job, "--deal", f"{name}.pbn", "--layouts", f"{name}.lay", *more]
     return subprocess.run(words, capture_output=True, text=True, check=True).stdout
 
 
@@ -49,8 +52,9 @@ def faults(row, name):
 
 
 def main():
-    if subprocess.run([TOP / "checks" / "program_state"]).returncode != 0:
-        sys.exit("suits: the proved program isn't there or isn't current: run ./build")
+    lacking = cases.lacks_program()
+    if lacking:
+        sys.exit(f"suits: {lacking}")
     rows = ROW.findall(PAGE.read_text())
     known = {(dummy, south, tricks, sampled, true) for dummy, south, tricks, _, _, sampled, true in rows}
     wrong = [f"README.md has a row that isn't on the page: {row}" for row in FRONT_ROW.findall(FRONT_PAGE.read_text()) if row not in known]

@@ -2,7 +2,7 @@
 """told.py [--jobs N] [--seconds N] [--only PATTERN] [PROGRAM]
 
 Tells the report of each case in cases/ that expects one, as docs/definitions/told-plans.md says, and compares the text with that of
-a program for the job `words`, with the report and with the case's moves in its place. If you name no program it is ./study, which ./build makes. The layouts of a step are found
+a program for the job `words`, with the report and with the case's moves in its place. If you name no program it is alphamu_study. The layouts of a step are found
 by following the report's plan in each layout, with double dummy as plain minimax (playing.py). The exit status is 0 only if
 nothing differs and something was told.
 """
@@ -16,7 +16,6 @@ import reading
 from options import job_of, with_job
 from playing import after, child, choices, legal, makes, name_of, seat_to_play
 
-STUDY = os.path.join(cases.TOP, "study")
 COMPASS = ("North", "East", "South", "West")
 # The seats in the order in which they are told: declarer, dummy, and the defenders.
 SEATS = (0, 2, 1, 3)
@@ -208,8 +207,12 @@ def judge(program, case, seconds):
 
 def main():
     parser = cases.parser_of("Tells the reports of alphamu's cases once more.")
-    parser.set_defaults(program=STUDY)
+    parser.set_defaults(program=cases.STUDY)
     given = parser.parse_args()
+    lacking = given.program == cases.STUDY and cases.lacks_program()
+    if lacking:
+        print(f"told: {lacking}")
+        return 1
     told = [case for case in fnmatch.filter(cases.names_of_cases(), given.only)
             if job_of(cases.words_of(case)) == "solve" and cases.expected(case)[2] == 0 and cases.expected(case)[0].count(b"\n") <= MOST_LINES]
     with ThreadPoolExecutor(given.jobs) as pool:

@@ -1,19 +1,18 @@
-"""unproved.py LAUNCHER TOP WORD..
+"""unproved.py NAME TOP WORD..
 
-Answers the words from the program's source, compiled unproved and with checks as it runs, and ends with the program's
-status; or with 70 and a line, if there is no answer. The launcher ./alphamu starts it, and ends it by the signal TERM; it
-also ends if the process with the number LAUNCHER, which is its parent, is gone. TOP is the top of the repository, as the
-user wrote it.
+Becomes the program NAME, compiled from the present sources, unproved and with checks as it runs; or ends with the status 70
+and a line, if there is none. The launchers ./alphamu and ./study start it. TOP is the top of the repository, as the user
+wrote it. Words that alphamu refuses are answered at once, by the list in checks/jobs.py, if the program isn't compiled yet.
 
-Words that the program refuses are answered at once, by the list in checks/jobs.py. For all others the toolchain compiles
-the source, each time anew: `rt try` compiles into a folder of its own, runs the program there once, and removes it. It
-has no option to keep the program, and to take the program out while it runs would depend on names in a folder that
-belongs to the toolchain.
-
-The copies of the files and what the toolchain writes are in a temporary folder, which is removed at the end, and when
-the launcher is ended by a signal, even by KILL. Only when this process is itself ended by KILL is the folder left.
+`rt try` compiles the source into a folder of its own, runs the program there, and removes it. So the program is told to
+read a pipe, and while it waits there, its file is copied: the system says which file that is. It is kept as
+out/unproved/SUM/NAME, where SUM is the checksum of all sources, and answers from then on, until a source changes. With four
+processors and enough memory both programs are compiled side by side, otherwise the one that is asked for.
 """
 import contextlib
+import ctypes
+import fcntl
+import hashlib
 import os
 import re
 import shutil
@@ -21,34 +20,36 @@ import signal
 import subprocess
 import sys
 import tempfile
+import time
 
 sys.dont_write_bytecode = True
 sys.path.insert(0, os.path.dirname(os.path.abspath(__file__)))
 import jobs
 
-CRATE = os.path.join(os.path.dirname(sys.path[0]), "crates", "alphamu")
-NOTICE = "this answer takes about a minute, and comes from the source, which isn't proved yet"
-ADVICE = "{top}/build makes the proved program, which answers at once: about twenty minutes on four processors"
+# The programs by what the launchers are called, with words that make each read its deal file.
+CALLED = {"alphamu": "alphamu", "alphamu_study": "study"}
+READS = {"alphamu": ("--job", "list"), "alphamu_study": ("--job", "cards", "--layouts", "none", "--moves", "1")}
+BEGINNING = "the program isn't proved yet, so it is compiled once, unproved: about two minutes, more on a busy machine"
+WAITING = "waiting for another launcher, which compiles the programs"
+PROGRESS = "compiling: {stage}, {seconds} s so far"
+NOTICE = "not proved: this answer comes from the same source, compiled unproved. {top}/build makes the proved one, in half an hour or more"
 POINTER = "for a first question see {top}/README.md"
-UNWRITTEN, NO_WORDS, NO_ANSWER = 8, 64, 70
-# A year, so that the toolchain ends no question.
-MOST_SECONDS = "31536000"
-ENDING = signal.SIGHUP, signal.SIGTERM, signal.SIGALRM
+NO_WORDS, NO_ANSWER = 64, 70
+# What both compiles take, in processors and KiB.
+PROCESSORS, MEMORY = 4, 6_000_000
+# The seconds between two lines while the toolchain compiles, and how long the program may wait to be copied.
+BETWEEN, MOST_SECONDS = 5, "600"
+ENDING = signal.SIGHUP, signal.SIGINT, signal.SIGQUIT, signal.SIGTERM
+# An error of memory that the checks find ends the program with the launchers' status.
+CHECKS = {"ASAN_OPTIONS": f"exitcode={NO_ANSWER}"}
 
 
 class NoAnswer(Exception):
-    """Why there is no answer."""
+    """Why there is no program."""
 
 
-def write(stream, content):
-    """Writes all bytes, or as many as the stream takes."""
-    while content:
-        content = content[os.write(stream, content):]
-
-
-def say(line):
-    with contextlib.suppress(OSError):
-        write(2, os.fsencode(f"alphamu: {line}\n"))
+class Ended(BaseException):
+    """A signal that ends this process."""
 
 
 @contextlib.contextmanager
@@ -61,164 +62,226 @@ def may_end():
         signal.pthread_sigmask(signal.SIG_BLOCK, ENDING)
 
 
-def copy_file(name, most, copy):
-    """Copies a file, which may be a pipe, up to this many bytes. Whether it could be read."""
-    try:
-        with may_end(), open(name.encode(), "rb") as file:
-            content = file.read(most)
-    except OSError:
-        return False
-    try:
-        with open(copy, "wb") as file:
-            file.write(content)
-    except OSError as error:
-        raise NoAnswer(f"cannot write in {os.path.dirname(copy)}") from error
-    return True
-
-
-def copy_files(options, room):
-    """Copies the job's files in the order in which the program reads them, up to the first that can't be read. One byte
-    more than the program takes is enough to show that a file is too long."""
-    for option in filter(options.get, jobs.FILES):
-        name, most, copy = options[option], jobs.FILES[option] + 1, os.path.join(room, option)
-        if option == "layouts" and options["job"] in jobs.JOBS_BY_GAME:
-            games = range(1, jobs.MOST_GAMES + 1)
-            are_read = all(copy_file(f"{name}.{game}", most, f"{copy}.{game}") for game in games)
-        else:
-            are_read = copy_file(name, most, copy)
-        if not are_read:
-            return
-
-
-def words_for(options, room):
-    """The words for the same question about the copies."""
-    for name, value in options.items():
-        yield f"--{name}"
-        if name not in jobs.FLAGS:
-            yield os.path.join(room, name) if name in jobs.FILES else value
-
-
-def try_source(options, room):
-    """Runs the source on the copies, and returns its status, or None if the toolchain has no answer. What was printed is
-    in the files out and err, in which the toolchain's lines come after the program's own."""
-    words = ["rt", "try", "--steps", "1", "--seconds", MOST_SECONDS, "--", *words_for(options, room)]
-    with open(f"{room}/out", "wb") as out, open(f"{room}/err", "wb") as err:
-        tool = subprocess.Popen(words, cwd=CRATE, env={**os.environ, "TMPDIR": room}, stdin=subprocess.DEVNULL, stdout=out,
-                                stderr=err, start_new_session=True,
-                                preexec_fn=lambda: signal.pthread_sigmask(signal.SIG_UNBLOCK, ENDING))
-    try:
-        with may_end():
-            tool.wait()
-    finally:
-        end_tool(tool)
-    with open(f"{room}/err", "rb") as err:
-        ended = re.search(rb"(?m)^run=ended status=(\d+) .*proved=no\n\Z", err.read())
-    return tool.returncode if ended and int(ended[1]) == tool.returncode else None
-
-
-def end_tool(tool):
-    """Ends the toolchain, which ends what it started itself."""
-    if tool.poll() is None:
-        tool.terminate()
-        try:
-            tool.wait(10)
-        except subprocess.TimeoutExpired:
-            tool.kill()
-            tool.wait()
-
-
-def why_no_answer(top, room):
-    """Keeps what the toolchain wrote, and returns the reason that it gives, or where to find it."""
-    log = os.path.join(CRATE, "out", "try.log")
-    with open(f"{room}/err", encoding="utf-8", errors="replace") as err:
-        whys = re.findall(r"(?m)^checked: no-answer: (.*)$", err.read())
-    try:
-        os.makedirs(os.path.dirname(log), exist_ok=True)
-        shutil.copyfile(f"{room}/err", log)
-    except OSError:
-        log = "the toolchain"
-    return f"no answer from the unproved source ({whys[-1] if whys else f'see {log}'}): {top}/build makes the proved program"
-
-
-def is_first():
-    """Whether this is the first answer here, which is noted."""
-    try:
-        os.makedirs(os.path.join(CRATE, "out"), exist_ok=True)
-        os.close(os.open(os.path.join(CRATE, "out", "answered"), os.O_CREAT | os.O_EXCL, 0o644))
-    except FileExistsError:
-        return False
-    except OSError:
-        pass
-    return True
-
-
-def print_answer(room, status):
-    """Passes on what the program wrote, and returns the status to end with."""
-    with open(f"{room}/err", "rb") as err, open(f"{room}/out", "rb") as out:
-        lines = b"".join(line for line in err if line.startswith(b"alphamu: "))
-        content = out.read()
+def say(called, line):
     with contextlib.suppress(OSError):
-        write(2, lines)
+        os.write(2, os.fsencode(f"{called}: {line}\n"))
+
+
+def sources(top):
+    """All that a program is compiled from."""
+    yield from (os.path.join(top, name) for name in ("crates.txt", "HANDLES"))
+    for crate in sorted(os.listdir(os.path.join(top, "crates"))):
+        for folder, folders, files in os.walk(os.path.join(top, "crates", crate, "src")):
+            folders.sort()
+            yield from (os.path.join(folder, name) for name in sorted(files))
+
+
+def kept(top, name):
+    """Where the program is kept that is compiled from the present sources. It need not be there."""
+    total = hashlib.sha256()
+    for path in sources(top):
+        with open(path, "rb") as file:
+            content = file.read()
+        total.update(f"{os.path.relpath(path, top)} {len(content)}\n".encode() + content)
+    return os.path.join(top, "out", "unproved", total.hexdigest()[:20], name)
+
+
+def is_there(path):
+    return os.access(path, os.X_OK)
+
+
+class Compile:
+    """The toolchain at work on one program, in a folder of its own."""
+
+    def __init__(self, top, name, room):
+        self.name, self.room = name, room
+        self.pipe, self.written = os.path.join(room, "deal"), os.path.join(room, "written")
+        os.mkdir(room)
+        os.mkfifo(self.pipe)
+        words = ["rt", "try", "--steps", "1", "--seconds", MOST_SECONDS, "--", *READS[name], "--deal", self.pipe]
+        system, us = ctypes.CDLL(None), os.getpid()
+
+        def prepare():
+            signal.pthread_sigmask(signal.SIG_UNBLOCK, ENDING)
+            # The toolchain ends if this process is killed.
+            system.prctl(1, signal.SIGTERM)
+            os.getppid() == us or os._exit(1)
+
+        with open(self.written, "wb") as written:
+            how = {"stdin": subprocess.DEVNULL, "stdout": written, "stderr": written, "start_new_session": True, "preexec_fn": prepare}
+            try:
+                self.tool = subprocess.Popen(words, cwd=os.path.join(top, "crates", name), env={**os.environ, "TMPDIR": room}, **how)
+            except OSError as error:
+                raise NoAnswer(f"cannot start the toolchain's command rt: {error.strerror}") from error
+
+    def has_code(self):
+        """Whether the sources are read and machine code is made, for which the toolchain makes folders below its own."""
+        return any(it.is_dir() for own in os.scandir(self.room) if own.is_dir() for it in os.scandir(own.path))
+
+    def program(self):
+        """The file that a process executes from the folder."""
+        wanted = re.compile(rf"(?m)^\S+ r-xp (?:\S+ +){{3}}({re.escape(self.room)}/.+)$")
+        for process in filter(str.isdigit, os.listdir("/proc")):
+            with contextlib.suppress(OSError), open(f"/proc/{process}/maps", encoding="utf-8", errors="surrogateescape") as maps:
+                if found := wanted.search(maps.read()):
+                    return found[1]
+        raise NoAnswer("the program that the toolchain compiled isn't found")
+
+    def is_done(self, copy):
+        """Whether there is a copy of the program, which is made as soon as the program waits for its deal file."""
+        if self.tool.poll() is not None:
+            raise NoAnswer(self.why())
+        try:
+            pipe = os.open(self.pipe, os.O_WRONLY | os.O_NONBLOCK)
+        except OSError:
+            return False
+        try:
+            shutil.copyfile(self.program(), copy)
+            os.chmod(copy, 0o755)
+        finally:
+            os.close(pipe)
+        return True
+
+    def end(self):
+        """Ends the toolchain, which ends what it started itself."""
+        if self.tool.poll() is None:
+            self.tool.terminate()
+            try:
+                self.tool.wait(10)
+            except subprocess.TimeoutExpired:
+                self.tool.kill()
+                self.tool.wait()
+
+    def why(self):
+        """The last lines that the toolchain wrote, which is why there is no program."""
+        with open(self.written, encoding="utf-8", errors="replace") as written:
+            lines = [line.rstrip() for line in written if line.strip()]
+        return "\n".join([f"{self.name} can't be compiled; the toolchain says:", *lines[-10:]])
+
+
+def names_to_compile(name):
+    """Both programs if that takes no longer, and otherwise the one that is asked for."""
+    with open("/proc/meminfo", encoding="ascii") as file:
+        room = int(re.search(r"MemAvailable: +(\d+)", file.read())[1])
+    return [name, *(it for it in CALLED if it != name and len(os.sched_getaffinity(0)) >= PROCESSORS and room >= MEMORY)]
+
+
+def follow(compiles, room, tell):
+    """Says every few seconds how far the compiles have come, until there is a copy of each program in the folder."""
+    begun = said = time.monotonic()
+    while compiles:
+        with may_end():
+            time.sleep(0.1)
+        for it in [it for it in compiles if it.is_done(os.path.join(room, it.name))]:
+            compiles.remove(it)
+            it.end()
+        now = time.monotonic()
+        if compiles and now - said >= BETWEEN:
+            stage = "making machine code" if all(it.has_code() for it in compiles) else "reading the sources"
+            tell(PROGRESS.format(stage=stage, seconds=int(now - begun)))
+            said = now
+
+
+def compile_all(top, names, tell):
+    """Compiles the programs side by side and keeps them for the present sources, in place of any for older ones."""
+    if shutil.which("rt") is None:
+        raise NoAnswer("there is no proved program, and the toolchain's command rt, which makes it, isn't on the path")
+    homes = [kept(top, it) for it in names]
+    folder = os.path.dirname(homes[0])
+    for old in os.listdir(os.path.dirname(folder)):
+        if old not in ("lock", os.path.basename(folder)):
+            shutil.rmtree(os.path.join(os.path.dirname(folder), old), ignore_errors=True)
+    room, compiles = os.path.realpath(tempfile.mkdtemp(dir=os.path.dirname(folder))), []
     try:
-        write(1, content)
-    except OSError:
-        say("cannot write")
-        return UNWRITTEN
-    return status
+        tell(BEGINNING)
+        for it in names:
+            compiles.append(Compile(top, it, os.path.join(room, f"for-{it}")))
+        follow(list(compiles), room, tell)
+        if homes != [kept(top, it) for it in names]:
+            raise NoAnswer("a source was changed while it was compiled: ask again")
+        os.makedirs(folder, exist_ok=True)
+        for name, home in zip(names, homes):
+            os.replace(os.path.join(room, name), home)
+    finally:
+        for it in compiles:
+            it.end()
+        shutil.rmtree(room, ignore_errors=True)
 
 
-def answer(top, words):
-    """Answers the words and returns the status to end with."""
+def make(top, name, names, tell):
+    """Compiles those of the programs that aren't there for the present sources, if NAME is one of them. Another launcher
+    that does so is waited for."""
+    if is_there(kept(top, name)):
+        return
+    try:
+        os.makedirs(os.path.join(top, "out", "unproved"), exist_ok=True)
+        lock = open(os.path.join(top, "out", "unproved", "lock"), "wb")
+    except OSError as error:
+        raise NoAnswer(f"cannot write in {top}/out") from error
+    with lock:
+        try:
+            fcntl.flock(lock, fcntl.LOCK_EX | fcntl.LOCK_NB)
+        except OSError:
+            tell(WAITING)
+            with may_end():
+                fcntl.flock(lock, fcntl.LOCK_EX)
+        if not is_there(kept(top, name)):
+            compile_all(top, [it for it in names if not is_there(kept(top, it))], tell)
+
+
+def make_all(top, names, tell):
+    """Compiles these programs, unless they are there."""
+    for name in names:
+        make(top, name, [it for it in names_to_compile(name) if it in names], tell)
+
+
+def refuse(name, top, words):
+    """Answers at once the words that alphamu refuses. The status, or none for other words."""
     try:
         options = jobs.options_in([os.fsencode(word).decode() for word in words])
     except UnicodeDecodeError:
         # The system then gives the program no words, and it ends without a line.
         return NO_WORDS
     if options is None:
-        say(jobs.USAGE)
-        say(POINTER.format(top=top))
+        say(CALLED[name], jobs.USAGE)
+        say(CALLED[name], POINTER.format(top=top))
         return jobs.REFUSED
-    if shutil.which("rt") is None:
-        raise NoAnswer("there is no proved program, and the toolchain's command rt, which makes it, isn't on the path")
-    say(NOTICE)
-    try:
-        room = os.path.realpath(tempfile.mkdtemp(prefix="alphamu-"))
-    except OSError as error:
-        raise NoAnswer("cannot make a temporary folder") from error
-    try:
-        copy_files(options, room)
-        status = try_source(options, room)
-        if status is None:
-            raise NoAnswer(why_no_answer(top, room))
-        status = print_answer(room, status)
-    finally:
-        shutil.rmtree(room, ignore_errors=True)
-    if is_first():
-        say(ADVICE.format(top=top))
-    return status
+    return None
+
+
+def become(name, top, words):
+    """Becomes the program, or returns a status to end with."""
+    if name == "alphamu" and (status := refuse(name, top, words)) is not None:
+        return status
+    make(top, name, names_to_compile(name), lambda line: say(CALLED[name], line))
+    path = kept(top, name)
+    say(CALLED[name], NOTICE.format(top=top))
+    for it in ENDING:
+        if signal.getsignal(it) != signal.SIG_IGN:
+            signal.signal(it, signal.SIG_DFL)
+    signal.pthread_sigmask(signal.SIG_UNBLOCK, ENDING)
+    os.execve(path, [path, *words], {**os.environ, **CHECKS})
 
 
 def end(number, _):
-    sys.exit(128 + number)
+    raise Ended(number)
 
 
-def end_without(launcher):
-    """Looks for the launcher twice a second."""
-    signal.signal(signal.SIGALRM, lambda number, frame: os.getppid() == launcher or end(number, frame))
-    signal.setitimer(signal.ITIMER_REAL, 0.5, 0.5)
-
-
-def main(launcher, top, *words):
+def main(name, top, *words):
     signal.pthread_sigmask(signal.SIG_BLOCK, ENDING)
-    signal.signal(signal.SIGHUP, end)
-    signal.signal(signal.SIGTERM, end)
-    end_without(int(launcher))
+    for it in ENDING:
+        if signal.getsignal(it) != signal.SIG_IGN:
+            signal.signal(it, end)
     try:
-        return answer(top, words)
+        return become(name, top, words)
     except NoAnswer as why:
-        say(why)
+        say(CALLED[name], why)
+    except Ended as signalled:
+        signal.signal(signalled.args[0], signal.SIG_DFL)
+        signal.pthread_sigmask(signal.SIG_UNBLOCK, ENDING)
+        os.kill(os.getpid(), signalled.args[0])
     except Exception as error:
-        say(f"no answer: {error!r}")
+        say(CALLED[name], f"no answer: {error!r}")
     return NO_ANSWER
 
 

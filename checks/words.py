@@ -17,8 +17,6 @@ sys.dont_write_bytecode = True
 import cases
 import jobs
 
-PROVED = os.path.join(cases.TOP, "crates", "alphamu", "out", "alphamu")
-
 
 def plain_value(name):
     """A value that each job takes, if it takes the option."""
@@ -91,7 +89,7 @@ def main():
     given = cases.parser_of("Compares the list of jobs and options with the cases and the program.").parse_args()
     if not cases.is_ready(given.program, "words"):
         return 1
-    program = PROVED if given.program == cases.LAUNCHER else os.path.abspath(given.program)
+    program = os.path.abspath(given.program)
     tried = [*table_words(), *(words for job in jobs.JOBS for words in words_about(job))]
     with tempfile.TemporaryDirectory() as room, ThreadPoolExecutor(given.jobs) as pool:
         told = list(pool.map(lambda words: about_program(program, words, room, given.seconds), tried))
