@@ -16,7 +16,8 @@ If the study searches for the report of a case, its page must be the same but fo
 cards, which must say what the job `cards` says. The card that the headline names is marked there, and no other.
 Each layout can be picked, has its rule of style, and has at the table the hands of the list; and the lines that are played out
 in it end and go, trick by trick, as the games of the job `lines` do.
-A report that `check` refuses must be refused with the same line and status. The exit status is 0 only if nothing is wrong, and if
+A report that `check` refuses must be refused with the same line and status, and so must one whose card can't be played or begins
+none of its lines. The exit status is 0 only if nothing is wrong, and if
 at least LEAST pages were made.
 
 With --folder it asks for the pages of other cases in its place: a folder of folders with the words in `args`, the text that `solve`
@@ -36,6 +37,7 @@ from concurrent.futures import ProcessPoolExecutor
 from html.parser import HTMLParser
 
 sys.dont_write_bytecode = True
+import playing
 import reading
 from cases import STUDY, TOP, bytes_of, expected, is_ready, names_of_cases, parser_of, run, words_of
 from options import job_of, with_job
@@ -475,6 +477,30 @@ def judge_search(case, page, deal, report, seconds):
     return faults_of_search(searched[0].decode(), page.decode(), cards[0].decode(), deal, report)
 
 
+def with_card(report, card):
+    """A report that names this card, and the number of the line that does."""
+    lines = report.split(b"\n")
+    lines[-3] = b"card " + name_of(card) + lines[-3][7:]
+    return b"\n".join(lines), len(lines) - 2
+
+
+def judge_cards(ask, report, states):
+    """What is wrong with the answers to a report that names another card: there is a page only if the card can be played, and a line
+    of the report begins with it or stops before it."""
+    plans = [plan for _, _, plan in reading.report_of(report)[2]]
+    choices = playing.choices(states)
+    own = [card for card in choices if any(plan is None or plan[0] == card for plan in plans)]
+    foreign = [min(set(range(52)) - set(choices)), *[card for card in choices if card not in own][:1]]
+    wrong = []
+    for card in [own[-1], *foreign]:
+        changed, number = with_card(report, card)
+        text, line, status = ask(b"page", [(REPORT, changed)])
+        answer = (b"alphamu: report line %d: Card\n" % number, 11) if card in foreign else (b"", 0)
+        if (line, status) != answer or bool(text) == bool(status):
+            wrong.append(f"the card {name_of(card)}: {line!r}, status {status}")
+    return wrong
+
+
 def judge(case, program, seconds):
     """What is wrong with the pages of a case, and how many there are."""
     report, _, status = expected(case)
@@ -494,6 +520,9 @@ def judge(case, program, seconds):
     text = bytes_of(case, os.fsdecode(deal))
     wrong = faults_of(page, text, report, told(b"words")[0], fusion, told(b"lines")[0]) + judge_search(case, page, text, report, seconds)
     tags = b"".join(b'[%s "%s"]\n' % (name, HOSTILE) for name in (b"Event", b"Board"))
+    board = reading.board_of(reading.games_of(text)[0])
+    kept = reading.layouts_kept(bytes_of(case, os.fsdecode(layouts)), board)
+    wrong += judge_cards(told, report, [reading.state_of(board, layout) for layout in kept.layouts])
     hostile, _, status = told(b"page", {deal: tags + text}.items())
     reader = Reader()
     reader.feed(hostile.decode())

@@ -1,4 +1,5 @@
 pub mod BesideLines
+pub mod Named
 pub mod Played
 pub mod Refuted
 pub mod ReportPages

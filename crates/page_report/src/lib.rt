@@ -9,8 +9,10 @@ mod dropped;
 pub mod laws;
 mod lines;
 mod markup;
+mod named;
 mod page;
 mod plays;
 mod refuted;
 
+pub use named::names_own_card;
 pub use page::{Shown, report_page};

@@ -22,8 +22,8 @@ use told_plans::ToldPlan;
 use told_words::{Strategy, Writer, lines_reached};
 use trick_rules::Node;
 
-// The first card of a strategy.
-fn first_card(plan: &Plan) -> Option<Card>
+/// The first card of a strategy.
+pub fn first_card(plan: &Plan) -> Option<Card>
     ensures { result ≡ first_card_of (plan_of plan.now) }
 {
     match plan {

@@ -15,8 +15,10 @@ use Rattle.am_answer.specs.Stages.{IsFileRefusal, IsTextFor}
 use Rattle.am_answer.specs.Tasks.{TaskValue, Solve}
 use Rattle.job_words.specs.declared.study.Study.{Study}
 use Rattle.job_words.specs.declared.study.Study.TheVariants.{Words, Lines, Page, Cards, Review}
+use Rattle.card_brackets.specs.declared.table.CardTable.{CardTable}
+use Rattle.job_page.specs.PageJob.{IsPageRefusal}
 use Rattle.study_top.specs.Solved.{IsSolvedReport, IsUnsolved}
-use Rattle.study_top.specs.Study.{IsReportRefusal, IsSearchRefusal}
+use Rattle.study_top.specs.Study.{AreCardsFor, IsReportRefusal, IsSearchRefusal}
 
 -- what isn't refused ends only for want of memory
 only_memory : {A : Type 0} (expected : Result A Status) (value : A) → expected ≡ Ok value → (status : Status) → IsFileRefusal expected status → status ≡ Memory
@@ -56,9 +58,15 @@ module _ (root : Root) (moves : ℕ) (search : Search) where
         let good = text-good root moves report node is_root.weighed each some (solve_text_of report solved.solved) short in
         unsolved_memory status (only_memory (task_at root (jobs.Check report)) _ good.1 status refused)
 
-    pub never_refused : (study : Study) (status : Status) → IsReportRefusal study root report status → IsSearchRefusal study root moves search status
-    never_refused Words status refused = inl (good_or_memory status refused)
-    never_refused Lines status refused = inl (good_or_memory status refused)
-    never_refused Page status refused = inl (good_or_memory status refused)
-    never_refused (Cards form) status refused = inr (inr refused)
-    never_refused (Review form from) status refused = inr (inr refused)
+    -- a page shows the cards that are known after a search, and doesn't judge the report's
+    of_page : (known : Option CardTable) (status : Status) → AreCardsFor Page root moves known → IsPageRefusal root report known status → IsSearchRefusal Page root moves search status
+    of_page known status cards (inl refused) = inl (good_or_memory status refused)
+    of_page known status cards (inr foreign) = absurd (subst (AreCardsFor Page root moves) foreign.is_unknown cards)
+
+    pub never_refused : (study : Study) (known : Option CardTable) → AreCardsFor study root moves known
+        → (status : Status) → IsReportRefusal study root report known status → IsSearchRefusal study root moves search status
+    never_refused Words known cards status refused = inl (good_or_memory status refused)
+    never_refused Lines known cards status refused = inl (good_or_memory status refused)
+    never_refused Page known cards status refused = of_page known status cards refused
+    never_refused (Cards form) known cards status refused = inr (inr refused)
+    never_refused (Review form from) known cards status refused = inr (inr refused)

@@ -21,7 +21,7 @@ use Rattle.am_answer.specs.Files.{InputsValue, IsNameOf, named_read}
 use Rattle.am_answer.specs.Stages.{IsReadRefusal, IsFileRefusal}
 use Rattle.job_told.specs.ToldJob.{IsToldReport}
 use Rattle.job_lines.specs.LinesJob.{IsLinesReport}
-use Rattle.job_page.specs.PageJob.{IsPage}
+use Rattle.job_page.specs.PageJob.{IsPage, IsPageRefusal}
 use Rattle.card_brackets.specs.declared.table.CardTable.{CardTable}
 use Rattle.card_brackets.specs.Rows.{IsTableUpTo}
 use Rattle.job_cards.specs.Cards.{IsCardsText, IsCardsRefusal}
@@ -72,12 +72,12 @@ TakesNoReport Lines status = ⊥
 TakesNoReport Page status = ⊥
 TakesNoReport study status = status ≡ BadWords
 
--- why it tells nothing of it: `check` refuses the report; any other job takes none
-abbrev pub IsReportRefusal : Study → Root → List ℕ → Status → Type 0
-IsReportRefusal Words root report status = IsFileRefusal (task_at root (jobs.Check report)) status
-IsReportRefusal Lines root report status = IsFileRefusal (task_at root (jobs.Check report)) status
-IsReportRefusal Page root report status = IsFileRefusal (task_at root (jobs.Check report)) status
-IsReportRefusal study root report status = TakesNoReport study status
+-- why it tells nothing of it: `check` refuses the report, or a page the card that it names; any other job takes none
+abbrev pub IsReportRefusal : Study → Root → List ℕ → Option CardTable → Status → Type 0
+IsReportRefusal Words root report known status = IsFileRefusal (task_at root (jobs.Check report)) status
+IsReportRefusal Lines root report known status = IsFileRefusal (task_at root (jobs.Check report)) status
+IsReportRefusal Page root report known status = IsPageRefusal root report known status
+IsReportRefusal study root report known status = TakesNoReport study status
 
 -- how many moves a page plans to judge each card: at most four, and one if there are more than 40 layouts
 abbrev pub table_moves : Root → ℕ → ℕ
@@ -117,7 +117,7 @@ IsTextOf _ _ _ = ⊥
 -- why it tells nothing of it: the report or the search is refused, the tree of a card is too large, or a board isn't reviewed;
 -- for all games only an allocation that fails
 abbrev pub IsRefusalOf : Study → InputsValue → Status → Type 0
-IsRefusalOf study (asks.OnLayouts deal layouts (jobs.Check report)) status = IsRefusedAt deal layouts status (λ root. IsReportRefusal study root report status)
+IsRefusalOf study (asks.OnLayouts deal layouts (jobs.Check report)) status = IsRefusedAt deal layouts status (λ root. IsReportRefusal study root report None status)
 IsRefusalOf study (asks.OnLayouts deal layouts (jobs.Solve moves search)) status = IsRefusedAt deal layouts status (λ root. IsSearchRefusal study root moves search status)
 IsRefusalOf (Cards form) (asks.OnLayouts deal layouts (jobs.Card moves search)) status = IsRefusedAt deal layouts status (λ root. IsCardsRefusal root moves search status)
 IsRefusalOf (Review form from) (asks.OnLayouts deal layouts (jobs.Card moves search)) status = IsFileRefusal (board_in deal) status

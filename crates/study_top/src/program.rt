@@ -89,7 +89,8 @@ fn text_of(
     requires report_short { length report.now < 2 ^ 32 - 1 }
     ensures text { IfOk result
         (IsTextOfReport study deal.now root.now report.now (option_copied cards.entry)) }
-    ensures refused { IfErr result (IsReportRefusal study root.now report.now) }
+    ensures refused { IfErr result
+        (IsReportRefusal study root.now report.now (option_copied cards.entry)) }
 {
     match study {
         Study::Words => tell_report(alloc, root, report),
