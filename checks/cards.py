@@ -7,8 +7,9 @@ reading of the definitions (playing.py, assured.py), byte for byte. In every cas
 you name none, must agree: `card` with the moves that the text says names the same card, whose weight is its `most`, and `fusion`
 believes in the same weights. Each is asked again with three choices of the options for the search, which may change no byte. Each
 answer in the forms `csv` and `json` must be what Python's modules of these names write for the values of the text. A case that
-`card` refuses must be refused with the same line and status. Words with a `--form` that can't be right must be refused. The exit
-status is 0 only if nothing differs, and if at least LEAST texts were told.
+`card` refuses must be refused with the same line and status. Nodes may be spent only if the tree after some card, walked here, has
+more than NODES. Words with a `--form` that can't be right must be refused. The exit status is 0 only if nothing differs, and if at
+least LEAST texts were told.
 
 Both programs must be there and current: ./build makes them."""
 import csv
@@ -77,15 +78,27 @@ def cards_text(states, weights, limit, trump):
             return b"\n".join(lines + [b"named " + playing.name_of(named), b""])
 
 
-def told(case, limit):
-    """The text that the case must have, or none if it is too large for a second reading."""
+def root_of(case):
+    """The states of a case's root, the weights of its layouts, and the trumps."""
     options = reading.ask_of([word.decode() for word in words_of(case)])[1]
     board = reading.board_of(reading.games_read(bytes_of(case, options["deal"]))[0])
     kept = reading.layouts_kept(bytes_of(case, options["layouts"]), board)
-    states = tuple(reading.state_of(board, layout) for layout in kept.layouts)
+    return tuple(reading.state_of(board, layout) for layout in kept.layouts), kept.weights, board.trump
+
+
+def told(case, limit):
+    """The text that the case must have, or none if it is too large for a second reading."""
+    states, weights, trump = root_of(case)
     if max(map(len, states[0][0])) > MOST_CARDS or len(states) > MOST_LAYOUTS:
         return None
-    return cards_text(states, kept.weights, limit, board.trump)
+    return cards_text(states, weights, limit, trump)
+
+
+@functools.lru_cache(maxsize=None)
+def may_be_spent(case, limit):
+    """Whether NODES may be too few for a case."""
+    states, _, trump = root_of(case)
+    return playing.may_be_spent(states, limit, trump, NODES)
 
 
 def asked(case, job, moves):
@@ -155,12 +168,13 @@ def judge_others(program, case, seconds, text):
     return wrong
 
 
-def judge_options(case, place, seconds, words, text):
+def judge_options(case, place, seconds, limit, words, text):
     """The options for the search that change a byte: one of those for one worker, and two for several, by the case's place."""
     chosen = [ONE_WORKER[place % len(ONE_WORKER)], *choices_for(place, False)[len(ONE_WORKER):]]
     found = [(choice, run(STUDY, case, seconds, words=words, more=choice)) for choice in chosen]
     return [f"{case} with {b' '.join(choice).decode()}: other bytes, or status {status}"
-            for choice, (out, _, status) in found if status != SPENT and (out, status) != (text, 0)]
+            for choice, (out, _, status) in found
+            if (out, status) != (text, 0) and not (status == SPENT and may_be_spent(case, limit))]
 
 
 def judge(program, case, place, seconds):
@@ -178,11 +192,11 @@ def judge(program, case, place, seconds):
     words = asked(case, b"cards", limit) + [b"--nodes", b"%d" % NODES]
     found, _, ended = run(STUDY, case, seconds, words=words)
     if ended == SPENT:
-        return [], 0
+        return [] if may_be_spent(case, limit) else [f"{case}: nodes are spent, and no tree has so many"], 0
     wanted = told(case, limit)
     wrong = [f"{case}: the cards differ"] if ended or wanted not in (None, found) else []
     if not ended:
-        wrong += judge_options(case, place, seconds, words, found) + judge_others(program, case, seconds, found)
+        wrong += judge_options(case, place, seconds, limit, words, found) + judge_others(program, case, seconds, found)
         wrong += judge_forms(case, words, seconds, found) + judge_words(case, words, seconds)
     return wrong, 1
 

@@ -4,8 +4,9 @@
 Reviews the evening of examples/evening with ./study, from trick FIRST on with MOVES moves, with as many nodes as the program takes by
 itself and with FEW: each game by itself, and all games in one run, for each number of workers. One game is given the layouts of another.
 The text of all games must have that of each game, or the line that refuses it, in order, and then the sums; and CSV and JSON must have its
-values, byte for byte as docs/FORMS.md says. Words with a `--games` that can't be right must be refused. The exit status is 0 only if nothing differs, and if with nodes enough at least LEAST games were
-reviewed, and with few nodes at least one wasn't for that reason.
+values, byte for byte as docs/FORMS.md says. Words with a `--games` that can't be right must be refused. The
+exit status is 0 only if nothing differs, and if with nodes enough at least LEAST games were reviewed and none was refused for its
+nodes, and with few nodes at least one was.
 
 The program must be there and current: ./build makes it."""
 import argparse
@@ -122,9 +123,9 @@ def main():
     for line in wrong:
         print(line)
     reviewed = sum(not text.startswith(b"refused ") for text in texts)
-    spent = sum(text.startswith(b"refused nodes spent") for text in few)
-    print(f"evening: {reviewed} of {len(games)} games reviewed, {spent} with too few nodes, {len(wrong)} wrong")
-    return 0 if reviewed >= LEAST and spent and not wrong else 1
+    spent, early = (sum(text.startswith(b"refused nodes spent") for text in it) for it in (few, texts))
+    print(f"evening: {reviewed} of {len(games)} games reviewed, {spent} with too few nodes and {early} with enough, {len(wrong)} wrong")
+    return 0 if reviewed >= LEAST and spent and not early and not wrong else 1
 
 
 if __name__ == "__main__":

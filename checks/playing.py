@@ -78,3 +78,20 @@ def child(states, card, trump):
     seat = seat_to_play(states)
     able = [at for at, state in enumerate(states) if card in legal(state[0][seat], state[1])]
     return able, [after(*states[at], trump, seat, card) for at in able]
+
+
+def nodes_from(states, moves, trump, most):
+    """How many nodes the tree has in which declarer's side has this many moves; if they are more than `most`, some number above it."""
+    if moves == 0 or is_decided(states):
+        return 1
+    number, is_ours = 1, seat_to_play(states) % 2 == 0
+    for card in choices(states):
+        if number > most:
+            break
+        number += nodes_from(child(states, card, trump)[1], moves - is_ours, trump, most - number)
+    return number
+
+
+def may_be_spent(states, moves, trump, nodes):
+    """Whether a search with this many moves may need more than these nodes after some card of the root."""
+    return any(nodes_from(child(states, card, trump)[1], moves - 1, trump, nodes) > nodes for card in choices(states))

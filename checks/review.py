@@ -8,7 +8,8 @@ each card of declarer's side, finds by its own rules (reading.py, playing.py) wh
 differ, and asks `cards` there for the bounds, and PROGRAM, which is that of cases.py if you name none, for the card (`card`). A file that
 `card` refuses there must be refused with the same line and status, and so must a play without a decision. From the last trick but
 one the CSV and the JSON must have the values of the text, byte for byte as docs/FORMS.md says. Words with a `--from` or a `--form`
-that can't be right must be refused. The exit status is 0 only if nothing differs, and if at least LEAST texts were told.
+that can't be right must be refused. A text may be missing for its nodes only if a tree, walked here, has more than NODES. The exit
+status is 0 only if nothing differs, and if at least LEAST texts were told.
 
 Both programs must be there and current: ./build makes them."""
 import fnmatch
@@ -114,7 +115,7 @@ def told(program, case, seconds, whole, layouts, first):
         if differ(states):
             cost, line = line_at(program, case, seconds, board, place, words, file)
             if cost is None:
-                return None if line[2] == SPENT else line
+                return None if line[2] == SPENT and playing.may_be_spent(states, MOVES, board.trump, NODES) else line
             lines.append(line)
             costs.append(cost)
     if not lines:
