@@ -4,7 +4,7 @@
 Runs alphamu where the machine lets it down: streams that are full, closed or broken, names that are no readable file,
 little memory, little stack, no threads, many runs at once, and signals in the middle. No run may hang, or end by a
 signal that wasn't sent. Each must end either with the right status and the right bytes, or with the status and the line
-that docs/USING.md gives for what failed, and no output; a failed write leaves the first bytes.
+that docs/REFUSALS.md gives for what failed, and no output; a failed write leaves the first bytes.
 
 Trials with streams, files and signals are made with the launcher ./alphamu and with the proved program, which ./build
 makes; the others only with the program. Prints what was wrong, and the number of trials of each kind. The exit status is
