@@ -2,7 +2,8 @@
 """Makes the packages by ./build package and tries them: in a folder into which the .tar.gz is unpacked, and in an empty root into
 which dpkg installs the Debian package. In both the front page's first question is answered without the toolchain on the path, the
 strategies of docs/USING.md are told in words, the library's example is linked as pkg-config says and gives the same in C and Python,
-the checksums of BUILD agree, and the man page is well formed and has each job, option and status. A closed pipe is a failed write.
+the checksums of BUILD agree, and the man pages are well formed, have each job, option and status, and none of what is only right on a
+page or in the source; nor have the pages. A closed pipe is a failed write.
 After dpkg has removed the package nothing is left. What needs a command that isn't there, or the right to install, is left out, with
 a line.
 
@@ -23,6 +24,9 @@ import pages
 
 TOP = pages.TOP
 DOCS = "share/doc/alphamu"
+# The jobs of the second program, and what no man page may say: marks of Markdown, the source's launchers, and what has no place there.
+STUDY_JOBS = ("page", "words", "lines", "cards", "review")
+OUT_OF_PLACE = ("![", "](", "./study", "./alphamu", "last three rows", "last four rows", "you can't", "the picture", "tables above", "see below", "see above")
 faults, left_out = [], []
 
 
@@ -96,26 +100,41 @@ def try_links(prefix):
             expect(f"{page}: {target} isn't there", "://" in target or (page.parent / target).exists())
 
 
-def try_man_page(prefix):
+def try_man_pages(prefix):
+    wanted = {"alphamu": (*jobs.JOBS, *(f"--{it}" for it in jobs.OPTIONS)),
+              "alphamu_study": (*(f"alphamu_study --job {it}" for it in STUDY_JOBS), "--report", "--form", "--from", "--games")}
+    for page, names in wanted.items():
+        text = gzip.decompress((prefix / f"share/man/man1/{page}.1.gz").read_bytes()).decode().replace("\\-", "-")
+        bold = set(re.findall(r"\\fB(.*?)\\fR", text))
+        for name in names:
+            expect(f"the man page of {page} lacks {name}", name in bold)
+        for wrong in OUT_OF_PLACE:
+            expect(f"the man page of {page} says {wrong}", wrong not in text)
     text = gzip.decompress((prefix / "share/man/man1/alphamu.1.gz").read_bytes()).decode()
-    bold = set(re.findall(r"\\fB(.*?)\\fR", text.replace("\\-", "-")))
-    for name in (*jobs.JOBS, "alphamu_study", *(f"--{it}" for it in jobs.OPTIONS)):
-        expect(f"the man page lacks {name}", name in bold)
     statuses = re.findall(r"^\| (\d+) \|", (TOP / "docs/REFUSALS.md").read_text(encoding="utf-8"), re.M)
     for status in statuses:
         expect(f"the man page lacks status {status}", f"\n.TP\n{status}\n" in text)
     if shutil.which("groff") is None:
-        left_out.append("the man page isn't set: no groff")
+        left_out.append("the man pages aren't set: no groff")
         return
-    found = run(["groff", "-k", "-man", "-Tutf8", "-ww", "-z"], input=text)
-    expect(f"the man page: {found.stdout}", found.returncode == 0 and found.stdout == "")
+    for page in wanted:
+        text = gzip.decompress((prefix / f"share/man/man1/{page}.1.gz").read_bytes()).decode()
+        found = run(["groff", "-k", "-man", "-Tutf8", "-ww", "-z"], input=text)
+        expect(f"the man page of {page}: {found.stdout}", found.returncode == 0 and found.stdout == "")
+
+
+def try_pages(prefix):
+    """No page of the package calls the launchers of the source."""
+    for page in (prefix / DOCS).rglob("*.md"):
+        for wrong in ("./alphamu ", "./alphamu`", "./study"):
+            expect(f"{page} says {wrong}", wrong not in page.read_text(encoding="utf-8"))
 
 
 def try_tar(folder, made):
     with tarfile.open(made) as tar:
         tar.extractall(folder, filter="data")
     prefix = next(folder.iterdir())
-    for it in (try_answer, try_words, try_library, try_sums, try_links, try_man_page):
+    for it in (try_answer, try_words, try_library, try_sums, try_links, try_pages, try_man_pages):
         it(prefix)
 
 

@@ -1,15 +1,25 @@
-"""The man page of alphamu and alphamu_study, made from the pages for users: what alphamu is and its jobs from README.md, options,
+"""The man pages of alphamu and alphamu_study, made from the pages for users: what alphamu is and its jobs from README.md, options,
 refusals and statuses from docs/REFUSALS.md, the first question and the jobs of alphamu_study from docs/USING.md. So each thing is
-said in one place."""
+said in one place. The page of alphamu_study leaves what both programs share to that of alphamu."""
 import re
 
-TITLE, SECTION = re.compile(r"^# "), re.compile(r"^## (.*)$")
+TITLE, SECTION, PICTURE = re.compile(r"^# "), re.compile(r"^## (.*)$"), re.compile(r"^!\[")
+# How the source's launchers are called, and the installed programs.
+CALLED = re.compile(r"(?<![\w./])\./(alphamu|study)(?![\w./])")
+INSTALLED = {"alphamu": "alphamu", "study": "alphamu_study"}
 BULLET = "\\(bu"
+# The headings of a table that its rows repeat, since a man page has no columns.
+REPEATED = ("Required", "Allowed", "Default", "How to mend it")
 # The jobs of alphamu_study, each with a job of alphamu whose words it reads.
 STUDY_JOBS = [*((job, read) for job in ("page", "words", "lines") for read in ("solve", "check")), ("cards", "card"), ("review", "card")]
-# What such a job takes beside them.
+# What such a job takes in addition.
 FORM = "[\\fB\\-\\-form\\fR \\fBtext\\fR|\\fBcsv\\fR|\\fBjson\\fR]"
 OWN_OPTIONS = {"cards": [FORM], "review": ["[\\fB\\-\\-from\\fR \\fIN\\fR]", "[\\fB\\-\\-games\\fR]", FORM]}
+
+
+def as_installed(text):
+    """A page in which the commands call the installed programs."""
+    return CALLED.sub(lambda it: INSTALLED[it[1]], text)
 
 
 def escaped(text):
@@ -40,9 +50,9 @@ def cells(line):
 
 
 def row(cells_of, names):
-    """One row of a table: its first cell as the label, and each other one as a paragraph."""
+    """One row of a table: its first cell as the label, and each other one on a line of its own."""
     label, *rest = cells_of
-    rest = [inline(f"{name}: {it}" if name and place else it) for place, (it, name) in enumerate(zip(rest, names[1:])) if it]
+    rest = [inline(f"{name}: {it}" if name in REPEATED else it) for it, name in zip(rest, names[1:]) if it]
     return [".TP", inline(label), *"\n.br\n".join(rest or ["\\&"]).split("\n")]
 
 
@@ -83,7 +93,7 @@ def converted(text):
     out = []
     for part in groups(text):
         first = part[0]
-        if TITLE.match(first):
+        if TITLE.match(first) or PICTURE.match(first):
             continue
         if match := SECTION.match(first):
             out += [f".SH {inline(match[1].upper() if '`' not in match[1] else match[1])}"]
@@ -121,40 +131,55 @@ def usage(jobs, program, job, read):
     return " ".join(words + OWN_OPTIONS.get(job, []))
 
 
-def synopsis(jobs):
+def synopsis(jobs, lines):
     """A line for each job, and the options of the search."""
-    lines = [usage(jobs, "alphamu", job, job) for job in jobs.JOBS]
-    lines += [usage(jobs, "alphamu_study", job, read) for job, read in STUDY_JOBS]
     flags = [f"[\\fB\\-\\-{escaped(it)}\\fR" + ("]" if it in jobs.FLAGS else " \\fIN\\fR]") for it in jobs.SEARCH]
     return [*"\n.br\n".join(lines).split("\n"), ".PP", "The search options are", " ".join(flags)]
 
 
+def see_also(other):
+    return [".SH SEE ALSO", f"\\fB{other}\\fR(1)", *converted(
+        "The pages that are named in capitals, such as USING and IDEA, and the files of the examples are in `share/doc/alphamu` in the "
+        "folder that has `share/man`: begin with `docs/USING.md`. Run the commands of the pages in that folder.")]
+
+
 def page(readme, refusals, using, jobs, version):
-    """The man page as text."""
-    what = readme[:readme.index("## ")]
-    first, shown, words, games, cards, review, evening = (
-        section(using, it).replace("./alphamu", "alphamu").replace("    ./study", "    alphamu_study")
-        for it in ("A first question", "A page to look at: `page`", "The strategies in words", "The strategies as games",
-                   "Every card side by side: `cards`", "What each card cost: `review`", "A whole evening reviewed: `review --games`"))
-    # Whoever has the man page has the program.
-    shown = re.sub(r" A package has the program .*", "", shown)
-    words = re.sub(r" `\./study` runs .*", "", words)
-    refusals = refusals[refusals.index("\n## "):]
+    """The man page of alphamu as text."""
+    readme, refusals, using = map(as_installed, (readme, refusals, using))
     out = [
         f'.TH ALPHAMU 1 "" "alphamu {version}" "alphamu"',
-        ".SH NAME", "alphamu, alphamu_study \\- names the card that declarer should play at bridge, with a proof behind its answers",
-        ".SH SYNOPSIS", *synopsis(jobs),
-        ".SH DESCRIPTION", *converted(what),
+        ".SH NAME", "alphamu \\- names the card that declarer should play at bridge, with a proof behind its answers",
+        ".SH SYNOPSIS", *synopsis(jobs, [usage(jobs, "alphamu", job, job) for job in jobs.JOBS]),
+        ".SH DESCRIPTION", *converted(readme[:readme.index("## ")]),
         ".SH JOBS", *converted(section(readme, "What it does")),
-        *converted(refusals),
-        ".SH EXAMPLE", *converted(first),
-        ".SH A PAGE TO LOOK AT", *converted(shown),
-        ".SH THE STRATEGIES IN WORDS", *converted(words),
-        ".SH THE STRATEGIES AS GAMES", *converted(games),
-        ".SH EVERY CARD SIDE BY SIDE", *converted(cards),
-        ".SH WHAT EACH CARD COST", *converted(review),
-        ".SH A WHOLE EVENING REVIEWED", *converted(evening),
-        ".SH SEE ALSO", *converted("The pages and the files of the examples are in `share/doc/alphamu` beside this page's folder: "
-                                   "begin with `docs/USING.md`. Run the commands of the pages in that folder."),
+        *converted(refusals[refusals.index("\n## "):]),
+        ".SH EXAMPLE", *converted(section(using, "An answer on your own board")),
+        ".SH THE LAYOUT FILE", *converted(section(using, "The layout file")),
+        *see_also("alphamu_study"),
+    ]
+    return "\n".join(out) + "\n"
+
+
+# The sections of the second page, with the parts of docs/USING.md that they are made of.
+STUDY_PARTS = {
+    "A PAGE TO LOOK AT": "A page to look at: `page`",
+    "EVERY CARD SIDE BY SIDE": "Every card side by side: `cards`",
+    "WHAT EACH CARD COST": "What each card cost: `review`",
+    "A WHOLE EVENING REVIEWED": "A whole evening reviewed: `review --games`",
+    "THE STRATEGIES IN WORDS": "The strategies in words",
+    "THE STRATEGIES AS GAMES": "The strategies as games",
+}
+
+
+def study_page(using, jobs, version):
+    """The man page of alphamu_study as text."""
+    using = as_installed(using)
+    out = [
+        f'.TH ALPHAMU_STUDY 1 "" "alphamu {version}" "alphamu"',
+        ".SH NAME", "alphamu_study \\- shows lines of play at bridge, every card side by side, and what each card of a board cost",
+        ".SH SYNOPSIS", *synopsis(jobs, [usage(jobs, "alphamu_study", job, read) for job, read in STUDY_JOBS]),
+        ".SH DESCRIPTION", *converted("The files, the options and their limits, the refusals and the statuses are those of `alphamu`(1)."),
+        *(line for title, part in STUDY_PARTS.items() for line in (f".SH {title}", *converted(section(using, part)))),
+        *see_also("alphamu"),
     ]
     return "\n".join(out) + "\n"

@@ -3,7 +3,7 @@
 
 `library` makes libalphamu.a and libalphamu.so next to the proved static library, or puts them under a prefix with header, pkg-config file
 and bindings. `install` puts what people use under a prefix, and `package` into a .tar.gz and a Debian package: the proved programs with
-their launcher, the man page, the library, the pages for users, the examples, and BUILD with the version, the kit that proved it, and a
+their launcher, the man pages, the library, the pages for users, the examples, and BUILD with the version, the kit that proved it, and a
 checksum of each other file. It proves nothing: ./build calls it once the proved programs and library are there. If something fails, a
 line on standard error says what, the status is 70, and what has been written so far stays, except that no package is left incomplete.
 """
@@ -30,11 +30,9 @@ import man
 PROGRAMS = ("alphamu", "alphamu_study")
 DOCS = "share/doc/alphamu"
 # What people read, with the folders that come whole.
-PAGES = ("README.md", "CHANGELOG.md", "docs/USING.md", "docs/REFUSALS.md", "docs/PROGRAMS.md", "docs/FORMS.md", "docs/SCALING.md",
+PAGES = ("README.md", "CHANGELOG.md", "docs/IDEA.md", "docs/USING.md", "docs/REFUSALS.md", "docs/PROGRAMS.md", "docs/FORMS.md", "docs/SCALING.md",
          "docs/PROVED.md", "docs/TESTED.md", "docs/SPEED.md", "docs/pictures", "docs/definitions", "bindings/README.md", "bindings/c/README.md", "examples")
 LINK = re.compile(r"(?<!!)\[([^]]*)\]\(([^)#\s]*)(#[^)\s]*)?\)")
-COMMAND = re.compile(r"^(    (?:timeout \d+ )?)\./(alphamu|study) ", re.M)
-INSTALLED = {"alphamu": "alphamu", "study": "alphamu_study"}
 SUMMARY = "which card should declarer play, with a proof behind its answers"
 
 
@@ -61,20 +59,19 @@ def page_names():
 
 
 def for_package(name, text, names):
-    """A page in which a link that leads out of the package is its text alone, and the commands call the installed program."""
+    """A page in which a link that leads out of the package is its text alone, and the commands call the installed programs."""
     def kept(link):
         target = os.path.normpath(os.path.join(os.path.dirname(name), link[2])) if link[2] else name
         is_there = "://" in link[2] or target in names or any(it.startswith(target + "/") for it in names)
         return link[0] if is_there else link[1]
-    return COMMAND.sub(lambda it: f"{it[1]}{INSTALLED[it[2]]} ", LINK.sub(kept, text))
+    return man.as_installed(LINK.sub(kept, text))
 
 
 def contents():
     """What the package holds: for each name under the prefix its bytes and its mode."""
     names = set(page_names())
     found = {
-        "share/man/man1/alphamu.1.gz": (gzip.compress(man_page().encode(), mtime=0), 0o644),
-        "share/man/man1/alphamu_study.1.gz": (b"alphamu.1.gz", libraries.LINK),
+        **{f"share/man/man1/{name}.1.gz": (gzip.compress(text.encode(), mtime=0), 0o644) for name, text in man_pages().items()},
         **libraries.contents(SUMMARY, version()),
     }
     for name in PROGRAMS:
@@ -90,8 +87,11 @@ def contents():
     return found
 
 
-def man_page():
-    return man.page(text_of("README.md"), text_of("docs/REFUSALS.md"), text_of("docs/USING.md"), jobs, version())
+def man_pages():
+    """The man page of each program."""
+    using = text_of("docs/USING.md")
+    return {"alphamu": man.page(text_of("README.md"), text_of("docs/REFUSALS.md"), using, jobs, version()),
+            "alphamu_study": man.study_page(using, jobs, version())}
 
 
 def record_of(found):
