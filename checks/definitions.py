@@ -235,7 +235,7 @@ def definition_of(crate, module, name, places):
 
 
 def read_sources(top, places):
-    """Where each definition is first cited, the names of all items, and the names from the kit."""
+    """The first citation of each definition, the names of all items, and the names from the kit."""
     cited, names, kit = {}, set(), set()
     crates = sorted(os.listdir(os.path.join(top, "crates")))
     for crate in crates:

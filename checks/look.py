@@ -179,7 +179,7 @@ def faults_of_tabs(browser):
 
 
 def faults_of_picking(browser, address):
-    """What is wrong with a layout that is picked by keys alone, the last one, where no script runs."""
+    """What is wrong with a layout that is picked by keys alone, the last one, if no script runs."""
     browser.ask("Emulation.setScriptExecutionDisabled", value=True)
     browser.show(WIDTHS[0])
     browser.open(address)

@@ -233,7 +233,7 @@ def place_apart(plan, other):
 
 
 def told_apart(board, number, place):
-    """What a page says of the first line beside the one of this number, which part at this place."""
+    """What a page says of the first line and the one of this number, which part at this place."""
     if place is None:
         return f"Lines 1 and {number} are the same."
     cards, one, two = place

@@ -77,7 +77,7 @@ def sources(top):
 
 
 def kept(top, name):
-    """Where the program is kept that is compiled from the present sources. It need not be there."""
+    """The place of the program that is compiled from the present sources. It need not be there."""
     total = hashlib.sha256()
     for path in sources(top):
         with open(path, "rb") as file:

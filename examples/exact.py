@@ -28,7 +28,7 @@ def main():
         lines = iter(report.read().splitlines())
     moves = next(int(line.split()[1]) for line in lines if line.startswith("moves "))
     count = sum(open_stops(lines, moves) for line in lines if line.startswith("vector "))
-    print("exact" if count == 0 else f"perhaps not exact: {count} stops where the moves are used up")
+    print("exact" if count == 0 else f"perhaps not exact: {count} stops at which the moves are used up")
 
 
 if __name__ == "__main__":

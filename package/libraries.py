@@ -12,7 +12,7 @@ PROVED = OUT / "libalphamu_c.a"
 HEADER = TOP / "bindings" / "c" / "alphamu.h"
 # The version in the name that programs ask the loader for. It is that of the interface, ALPHAMU_VERSION of the header.
 SONAME = "libalphamu.so.1"
-# The mode of a file that is a link, whose bytes are where it leads.
+# The mode of a file that is a link, whose bytes are the name of another file.
 LINK = None
 PKG_CONFIG = """prefix=${{pcfiledir}}/../..
 libdir=${{prefix}}/lib

@@ -190,7 +190,7 @@ _CALLS = {
 
 
 def _places() -> list[str]:
-    """Where the library may be: named by the user, installed with this module, built in the repository, or known to the system."""
+    """The places of the library: named by the user, installed with this module, built in the repository, or known to the system."""
     if named := os.environ.get("ALPHAMU_LIBRARY"):
         return [named]
     here = Path(__file__).resolve().parent
