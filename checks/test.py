@@ -32,6 +32,7 @@ CHECKS = """
     told.py
     lines.py
     page.py
+    page_words.py
     look.py
     cards.py
     review.py
