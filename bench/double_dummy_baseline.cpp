@@ -2,9 +2,9 @@
 // libdds-dev; build with -DWITH_DDS and -ldds).
 // usage: double_dummy_baseline plain|memo|dds|needs TRICKS FIRST ENDINGS [notrump|suit]
 //     random endings, the same as those of the crate bench_work, from the one with the number FIRST on: whether declarer's
-//     side takes the need; `needs` asks DDS which needs it takes after 0 to 7 random cards, as bits
+//     side takes the need; `needs` has DDS find which needs it takes after 0 to 7 random cards, as bits
 // usage: double_dummy_baseline lines
-//     asks DDS what each line of the input asks: QUESTION TRUMP NEED LAYOUTS DECLARER DUMMY, then LEFT RIGHT for each layout.
+//     has DDS answer each line of the input: QUESTION TRUMP NEED LAYOUTS DECLARER DUMMY, then LEFT RIGHT for each layout.
 //     Hands are sums of 2 to the power of a card's number, from 0 for the two of spades to 51 for the ace of clubs; TRUMP is
 //     0 to 3 for spades to clubs, 4 for no trump; declarer leads. It answers with the seconds of the processor and
 //     tricks   the tricks that declarer's side takes, in one call
