@@ -26,8 +26,8 @@ impl Model for Budget {
     ghost invariant = { λ budget. budget.left ≤ budget.nodes };
 }
 
-/// How many nodes a search entered, and how many its budget allowed. Only a budget tells it, and only
-/// a search enters nodes.
+/// How many nodes a search entered, and how many its budget allowed. Only a budget tells it, and
+/// only a search enters nodes.
 #[derive(Clone, Copy, Debug, PartialEq, Eq)]
 pub struct Entered {
     count: u64,

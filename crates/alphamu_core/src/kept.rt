@@ -60,7 +60,7 @@ fn next_in_turn(cards: CardSet, first: CardSet) -> Option<Card>
     }
 }
 
-/// Takes a card out: the first of those that go first, or once they are gone the first of the others.
+/// Takes a card out: the first of those that go first, or once they are gone the first of the rest.
 pub(crate) fn take_in_turn(cards: &mut CardSet, first: CardSet) -> Option<Card>
     ensures taken { MatchOption result ((cards.old ≡ []) × (cards.new ≡ []))
         (λ card. IsTaken cards.old card cards.new) }

@@ -1,7 +1,7 @@
 //! The search of αμ: the front of a node, within a budget of nodes, over any store, by any cuts.
 //! It builds on nodes, fronts and joins, on double dummy, and on the laws of strategies.
-//! An exact answer is the definition's front; an answer below says that alpha covers every strategy;
-//! spent says that the tree is larger than the budget.
+//! An exact answer is the definition's front; an answer below says that alpha covers every
+//! strategy; spent says that the tree is larger than the budget.
 #![tactic(auto)]
 
 mod answers;

@@ -64,8 +64,8 @@ pub fn search<S: FrontStore>(
     }
 }
 
-/// The same in a race: each runner begins at a place of its own, and once one of them has the answer,
-/// the search of another ends as `Late`.
+/// The same in a race: each runner begins at a place of its own, and once one of them has the
+/// answer, the search of another ends as `Late`.
 pub fn search_in_race<S: FrontStore>(
     alloc: Global,
     store: &mut S,

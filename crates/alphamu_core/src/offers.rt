@@ -7,8 +7,8 @@ use crate::answers::{Answer, Found};
 use front_table::{FrontStore, ProvenFront};
 use trick_rules::Node;
 
-/// Offers the front that was found for a node, if one was, under a key: an equivalent node. What the
-/// store does with it changes nothing here.
+/// Offers the front that was found for a node, if one was, under a key: an equivalent node. What
+/// the store does with it changes nothing here.
 pub fn offer<S: FrontStore>(store: &mut S, node: &Node, key: Node, moves: u8, answer: &Answer)
     requires answer { IfOk answer.now (IsFrontIfExact node.now moves) }
     requires key { AreEquivalent node.now key }

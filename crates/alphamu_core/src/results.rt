@@ -14,8 +14,8 @@ use trick_rules::Node;
 use win_vectors::WinVector;
 
 /// What is asked of a node: its front, and of double dummy the results there, if they aren't known
-/// already. If the rules allow a cut, neither need be found if alpha dominates it. The runner begins
-/// with some of the layouts.
+/// already. If the rules allow a cut, neither need be found if alpha dominates it. The runner
+/// begins with some of the layouts.
 #[derive(Drop)]
 pub struct Question<'a> {
     pub node: &'a Node,
@@ -87,8 +87,8 @@ fn with_first(mask: WinVector, first: usize) -> WinVector
     ones
 }
 
-// Judges the layouts from the place on at which the runner begins, if it isn't the first of its race.
-// They are judged again with all others, when the memo knows them.
+// Judges the layouts from the place on at which the runner begins, if it isn't the first of its
+// race. They are judged again with all others, when the memo knows them.
 fn judge_ahead(
     solver: &mut Solver,
     question: &Question,

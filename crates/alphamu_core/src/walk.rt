@@ -31,8 +31,8 @@ use trick_rules::Node;
 use win_vectors::WinVector;
 
 impl<S: FrontStore> TreeSearch<'_, S> {
-    /// Enters a node, for which the budget pays, and answers for it, unless another runner of its race
-    /// has the answer already.
+    /// Enters a node, for which the budget pays, and answers for it, unless another runner of its
+    /// race has the answer already.
     #[cycle(walk)]
     pub fn visit(&mut self, node: Node, moves: u8, alpha: &Front, known: Known) -> Answer
         requires width { alpha.now.width ≡ length node.lefts }

@@ -32,8 +32,8 @@ use shared_table::Pass;
 use std::alloc::Global;
 use std::thread::Threads;
 
-// What workers in threads report of root cards. A crate can hand over a function of its own, and none
-// of another crate; `threads` says again what the bounds say, which it doesn't keep.
+// What workers in threads report of root cards. A crate can hand over a function of its own, and
+// none of another crate; `threads` says again what the bounds say, which it doesn't keep.
 fn help_in_threads<R: Threads + Sync, G: Gate>(
     rt: &R,
     task: &Task,

@@ -99,7 +99,7 @@ impl AssuredMemo {
         }
     }
 
-    /// Offers what a search answers: it is kept if it isn't too wide and an allocation doesn't fail.
+    /// Offers what a search answers: it is kept if it isn't too wide and no allocation fails.
     ///
     /// No clause: a memo may forget, and no answer depends on what it keeps.
     pub fn offer(&mut self, node: &Node, moves: u8, answer: &Result<Front, SearchFault>)
@@ -133,8 +133,8 @@ impl AssuredMemo {
         Ok(())
     }
 
-    // Takes the memory of the slots, if it isn't taken: of more, once half of them are. What is kept
-    // is forgotten then.
+    // Takes the memory of the slots, if it isn't taken: of more, once half of them are. What is
+    // kept is forgotten then.
     fn make_slots(&mut self) -> Result<(), AllocError> {
         let count = self.slots.len();
         if count == 0 {

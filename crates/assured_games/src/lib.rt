@@ -1,6 +1,6 @@
 //! What declarer's side is sure to win, however many moves more it plans: a lower bound, as the
 //! front is an upper bound.
-//! It builds on `strategy_games`; a game joins by implementing `AssuredGame`, and nothing here runs.
+//! It builds on `strategy_games`; a game joins by implementing `AssuredGame`. Nothing here runs.
 //! Each function's contract is a law that holds for every such game; the definitions are in specs/.
 #![tactic(auto)]
 

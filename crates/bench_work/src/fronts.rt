@@ -6,8 +6,8 @@ mod workload;
 use std::alloc::Global;
 use workload::{Outcome, inserts, joins};
 
-/// The words: `inserts` or `joins`, how many vectors a front has, and how many rounds. What is missing
-/// counts as 0.
+/// The words: `inserts` or `joins`, how many vectors a front has, and how many rounds. What is
+/// missing counts as 0.
 pub fn run(rt: &impl Print, alloc: Global, words: &[&str]) -> anyhow::Result<()> {
     let mut is_join = false;
     let mut numbers = [0u64; 2];

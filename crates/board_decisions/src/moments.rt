@@ -65,9 +65,9 @@ fn is_ours(node: &Node, card: Card) -> bool
     !node.position().over() && node.is_ours() && node.choices().has(card)
 }
 
-/// Whether a card was a decision at the node at which it was played: declarer's side is to play, the
-/// card is legal, and there are two legal cards that aren't equal. Equal cards are neighbours in
-/// rank among the cards that are still out.
+/// Whether a card was a decision at the node at which it was played: declarer's side is to play,
+/// the card is legal, and there are two legal cards that aren't equal. Equal cards are neighbours
+/// in rank among the cards that are still out.
 pub fn is_chosen(node: &Node, card: Card) -> bool
     ensures { IsTrue result ↔ IsChosen node.now card }
 {

@@ -91,8 +91,8 @@ fn front_after(
     }
 }
 
-// The greatest weight that is assured after a root card. `child` is the node after it. If a defender
-// is to play there, what is assured after each of its cards is enough.
+// The greatest weight that is assured after a root card. `child` is the node after it. If a
+// defender is to play there, what is assured after each of its cards is enough.
 fn least_after(question: &Question, solver: &mut Solver, child: &Node) -> Result<u32, SearchFault>
     requires question { IsQuestion question.now }
     requires width { length question.now.weights.now ≡ length child.now.lefts }

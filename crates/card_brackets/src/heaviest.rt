@@ -1,5 +1,5 @@
-//! The greatest weight of what is assured at a defender's turn, by what is assured after each of its
-//! cards.
+//! The greatest weight of what is assured at a defender's turn, by what is assured after each of
+//! its cards.
 ghost use Rattle.std.specs.Prelude.{◌≡◌, ◌≢◌, ◌<◌, ◌≤◌, ℕ, Some, None, [], Contains, length, IfOk, OnOk};
 ghost use Rattle.win_vectors.specs.Vectors.{ones_of, meet_of, spread_of};
 ghost use Rattle.win_vectors.specs.Fronts.{Vector, HaveWidth};

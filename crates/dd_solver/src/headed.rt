@@ -1,5 +1,5 @@
-//! The suit led is headed (DDS: quick tricks of the second hand). It is asked before the second hand
-//! plays.
+//! The suit led is headed (DDS: quick tricks of the second hand). It is asked before the second
+//! hand plays.
 ghost use Rattle.std.specs.Prelude.{◌≡◌, ◌≤◌, ℕ, ◌+◌, ◌-◌, ◌||◌, [], ◌∷◌, false, length, if◌then◌else◌, IfSome};
 ghost use Rattle.card_sets.specs.declared.card.Suit.TheVariants.{Spades, Hearts, Diamonds, Clubs};
 ghost use Rattle.card_sets.specs.declared.seat.Seat.{Seat};

@@ -162,8 +162,8 @@ fn suits_headed(hand: CardSet, playing: CardSet) -> CardSet {
     headed
 }
 
-// Whether the hand on lead may have enough sure cards: with trumps, it has no more than it has cards
-// of the suits of which it has the best card. At no trump, counting is as fast as this look.
+// Whether the hand on lead may have enough sure cards: with trumps, it has no more than it has
+// cards of the suits of which it has the best card. At no trump, counting is as fast as this look.
 fn may_be_enough(position: &Position, left: CardSet) -> bool {
     if position.trump == Trump::NoTrump {
         return true;

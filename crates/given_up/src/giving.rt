@@ -35,7 +35,7 @@ pub fn giving_place(
     None
 }
 
-/// The card that gives up the layout of a place of the node, of cards that are played from there on.
+/// The card that gives up the layout of a place of the node, of cards played from there on.
 ///
 /// `None` if double dummy doesn't make the layout, or makes after each of the cards.
 pub fn card_that_gives_up(

@@ -1,6 +1,6 @@
 //! The job `cards`: every legal card of a root side by side. It builds on `card_brackets` for what
-//! is known of each card, and on `card_forms` for the texts. Its contract promises the table, and the
-//! text of the form, by their definitions, or a root card with too large a tree.
+//! is known of each card, and on `card_forms` for the texts. Its contract promises the table, and
+//! the text of the form, by their definitions, or a root card with too large a tree.
 #![tactic(auto)]
 
 mod job;

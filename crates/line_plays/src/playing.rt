@@ -34,9 +34,9 @@ fn next_card(solver: &mut Solver, plan: &Plan, position: &Position, left: CardSe
 /// Plays a strategy where Left holds these cards, from this position to the end.
 ///
 /// Declarer's side plays the cards of the plan, and after the plan has stopped the first legal card
-/// that keeps what double dummy makes. Each defender sees all hands and knows the plan: he plays the
-/// first legal card in card order after which the rest of the plan loses, or if there is none his
-/// first legal card. So the contract is made exactly if the plan wins this layout. It takes no
+/// that keeps what double dummy makes. Each defender sees all hands and knows the plan: he plays
+/// the first legal card in card order after which the rest of the plan loses, or if there is none
+/// his first legal card. So the contract is made exactly if the plan wins this layout. It takes no
 /// memory, except what the solver remembers.
 pub fn play_against_best_defence(
     solver: &mut Solver,

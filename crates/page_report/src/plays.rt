@@ -70,8 +70,8 @@ pub fn played_line(
     Ok(PlayedLine { number, plays })
 }
 
-/// The first four strategies, numbered from 1, each played out in each layout against a defence that
-/// beats it if there is one.
+/// The first four strategies, numbered from 1, each played out in each layout against a defence
+/// that beats it if there is one.
 pub fn played_lines(
     alloc: Global,
     node: &Node,

@@ -17,7 +17,7 @@ use card_sets::{Card, Compass};
 use html_text::Page;
 use std::alloc::{AllocError, Global};
 
-/// Adds the head, with the card to play as its title, and the style for a page of this many layouts.
+/// Adds the head, with the card to play as title, and the style for a page of this many layouts.
 #[tactic(auto, unfolding(crate::specs::Frames::start))]
 pub fn push_start(page: &mut Page, card: Card, width: u16) -> Result<(), AllocError>
     ensures { OnOk result (page.new ≡ page.old ++ start card width) }

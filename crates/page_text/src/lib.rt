@@ -1,8 +1,8 @@
-//! The parts of a page that shows what a search has found: the verdict, every legal card, the table,
-//! the lines of the report side by side and in words, where they part, what plain sampling believes,
-//! the layouts, and the report. It builds on `html_text`, whose page has markup of its own and text
-//! that is told, and on `card_brackets` for what is known of each card. A contract says that a part
-//! is the one that its definition gives.
+//! The parts of a page that shows what a search has found: the verdict, every legal card, the
+//! table, the lines of the report side by side and in words, where they part, what plain sampling
+//! believes, the layouts, and the report. It builds on `html_text`, whose page has markup of its
+//! own and text that is told, and on `card_brackets` for what is known of each card. A contract
+//! says that a part is the one that its definition gives.
 #![tactic(auto)]
 
 mod beliefs;

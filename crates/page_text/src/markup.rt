@@ -208,8 +208,8 @@ pub const CHOICE_END: &[u8] = b"</option>\n";
 
 pub const PICKER_END: &[u8] = b"</select></p>\n<div class='table'>\n";
 
-// What a layout's rule of style is for. A browser looks for the picked choice only where it can be, so
-// that a page of many layouts doesn't become slow.
+// What a layout's rule of style is for. A browser looks for the picked choice only where it can be,
+// so that a page of many layouts doesn't become slow.
 
 pub const PICKED: &[u8] = b"#table:has(>p>select>option:nth-child(";
 
@@ -305,8 +305,8 @@ pub const WORDS: &[u8] = b"</summary>\n<div class='words'>";
 
 pub const WORDS_END: &[u8] = b"</div></details>\n";
 
-// From one step to the next: a list within it and further lists within that, the end of such a list,
-// and the next in the same. The tag of the next step goes on with its name and its classes.
+// From one step to the next: a list within it and further lists within that, the end of such a
+// list, and the next in the same. The tag of the next step goes on with its name and its classes.
 
 pub const LIST: &[u8] = b"\n<ul>\n<li";
 

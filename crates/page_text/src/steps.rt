@@ -151,7 +151,7 @@ fn push_sentence(page: &mut Page, text: &[u8]) -> Result<(), AllocError>
     Ok(())
 }
 
-// Adds the step of a line of text at a place, after one of this level, and gives the level after it.
+// Adds the step of a text line at a place, after one of this level, and gives the level after it.
 #[tactic(auto, unfolding(crate::specs::Steps::step))]
 fn push_step(
     page: &mut Page,

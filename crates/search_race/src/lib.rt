@@ -10,8 +10,8 @@ use std::alloc::Global;
 use std::sync::Arc;
 use std::sync::atomic::{AtomicBool, Ordering};
 
-// How many answers of double dummy a solver alone has kept before the help of other threads pays: some
-// tens of milliseconds' work. Its own memo is given up then.
+// How many answers of double dummy a solver alone has kept before the help of other threads pays:
+// some tens of milliseconds' work. Its own memo is given up then.
 const ALONE: u64 = 50_000;
 
 // How many it has kept among others before their help pays once more: a few milliseconds' work, for
@@ -86,8 +86,8 @@ impl Runner {
         if self.is_alone() { ALONE } else { TOGETHER }
     }
 
-    /// Where in a list of this many it begins: each runner of a race at another place, so that their
-    /// searches find each other's answers. One that is alone begins at 0.
+    /// Where in a list of this many it begins: each runner of a race at another place, so that
+    /// their searches find each other's answers. One that is alone begins at 0.
     pub fn begins_at(&self, count: usize) -> usize
         ensures { self.now.runners ≤ 1 → result ≡ 0 }
     {

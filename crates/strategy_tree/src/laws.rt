@@ -208,8 +208,8 @@ pub fn root_stop()
         → IsBestCount bridge n (suc moves) best }
 {}
 
-/// At a defender one reply is enough for a cut: the node wins nothing that its child doesn't, spread
-/// over the layouts of the node.
+/// At a defender one reply is enough for a cut: the node wins nothing that its child doesn't,
+/// spread over the layouts of the node.
 pub fn one_reply()
     ensures { (n : NodeValue) (moves card : ℕ) (beta alpha : List Vector) → IsNode n
         → decided n.position ≡ None → is_declarers (to_play n.position) ≡ false

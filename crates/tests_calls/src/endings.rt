@@ -17,9 +17,8 @@ pub fn spades(numbers: [u8; 2]) -> CardSet {
     set
 }
 
-/// Declarer holds SK SJ, and dummy is to lead S3 or S2 with no trumps. The defenders have SA SQ S7 S5,
-/// and this many of the two tricks are needed.
-/// No clause, as at `spades`.
+/// Declarer holds SK SJ, and dummy is to lead S3 or S2 with no trumps. The defenders have SA SQ S7
+/// S5, and this many of the two tricks are needed. No clause, as at `spades`.
 pub fn ending(rt: &impl Abort, need: u8) -> Position {
     Position::between_tricks(
         spades([9, 11]),

@@ -23,8 +23,8 @@ fn is_won(alloc: Global, node: &Node) -> bool {
     matches!(&answer, Ok(Verdict::Won))
 }
 
-// One trick is needed. The king makes it if Left has the queen, and the jack if he has the ace. Right
-// plays the seven in both, so no strategy wins both.
+// One trick is needed. The king makes it if Left has the queen, and the jack if he has the ace.
+// Right plays the seven in both, so no strategy wins both.
 #[test]
 fn the_king_or_the_jack(rt: HostRuntime) -> Result<(), Fail> {
     let alloc = rt.alloc();

@@ -1,5 +1,5 @@
-//! How many nodes a search enters where one cut, or the store, spares the rest of a small tree. Each
-//! test fails if the search lacks what the test is named after.
+//! How many nodes a search enters where one cut, or the store, spares the rest of a small tree.
+//! Each test fails if the search lacks what the test is named after.
 //!
 //! The numbers are counted by hand. Declarer holds SK SJ, and dummy leads S2 from S3 S2. Left has
 //! SQ S5 or SA S5, so Right may play S7 in both layouts, SQ in one and SA in the other. After each
@@ -114,8 +114,8 @@ fn cut_by_double_dummy(rt: HostRuntime) -> Result<(), Fail> {
     assert_below(&rt, rt.alloc(), &[[true, true]], 1)
 }
 
-// With a move the node wins one layout or the other, which alpha covers. With two it can't win more,
-// and the store says so. Double dummy alone promises both layouts.
+// With a move the node wins one layout or the other, which alpha covers. With two it can't win
+// more, and the store says so. Double dummy alone promises both layouts.
 #[test]
 fn cut_by_fewer_moves(rt: HostRuntime) -> Result<(), Fail> {
     let alloc = rt.alloc();

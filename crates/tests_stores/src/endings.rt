@@ -1,5 +1,5 @@
-//! A small ending: declarer holds SK SJ, and dummy leads from S3 S2 with no trumps. Left has SQ S5 or
-//! SA S5.
+//! A small ending: declarer holds SK SJ, and dummy leads from S3 S2 with no trumps. Left has SQ S5
+//! or SA S5.
 ghost use Rattle.std.specs.Prelude.{IsTrue, All};
 ghost use Rattle.trick_rules.specs.Positions.{FitsLeft};
 

@@ -1,5 +1,5 @@
-//! What the table and the stops spare at a root. Dummy leads from S3 S2, and either card is followed
-//! by ten nodes with a move left.
+//! What the table and the stops spare at a root. Dummy leads from S3 S2, and either card is
+//! followed by ten nodes with a move left.
 ghost use Rattle.shared_table.specs.Passes.{IsPassOf};
 
 use crate::endings::{after, guess};
@@ -15,8 +15,8 @@ use std::thread::Threads;
 use trick_rules::Node;
 use win_vectors::Weights;
 
-/// What is asked of a root, by equal weights: how many moves, from 1 to 26, and how many nodes after
-/// a card. One worker searches over the table.
+/// What is asked of a root, by equal weights: how many moves, from 1 to 26, and how many nodes
+/// after a card. One worker searches over the table.
 #[derive(Drop)]
 struct Asked<'a> {
     node: &'a Node,

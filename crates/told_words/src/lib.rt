@@ -1,5 +1,5 @@
-//! Told plans in the words of bridge: lines of steps, with the layouts that are made from there, and
-//! the lines of their branches indented below them. It builds on told plans and on the layouts
+//! Told plans in the words of bridge: lines of steps, with the layouts that are made from there,
+//! and the lines of their branches indented below them. It builds on told plans and on the layouts
 //! behind their steps. A contract says that the text is the one that the definition gives.
 #![tactic(auto)]
 

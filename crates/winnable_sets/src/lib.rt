@@ -47,14 +47,14 @@ pub fn winnable_by_turns<G: SetGame>()
     ensures { HasTurns G.game G.Sound }
 {}
 
-/// At declarer's turn a core after each card, put together, are a core; at a defender's a core after
-/// one card is. A layout that double dummy loses is a core, and so is what contains a core.
+/// At declarer's turn a core after each card, put together, are a core; at a defender's a core
+/// after one card is. A layout that double dummy loses is a core, and so is what contains a core.
 pub fn cores_by_turns<G: SetGame>()
     ensures { HasCores G.game G.Sound }
 {}
 
-/// The winnable sets are those that the front dominates: parts of winnable sets, no layouts, and each
-/// layout alone that double dummy makes are among them. More moves than cards change nothing.
+/// The winnable sets are those that the front dominates: parts of winnable sets, no layouts, and
+/// each layout alone that double dummy makes are among them. More moves than cards change nothing.
 pub fn winnable_sets<G: SetGame>()
     ensures { HasSets G.game G.Sound }
 {}

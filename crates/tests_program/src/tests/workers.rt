@@ -14,8 +14,8 @@ use std::thread::{self, Threads};
 // How often a gate looks before it gives up.
 const TURNS: u32 = 20_000_000;
 
-// Holds the first of two cards until the second has left, or each until the other has entered. It notes
-// if it gave up.
+// Holds the first of two cards until the second has left, or each until the other has entered. It
+// notes if it gave up.
 #[derive(Drop)]
 struct Holding {
     first: Card,
