@@ -5,11 +5,13 @@ use std::ops::Range;
 
 /// A position in which declarer or dummy is to play.
 ///
-/// Its calls take the layouts as the cards that the defender on declarer's left still holds in each, and as many weights. Leave
-/// out layouts in which a defender would have revoked: a question doesn't know earlier tricks.
+/// Its calls take the layouts as the cards that the defender on declarer's left still holds in
+/// each, and as many weights. Leave out layouts in which a defender would have revoked: a question
+/// doesn't know earlier tricks.
 #[derive(Clone, Debug, PartialEq, Eq)]
 pub struct Question {
-    /// The cards that declarer still holds: bit i for card i, spades 0 to 12 from the two up, then hearts, diamonds and clubs.
+    /// The cards that declarer still holds: bit i for card i, spades 0 to 12 from the two up, then
+    /// hearts, diamonds and clubs.
     pub declarer: u64,
     /// The cards of dummy.
     pub dummy: u64,
@@ -30,10 +32,21 @@ pub struct Question {
 }
 
 impl Default for Question {
-    /// A question at no trump with declarer to lead and no cards yet, which needs its hands, `need` and `moves`.
+    /// A question at no trump with declarer to lead and no cards yet, which needs its hands, `need`
+    /// and `moves`.
     fn default() -> Self {
         let (declarer, dummy, unseen, trick) = (0, 0, 0, Vec::new());
-        Question { declarer, dummy, unseen, trick, leader: crate::DECLARER, trump: NO_TRUMP, need: 0, moves: 0, nodes: NODES }
+        Question {
+            declarer,
+            dummy,
+            unseen,
+            trick,
+            leader: crate::DECLARER,
+            trump: NO_TRUMP,
+            need: 0,
+            moves: 0,
+            nodes: NODES,
+        }
     }
 }
 
@@ -44,7 +57,9 @@ pub struct Vector(pub [u64; 4]);
 impl Vector {
     /// Whether the contract is made in a layout, counted from 0.
     pub fn makes(&self, layout: usize) -> bool {
-        self.0.get(layout / 64).is_some_and(|word| word >> (layout % 64) & 1 != 0)
+        self.0
+            .get(layout / 64)
+            .map_or(false, |word| word >> (layout % 64) & 1 != 0)
     }
 }
 
@@ -61,8 +76,9 @@ pub struct Worth {
     pub vector: Vector,
 }
 
-/// A card that is played, and the places in the strategy of its replies, the nodes of the cards that can come next: none if the
-/// strategy stops after the card, one if declarer or dummy plays next, and otherwise one for each card that the defender may play.
+/// A card that is played, and the places in the strategy of its replies, the nodes of the cards
+/// that can come next: none if the strategy stops after the card, one if declarer or dummy plays
+/// next, and otherwise one for each card that the defender may play.
 #[derive(Clone, Debug, PartialEq, Eq)]
 pub struct Node {
     /// The card. The first node has none: it stands for what has been played already.
@@ -71,8 +87,8 @@ pub struct Node {
     pub replies: Range<usize>,
 }
 
-/// A strategy of declarer's side. Play begins at place 0. At declarer's or dummy's turn play [`Strategy::next_card`], and after each
-/// card, whoever plays it, go on at [`Strategy::after`].
+/// A strategy of declarer's side. Play begins at place 0. At declarer's or dummy's turn play
+/// [`Strategy::next_card`], and after each card, whoever plays it, go on at [`Strategy::after`].
 #[derive(Clone, Debug, PartialEq, Eq)]
 pub struct Strategy {
     /// The nodes, from the one that stands for what has been played already.
@@ -80,8 +96,8 @@ pub struct Strategy {
 }
 
 impl Strategy {
-    /// The card to play at a place at which declarer or dummy is to play. None if the strategy has stopped: no moves are left, or
-    /// the result is decided.
+    /// The card to play at a place at which declarer or dummy is to play. None if the strategy has
+    /// stopped: no moves are left, or the result is decided.
     pub fn next_card(&self, place: usize) -> Option<u32> {
         let first = self.nodes.get(place)?.replies.clone().next()?;
         self.nodes.get(first)?.card
@@ -90,7 +106,11 @@ impl Strategy {
     /// The place to which a card leads. None if the strategy has no reply to it.
     pub fn after(&self, place: usize, card: u32) -> Option<usize> {
         let mut replies = self.nodes.get(place)?.replies.clone();
-        replies.find(|it| self.nodes.get(*it).is_some_and(|node| node.card == Some(card)))
+        replies.find(|it| {
+            self.nodes
+                .get(*it)
+                .map_or(false, |node| node.card == Some(card))
+        })
     }
 }
 
@@ -103,7 +123,10 @@ fn done(status: u32) -> Result<(), Error> {
 }
 
 /// What a call writes to an array, with a second try if there is more of it.
-fn all<T: Clone + Default>(room: usize, call: impl Fn(*mut T, usize, *mut usize) -> u32) -> Result<Vec<T>, Error> {
+fn all<T: Clone + Default>(
+    room: usize,
+    call: impl Fn(*mut T, usize, *mut usize) -> u32,
+) -> Result<Vec<T>, Error> {
     let mut found = vec![T::default(); room];
     loop {
         let mut written = 0;
@@ -118,14 +141,23 @@ fn all<T: Clone + Default>(room: usize, call: impl Fn(*mut T, usize, *mut usize)
     }
 }
 
-// SAFETY of the calls below: each pointer is that of a value or of a slice with its length, and never null; what is written to
-// is borrowed by nobody else; and the library keeps no pointer.
+// SAFETY of the calls below: each pointer is that of a value or of a slice with its length, and
+// never null; what is written to is borrowed by nobody else; and the library keeps no pointer.
 impl Question {
     /// The card to play: the first that keeps the greatest weight.
     pub fn card(&self, lefts: &[u64], weights: &[u32]) -> Result<Choice, Error> {
         let (question, mut choice) = (self.raw()?, Choice::default());
         let (many, weighed) = (lefts.len(), weights.len());
-        done(unsafe { raw::alphamu_bits_card(&question, lefts.as_ptr(), many, weights.as_ptr(), weighed, &mut choice) })?;
+        done(unsafe {
+            raw::alphamu_bits_card(
+                &question,
+                lefts.as_ptr(),
+                many,
+                weights.as_ptr(),
+                weighed,
+                &mut choice,
+            )
+        })?;
         Ok(choice)
     }
 
@@ -133,37 +165,80 @@ impl Question {
     pub fn worths(&self, lefts: &[u64], weights: &[u32]) -> Result<Vec<Worth>, Error> {
         let (question, many, weighed) = (self.raw()?, lefts.len(), weights.len());
         let found = all(13, |worths, room, written| unsafe {
-            raw::alphamu_bits_cards(&question, lefts.as_ptr(), many, weights.as_ptr(), weighed, worths, room, written)
+            raw::alphamu_bits_cards(
+                &question,
+                lefts.as_ptr(),
+                many,
+                weights.as_ptr(),
+                weighed,
+                worths,
+                room,
+                written,
+            )
         })?;
         let worth = |it: raw::Worth| {
             let (card, weight, double_dummy) = (it.card, it.weight, it.double_dummy);
-            Worth { card, weight, double_dummy, vector: Vector(it.vector) }
+            Worth {
+                card,
+                weight,
+                double_dummy,
+                vector: Vector(it.vector),
+            }
         };
         Ok(found.into_iter().map(worth).collect())
     }
 
-    /// The vectors of the front: those with more ones first, and of two with as many the one with a 1 at the first layout in
-    /// which they differ.
+    /// The vectors of the front: those with more ones first, and of two with as many the one with a
+    /// 1 at the first layout in which they differ.
     pub fn front(&self, lefts: &[u64], weights: &[u32]) -> Result<Vec<Vector>, Error> {
         let (question, many, weighed) = (self.raw()?, lefts.len(), weights.len());
         let words = all(256, |vectors, room, written| unsafe {
-            raw::alphamu_bits_front(&question, lefts.as_ptr(), many, weights.as_ptr(), weighed, vectors, room, written)
+            raw::alphamu_bits_front(
+                &question,
+                lefts.as_ptr(),
+                many,
+                weights.as_ptr(),
+                weighed,
+                vectors,
+                room,
+                written,
+            )
         })?;
-        Ok(words.chunks_exact(4).map(|it| Vector([it[0], it[1], it[2], it[3]])).collect())
+        Ok(words
+            .chunks_exact(4)
+            .map(|it| Vector([it[0], it[1], it[2], it[3]]))
+            .collect())
     }
 
-    /// The strategy for the vector at a place of the front, 0 for the first one. It makes the contract in exactly the layouts of the
-    /// vector, whatever the defenders do.
-    pub fn strategy(&self, lefts: &[u64], weights: &[u32], vector: usize) -> Result<Strategy, Error> {
+    /// The strategy for the vector at a place of the front, 0 for the first one. It makes the
+    /// contract in exactly the layouts of the vector, whatever the defenders do.
+    pub fn strategy(
+        &self,
+        lefts: &[u64],
+        weights: &[u32],
+        vector: usize,
+    ) -> Result<Strategy, Error> {
         let (question, many, weighed) = (self.raw()?, lefts.len(), weights.len());
         let found = all(1024, |nodes, room, written| unsafe {
-            raw::alphamu_bits_strategy(&question, lefts.as_ptr(), many, weights.as_ptr(), weighed, vector, nodes, room, written)
+            raw::alphamu_bits_strategy(
+                &question,
+                lefts.as_ptr(),
+                many,
+                weights.as_ptr(),
+                weighed,
+                vector,
+                nodes,
+                room,
+                written,
+            )
         })?;
         let node = |it: raw::Node| Node {
             card: (it.card < 52).then_some(it.card),
             replies: it.first_reply..it.first_reply + it.replies,
         };
-        Ok(Strategy { nodes: found.into_iter().map(node).collect() })
+        Ok(Strategy {
+            nodes: found.into_iter().map(node).collect(),
+        })
     }
 
     fn raw(&self) -> Result<raw::Question, Error> {
@@ -172,7 +247,28 @@ impl Question {
         }
         let mut trick = [0; 3];
         trick[..self.trick.len()].copy_from_slice(&self.trick);
-        let Question { declarer, dummy, unseen, leader, trump, need, moves, nodes, .. } = *self;
-        Ok(raw::Question { declarer, dummy, unseen, nodes, trick, played: self.trick.len() as u32, leader, trump, need, moves })
+        let Question {
+            declarer,
+            dummy,
+            unseen,
+            leader,
+            trump,
+            need,
+            moves,
+            nodes,
+            ..
+        } = *self;
+        Ok(raw::Question {
+            declarer,
+            dummy,
+            unseen,
+            nodes,
+            trick,
+            played: self.trick.len() as u32,
+            leader,
+            trump,
+            need,
+            moves,
+        })
     }
 }

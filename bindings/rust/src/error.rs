@@ -4,8 +4,8 @@ use std::fmt;
 pub const DONE: u32 = 0;
 pub const NO_ROOM: u32 = 8;
 
-/// Why there is no answer: a number of alphamu.h, and a line that says it in words. By text the number is the program's status
-/// and the line the one that it writes to standard error.
+/// Why there is no answer: a number of alphamu.h, and a line that says it in words. By text the
+/// number is the program's status and the line the one that it writes to standard error.
 #[derive(Clone, Debug, PartialEq, Eq)]
 pub struct Error {
     /// The number.
@@ -17,7 +17,10 @@ pub struct Error {
 impl Error {
     /// The error of a question by bits.
     pub(crate) fn of_bits(status: u32) -> Self {
-        Error { status, line: line_of(status).to_owned() }
+        Error {
+            status,
+            line: line_of(status).to_owned(),
+        }
     }
 }
 

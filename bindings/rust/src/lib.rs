@@ -1,9 +1,10 @@
-//! alphamu for Rust: which card should declarer play now, over the layouts that are thought possible?
+//! alphamu for Rust: which card should declarer play now, over the layouts that are thought
+//! possible?
 //!
-//! There are two ways to ask. By text, a deal file and a layout file go in, and the program's text comes out: [`report`],
-//! [`card`], [`fusion`], [`list_layouts`], [`check`]. By bits, hands are sets of cards, and the answer is numbers:
-//! [`Question`]. In this ending dummy has the 3 and 2 of spades, declarer the king and jack, and West the queen or the ace
-//! beside the 5:
+//! There are two ways to ask. By text, a deal file and a layout file go in, and the program's text
+//! comes out: [`report`], [`card`], [`fusion`], [`list_layouts`], [`check`]. By bits, hands are
+//! sets of cards, and the answer is numbers: [`Question`]. In this ending dummy has the 3 and 2 of
+//! spades, declarer the king and jack, and West the queen or the ace beside the 5:
 //!
 //! ```no_run
 //! use alphamu::{cards, Question, DUMMY};
@@ -15,7 +16,8 @@
 //! # Ok::<(), alphamu::Error>(())
 //! ```
 //!
-//! Nothing is kept between calls, so any number of threads may ask at once. Each needs a stack of 512 KiB.
+//! Nothing is kept between calls, so any number of threads may ask at once. Each needs a stack of
+//! 512 KiB.
 #![warn(missing_docs)]
 
 mod bits;

@@ -44,36 +44,91 @@ pub struct Node {
 extern "C" {
     pub fn alphamu_version() -> u32;
     pub fn alphamu_report(
-        deal: *const u8, deal_length: usize, layouts: *const u8, layouts_length: usize, moves: u32, nodes: u64,
-        out: *mut u8, out_length: usize, written: *mut usize,
+        deal: *const u8,
+        deal_length: usize,
+        layouts: *const u8,
+        layouts_length: usize,
+        moves: u32,
+        nodes: u64,
+        out: *mut u8,
+        out_length: usize,
+        written: *mut usize,
     ) -> u32;
     pub fn alphamu_card(
-        deal: *const u8, deal_length: usize, layouts: *const u8, layouts_length: usize, moves: u32, nodes: u64,
-        out: *mut u8, out_length: usize, written: *mut usize,
+        deal: *const u8,
+        deal_length: usize,
+        layouts: *const u8,
+        layouts_length: usize,
+        moves: u32,
+        nodes: u64,
+        out: *mut u8,
+        out_length: usize,
+        written: *mut usize,
     ) -> u32;
     pub fn alphamu_fusion(
-        deal: *const u8, deal_length: usize, layouts: *const u8, layouts_length: usize,
-        out: *mut u8, out_length: usize, written: *mut usize,
+        deal: *const u8,
+        deal_length: usize,
+        layouts: *const u8,
+        layouts_length: usize,
+        out: *mut u8,
+        out_length: usize,
+        written: *mut usize,
     ) -> u32;
-    pub fn alphamu_list(deal: *const u8, deal_length: usize, out: *mut u8, out_length: usize, written: *mut usize) -> u32;
+    pub fn alphamu_list(
+        deal: *const u8,
+        deal_length: usize,
+        out: *mut u8,
+        out_length: usize,
+        written: *mut usize,
+    ) -> u32;
     pub fn alphamu_check(
-        deal: *const u8, deal_length: usize, layouts: *const u8, layouts_length: usize,
-        report: *const u8, report_length: usize, out: *mut u8, out_length: usize, written: *mut usize,
+        deal: *const u8,
+        deal_length: usize,
+        layouts: *const u8,
+        layouts_length: usize,
+        report: *const u8,
+        report_length: usize,
+        out: *mut u8,
+        out_length: usize,
+        written: *mut usize,
     ) -> u32;
     pub fn alphamu_bits_card(
-        question: *const Question, lefts: *const u64, lefts_length: usize, weights: *const u32, weights_length: usize,
+        question: *const Question,
+        lefts: *const u64,
+        lefts_length: usize,
+        weights: *const u32,
+        weights_length: usize,
         choice: *mut Choice,
     ) -> u32;
     pub fn alphamu_bits_cards(
-        question: *const Question, lefts: *const u64, lefts_length: usize, weights: *const u32, weights_length: usize,
-        worths: *mut Worth, worths_length: usize, written: *mut usize,
+        question: *const Question,
+        lefts: *const u64,
+        lefts_length: usize,
+        weights: *const u32,
+        weights_length: usize,
+        worths: *mut Worth,
+        worths_length: usize,
+        written: *mut usize,
     ) -> u32;
     pub fn alphamu_bits_front(
-        question: *const Question, lefts: *const u64, lefts_length: usize, weights: *const u32, weights_length: usize,
-        vectors: *mut u64, vectors_length: usize, written: *mut usize,
+        question: *const Question,
+        lefts: *const u64,
+        lefts_length: usize,
+        weights: *const u32,
+        weights_length: usize,
+        vectors: *mut u64,
+        vectors_length: usize,
+        written: *mut usize,
     ) -> u32;
     pub fn alphamu_bits_strategy(
-        question: *const Question, lefts: *const u64, lefts_length: usize, weights: *const u32, weights_length: usize,
-        vector: usize, nodes: *mut Node, nodes_length: usize, written: *mut usize,
+        question: *const Question,
+        lefts: *const u64,
+        lefts_length: usize,
+        weights: *const u32,
+        weights_length: usize,
+        vector: usize,
+        nodes: *mut Node,
+        nodes_length: usize,
+        written: *mut usize,
     ) -> u32;
 }
