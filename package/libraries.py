@@ -24,7 +24,7 @@ Version: {version}
 Libs: -L${{libdir}} -lalphamu
 Cflags: -I${{includedir}}
 """
-BINDINGS = ("python/alphamu.py", "rust/Cargo.toml", "rust/Cargo.lock", "rust/build.rs", "rust/src")
+BINDINGS = ("python/alphamu.py", "python/make_wheel.py", "python/pyproject.toml", "rust/Cargo.toml", "rust/Cargo.lock", "rust/build.rs", "rust/src")
 
 
 class Lacking(Exception):
@@ -74,9 +74,9 @@ def make(folder, proved=PROVED):
                 [archiver, "x", heap()],
                 [compiler, "-r", "-nostdlib", "-o", whole, "-Wl,--whole-archive", proved, "-Wl,--no-whole-archive", room / "heap.pic.o"],
                 # Nothing but the calls may clash with a name of the program that links them.
-                [copier, "--wildcard", "--keep-global-symbol=alphamu_*", whole],
+                [copier, "--strip-debug", "--wildcard", "--keep-global-symbol=alphamu_*", whole],
                 [archiver, "rcsD", archive, whole],
-                [compiler, "-shared", "-o", shared, f"-Wl,-soname,{SONAME}", "-Wl,-z,defs", "-Wl,-z,now", whole]):
+                [compiler, "-shared", "-o", shared, f"-Wl,-soname,{SONAME}", "-Wl,-z,defs", "-Wl,-z,now,-s", whole]):
             subprocess.run(words, cwd=room, check=True)
         folder.mkdir(parents=True, exist_ok=True)
         for it in (archive, shared):

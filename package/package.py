@@ -4,8 +4,9 @@
 `library` makes libalphamu.a and libalphamu.so next to the proved static library, or puts them under a prefix with header, pkg-config file
 and bindings. `install` puts what people use under a prefix, and `package` into a .tar.gz and a Debian package: the proved programs with
 their launcher, the man pages, the library, the pages for users, the examples, and BUILD with the version, the kit that proved it, and a
-checksum of each other file. It proves nothing: ./build calls it once the proved programs and library are there. If something fails, a
-line on standard error says what, the status is 70, and what has been written so far stays, except that no package is left incomplete.
+checksum of each other file. `package` also makes a wheel of the module for Python with the library. It proves nothing: ./build calls it
+once the proved programs and library are there. If something fails, a line on standard error says what, the status is 70, and what has
+been written so far stays, except that no package is left incomplete.
 """
 import argparse
 import gzip
@@ -22,9 +23,11 @@ import tempfile
 
 sys.dont_write_bytecode = True
 TOP = pathlib.Path(__file__).resolve().parent.parent
-sys.path[:0] = [str(TOP / "package"), str(TOP / "checks")]
+sys.path[:0] = [str(TOP / it) for it in ("package", "checks", "bindings/python")]
+import debian
 import jobs
 import libraries
+import make_wheel
 import man
 
 PROGRAMS = ("alphamu", "alphamu_study")
@@ -34,6 +37,8 @@ PAGES = ("README.md", "CHANGELOG.md", "docs/IDEA.md", "docs/USING.md", "docs/REF
          "docs/PROVED.md", "docs/TESTED.md", "docs/SPEED.md", "docs/pictures", "docs/definitions", "bindings/README.md", "bindings/c/README.md", "examples")
 LINK = re.compile(r"(?<!!)\[([^]]*)\]\(([^)#\s]*)(#[^)\s]*)?\)")
 SUMMARY = "which card should declarer play, with a proof behind its answers"
+# Of the licence README says the same.
+COPYRIGHT = f"alphamu: {SUMMARY}\n\nThe owner has chosen no licence yet.\n"
 
 
 def text_of(name):
@@ -68,23 +73,35 @@ def for_package(name, text, names):
 
 
 def contents():
-    """What the package holds: for each name under the prefix its bytes and its mode."""
+    """What is installed, without BUILD: for each name under the prefix its bytes and its mode."""
     names = set(page_names())
     found = {
+        f"{DOCS}/copyright": (COPYRIGHT.encode(), 0o644),
         **{f"share/man/man1/{name}.1.gz": (gzip.compress(text.encode(), mtime=0), 0o644) for name, text in man_pages().items()},
         **libraries.contents(SUMMARY, version()),
     }
     for name in PROGRAMS:
         found[f"bin/{name}"] = ((TOP / "package" / "launcher").read_bytes(), 0o755)
-        found[f"lib/alphamu/{name}"] = ((TOP / "crates" / name / "out" / name).read_bytes(), 0o755)
+        found[f"lib/alphamu/{name}"] = (stripped(TOP / "crates" / name / "out" / name), 0o755)
     for name in sorted(names):
         path = TOP / name
         data, mode = path.read_bytes(), 0o755 if os.access(path, os.X_OK) else 0o644
         if name.endswith(".md"):
             data = for_package(name, data.decode(), names).encode()
         found[f"{DOCS}/{name}"] = (data, mode)
-    found[f"{DOCS}/BUILD"] = (record_of(found).encode(), 0o644)
     return found
+
+
+def recorded(found):
+    """The same with BUILD."""
+    return {**found, f"{DOCS}/BUILD": (record_of(found).encode(), 0o644)}
+
+
+def stripped(program):
+    """The bytes of a program without its symbols, which only debuggers use."""
+    with tempfile.NamedTemporaryFile() as file:
+        subprocess.run([libraries.tool("strip"), "-o", file.name, program], check=True)
+        return pathlib.Path(file.name).read_bytes()
 
 
 def man_pages():
@@ -140,39 +157,32 @@ def write_tar(found, path):
             tar.addfile(it, io.BytesIO(data) if it.size else None)
 
 
-def control(found):
-    """What Debian's tools ask of a package."""
-    size = sum(len(data) for data, _ in found.values()) // 1024 + 1
-    return (f"Package: alphamu\nVersion: {version()}\nArchitecture: amd64\nMaintainer: the authors of alphamu\nSection: games\n"
-            f"Priority: optional\nInstalled-Size: {size}\nDescription: {SUMMARY}\n"
-            " alphamu reads a deal of bridge with the play so far, and the ways in which the\n"
-            " defenders' cards may lie. It names the card of the line of play that makes the\n"
-            " contract in the most of them, and can write every such line.\n")
-
-
 def write_deb(found, path):
-    """A Debian package of the same files under /usr. False if dpkg-deb isn't there."""
+    """A Debian package of the same files under /usr, with a changelog in Debian's form. False if dpkg-deb isn't there."""
     if shutil.which("dpkg-deb") is None:
         return False
+    found = recorded({**found, f"{DOCS}/changelog.gz": debian.changelog(version(), date())})
     with tempfile.TemporaryDirectory() as folder:
         root = pathlib.Path(folder) / "root"
         root.mkdir(mode=0o755)
         put(found, root / "usr")
-        sums = "".join(f"{hashlib.md5(data).hexdigest()}  usr/{name}\n" for name, data in files_of(found))
-        (root / "DEBIAN").mkdir(mode=0o755)
-        (root / "DEBIAN" / "control").write_text(control(found))
-        (root / "DEBIAN" / "md5sums").write_text(sums)
+        members = debian.members(found, SUMMARY, version())
+        put({f"DEBIAN/{name}": (text.encode(), mode) for name, (text, mode) in members.items()}, root)
         env = {**os.environ, "SOURCE_DATE_EPOCH": str(date())}
         subprocess.run(["dpkg-deb", "--root-owner-group", "--build", root, path], env=env, check=True, stdout=subprocess.DEVNULL)
     return True
 
 
 def write_packages(folder):
-    """Both packages. The names of those that were written."""
+    """The packages and the wheel. The names of those that were written."""
     found = contents()
     folder.mkdir(parents=True, exist_ok=True)
     made = []
-    for name, write in ((f"alphamu-{version()}-linux-x86_64.tar.gz", write_tar), (f"alphamu_{version()}_amd64.deb", write_deb)):
+    wheel, packed = make_wheel.wheel(version(), found[f"lib/{libraries.SONAME}"][0], date())
+    writers = ((f"alphamu-{version()}-linux-x86_64.tar.gz", lambda it, path: write_tar(recorded(it), path)),
+               (f"alphamu_{version()}_amd64.deb", write_deb),
+               (wheel, lambda _, path: path.write_bytes(packed)))
+    for name, write in writers:
         part = folder / (name + ".part")
         try:
             if write(found, part) is not False:
@@ -192,7 +202,7 @@ def done(words):
         libraries.make(libraries.OUT)
         return [libraries.OUT / it for it in ("libalphamu.a", "libalphamu.so")]
     is_whole = words.command == "install"
-    put(contents() if is_whole else libraries.contents(SUMMARY, version()), words.prefix)
+    put(recorded(contents()) if is_whole else libraries.contents(SUMMARY, version()), words.prefix)
     return [f"installed {'alphamu' if is_whole else 'the library of alphamu'} {version()} under {words.prefix}"]
 
 

@@ -22,9 +22,10 @@ from __future__ import annotations
 
 import ctypes
 import os
-from collections.abc import Sequence
+from collections.abc import Callable, Sequence
 from dataclasses import dataclass
 from pathlib import Path
+from typing import Any
 
 __all__ = ["AlphamuError", "Choice", "Node", "Question", "Strategy", "Worth", "card", "card_name", "card_number", "cards", "check",
            "from_dds", "fusion", "hand", "list_layouts", "report", "to_dds", "CLUBS", "DECLARER", "DIAMONDS", "DUMMY", "HEARTS", "LEFT",
@@ -86,7 +87,7 @@ def hand(found: int) -> str:
 
 def card_number(name: str) -> int:
     """The number of a card, 0 to 51, by its name, as `S3` or `HT`."""
-    suit, rank = name.upper()
+    suit, rank = list(name.upper())
     return 13 * _SUITS.index(suit) + _RANKS.index(rank)
 
 
@@ -190,11 +191,12 @@ _CALLS = {
 
 
 def _places() -> list[str]:
-    """The places of the library: named by the user, installed with this module, built in the repository, or known to the system."""
+    """The places of the library: named by the user, beside this module, installed with it, built in the repository, or known to the
+    system."""
     if named := os.environ.get("ALPHAMU_LIBRARY"):
         return [named]
     here = Path(__file__).resolve().parent
-    near = (here / "../../../lib/libalphamu.so.1", here / "../../crates/alphamu_c/out/libalphamu.so")
+    near = (here / "libalphamu.so.1", here / "../../../lib/libalphamu.so.1", here / "../../crates/alphamu_c/out/libalphamu.so")
     return [*(str(it) for it in near if it.exists()), "libalphamu.so.1"]
 
 
@@ -222,8 +224,10 @@ def _number(value: int, bits: int) -> int:
 
 def _asked(name: str, files: Sequence[str | bytes], *numbers: int) -> str:
     """Asks a question by text, with a second try if the text is long."""
-    files = [it.encode() if isinstance(it, str) else bytes(it) for it in files]
-    given = [part for it in files for part in (it, len(it))]
+    given: list[Any] = []
+    for it in files:
+        data = it.encode() if isinstance(it, str) else bytes(it)
+        given += (data, len(data))
     call, room, written = getattr(_library, "alphamu_" + name), 1 << 16, _size()
     while True:
         out = ctypes.create_string_buffer(room)
@@ -313,7 +317,7 @@ class Question:
         return Strategy(tuple(Node(None if it.card == _NO_CARD else it.card, range(it.first_reply, it.first_reply + it.replies))
                               for it in nodes))
 
-    def _given(self, lefts: Sequence[int], weights: Sequence[int] | None) -> list:
+    def _given(self, lefts: Sequence[int], weights: Sequence[int] | None) -> list[Any]:
         """What every call by bits is given."""
         if len(self.trick) > 3:
             raise AlphamuError(34, _LINES[34])
@@ -324,7 +328,7 @@ class Question:
         return [_Question(*sets, trick, *rest), (ctypes.c_uint64 * len(lefts))(*(_number(it, 64) for it in lefts)), len(lefts),
                 (ctypes.c_uint32 * len(weights))(*(_number(it, 32) for it in weights)), len(weights)]
 
-    def _all(self, call, kind, room: int, given: list):
+    def _all(self, call: Callable[..., int], kind: type[Any], room: int, given: list[Any]) -> Any:
         """What a call writes to an array, with a second try if there is more of it."""
         written = _size()
         while True:
