@@ -5,6 +5,9 @@ Makes libalphamu.a and libalphamu.so of what `rt ci` or ./build library proved, 
 
     symbols   of all names only the calls can be seen; there are no variables; nothing is needed but memcpy, memmove, memset, malloc,
               realloc and free
+    header    the header is clean in C from C99 on and in C++ from C++11 on, for each compiler that is there, and a program links in both
+    crate     cargo fmt and clippy find nothing in the crate for Rust, and the oldest compiler that it names builds it
+    module    all that the module for Python shows has type hints and says what it is, and mypy finds nothing
     cases     each case of cases/ that the calls by text can be asked has the same bytes, line and status, also with just enough room and
               with a byte less
     bits      the same cases by bits: card, weight, front and worths against the case, and against `card` and `fusion` of the program if
@@ -44,6 +47,13 @@ EXAMPLES = TOP / "examples" / "library"
 CALLS = {"alphamu_version", *("alphamu_" + it for it in library_bits.CALLS)}
 FLAGS = ("-std=c11", "-D_GNU_SOURCE", "-O2", "-g", "-Wall", "-Wextra", "-Werror")
 NEEDED = {"memcpy", "memmove", "memset", "malloc", "realloc", "free"}
+# What the header is compiled as, for each compiler, and as little of a program as can link.
+STANDARDS = {("c", "gcc", "clang"): ("c99", "c11", "c17"), ("c++", "g++", "clang++"): ("c++11", "c++17")}
+PEDANTIC = ("-Wall", "-Wextra", "-pedantic", "-Werror")
+LEAST_PROGRAM = """#include <alphamu.h>
+#include <alphamu.h>
+int main(void) { return alphamu_version() == ALPHAMU_VERSION && alphamu_card_from_dds(3, 14) == 51 ? 0 : 1; }
+"""
 # The toolchain's heap gives this address for an allocation that failed. Nothing is kept there.
 NO_VARIABLE = {"nothing"}
 # What the bytes of a buffer are before a call, and how many behind it are looked at.
@@ -51,6 +61,8 @@ UNTOUCHED, BEHIND = 0xa5, 16
 NO_ROOM = 8
 # The least number of cases by text, so that none is lost unnoticed.
 LEAST = 260
+# As many calls and methods as the module for Python has at least.
+LEAST_CALLS = 16
 # What the threads and the failing allocations leave out: cases that take long, and more questions than are needed.
 LONGEST, MOST_IN_TURN = 100_000, 24
 THREADS, EACH, SECONDS = 8, 2000, 60
@@ -126,6 +138,75 @@ def symbols(trial):
     seen = {it.split()[-1] for it in trial.run(["nm", "-D", "--defined-only", trial.shared]).stdout.splitlines()}
     trial.expect(f"what the shared library shows: {seen}", seen == CALLS)
     trial.done.append(f"{len(CALLS)} calls, {len(kinds.get('U', ()))} functions needed, no variable")
+
+
+def header(trial):
+    source, program = trial.room / "least", trial.room / "least.out"
+    source.write_text(LEAST_PROGRAM)
+    for (language, *compilers), standards in STANDARDS.items():
+        for compiler in filter(trial.has, compilers):
+            before = len(trial.faults)
+            for standard in standards:
+                words = [compiler, f"-std={standard}", *PEDANTIC, f"-I{libraries.HEADER.parent}", "-x", language, source]
+                found = trial.run([*words, "-x", "none", trial.archive, "-o", program])
+                trial.expect(f"the header, {compiler} -std={standard}: {found.stdout}", (found.returncode, found.stdout) == (0, ""))
+                if found.returncode == 0:
+                    trial.expect(f"{compiler} -std={standard}: the version differs", trial.run([program]).returncode == 0)
+            if len(trial.faults) == before:
+                trial.done.append(f"the header: {compiler}, {', '.join(standards)}")
+
+
+def crate(trial):
+    if not trial.has("cargo"):
+        return
+    folder = trial.room / "crate"
+    shutil.copytree(TOP / "bindings/rust", folder, ignore=shutil.ignore_patterns("target"))
+    env = {**os.environ, "ALPHAMU_LIB_DIR": str(trial.room)}
+    for tool, words in (("fmt", ("--check",)), ("clippy", ("--offline", "--locked", "--quiet", "--", "-D", "warnings"))):
+        if trial.run(["cargo", tool, "--version"], cwd=folder).returncode != 0:
+            trial.left_out.append(f"cargo {tool}: not installed")
+            continue
+        found = trial.run(["cargo", tool, *words], cwd=folder, env=env)
+        trial.expect(f"cargo {tool}: {found.stdout}", found.returncode == 0)
+        trial.done.append(f"cargo {tool}")
+    by_oldest(trial, folder)
+
+
+def by_oldest(trial, folder):
+    """Builds the crate and its build script by the compiler that Cargo.toml names, of rustup or of the system."""
+    version = re.search(r'^rust-version = "(.*)"$', (folder / "Cargo.toml").read_text(), re.M)[1]
+    named = f"rustc {re.escape(version)}[. ]"
+    for compiler in (["rustup", "run", version, "rustc"], ["/usr/bin/rustc"], ["rustc"]):
+        if shutil.which(compiler[0]) and re.match(named, trial.run([*compiler, "--version"]).stdout):
+            break
+    else:
+        trial.left_out.append(f"the crate by its oldest compiler: no rustc {version}")
+        return
+    for kind, source in (("rlib", "src/lib.rs"), ("bin", "build.rs")):
+        words = ["--edition", "2021", "-D", "warnings", "--crate-type", kind, "--out-dir", folder / "oldest", folder / source]
+        found = trial.run([*compiler, *words])
+        trial.expect(f"rustc {version}, {source}: {found.stdout}", found.returncode == 0)
+    trial.done.append(f"the crate by rustc {version}")
+
+
+def module(trial):
+    shown = [getattr(trial.alphamu, it) for it in trial.alphamu.__all__]
+    methods = [it for kind in shown if isinstance(kind, type) for name, it in vars(kind).items() if name[0] != "_"]
+    told = [it for it in (*shown, *methods) if callable(it)]
+    for it in told:
+        trial.expect(f"the module for Python: {it.__qualname__} doesn't say what it is", it.__doc__)
+    calls = [it for it in told if not isinstance(it, type)]
+    for it in calls:
+        hinted = set(it.__annotations__) | {"self"}
+        taken = {*it.__code__.co_varnames[:it.__code__.co_argcount], "return"}
+        trial.expect(f"the module for Python: {it.__qualname__} has no hint for {taken - hinted}", taken <= hinted)
+    trial.expect(f"the module for Python shows only {len(calls)} calls", len(calls) >= LEAST_CALLS)
+    trial.done.append(f"{len(told)} names of the module for Python")
+    if trial.has("mypy"):
+        sources = [TOP / "bindings/python" / it for it in ("alphamu.py", "make_wheel.py")]
+        found = trial.run(["mypy", "--strict", f"--cache-dir={trial.room / 'mypy'}", *sources])
+        trial.expect(f"mypy: {found.stdout}", found.returncode == 0)
+        trial.done.append("mypy --strict")
 
 
 def in_room(trial, it, room):
@@ -291,8 +372,8 @@ def hostile(trial):
             trial.lasting("hostile", [program, str(trial.given.seed), str(trial.given.calls)])
 
 
-PARTS = {"symbols": symbols, "cases": by_cases, "bits": by_bits, "examples": examples, "page": page, "threads": in_threads, "memory": in_little_memory,
-         "hostile": hostile}
+PARTS = {"symbols": symbols, "header": header, "crate": crate, "module": module, "cases": by_cases, "bits": by_bits, "examples": examples,
+         "page": page, "threads": in_threads, "memory": in_little_memory, "hostile": hostile}
 
 
 def main():

@@ -3,6 +3,8 @@
  * Two ways to ask. By text: a deal file and a layout file in memory, and the text of the answer in your buffer; files,
  * texts and refusals are those of the program alphamu. By bits: hands as 52-bit sets, and numbers back.
  *
+ * For C from C99 on, and C++ from C++11 on.
+ *
  * Nothing is kept between calls, no file is opened, nothing is printed and no thread is started, so any number of your
  * own threads may ask at once. What each call promises is proved; README.md beside this file says what is not: that you
  * keep to the following.
