@@ -46,8 +46,8 @@ OTHER_STATUSES = frozenset((64, 70, 124, 129, 130, 131, 137, 143, 255))
 OTHER_NAMES = frozenset("JobID ExitCode ServerAliveInterval ServerAliveCountMax start_lib".split())
 # A file that FIRST-CHANGE has its reader write and remove again; the packages, and what lies in them; where programs are kept.
 OTHER_FILES = frozenset("""crates/card_letters/must-fail/jack_read_as_ten.edit out/alphamu-VERSION-linux-x86_64.tar.gz
-    out/alphamu_VERSION_amd64.deb lib/alphamu/alphamu share/doc/alphamu share/doc/alphamu/BUILD share/alphamu/python
-    share/alphamu/rust out/unproved""".split())
+    out/alphamu_VERSION_amd64.deb out/alphamu-VERSION-py3-none-linux_x86_64.whl lib/alphamu/alphamu share/doc/alphamu
+    share/doc/alphamu/BUILD share/doc/alphamu/copyright share/alphamu/python share/alphamu/rust out/unproved""".split())
 ENDINGS = (".md", ".py", ".rt", ".antt", ".cpp", ".edit", ".sbatch")
 # What takes a question further, from the words to a node: a walk has each function that makes one.
 CONTAINERS = ("Rounds", "Round", "Task", "RoundWork", "TreeSearch")

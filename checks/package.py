@@ -1,13 +1,21 @@
 #!/usr/bin/env python3
-"""Makes the packages by ./build package and tries them: in a folder into which the .tar.gz is unpacked, and in an empty root into
+"""package.py [--debian DIR]
+
+Makes the packages by ./build package and tries them: in a folder into which the .tar.gz is unpacked, and in an empty root into
 which dpkg installs the Debian package. In both the front page's first question is answered without the toolchain on the path, the
 strategies of docs/USING.md are told in words, the library's example is linked as pkg-config says and gives the same in C and Python,
 the checksums of BUILD agree, and the man pages are well formed, have each job, option and status, and none of what is only right on a
 page or in the source; nor have the pages. A closed pipe is a failed write.
-After dpkg has removed the package nothing is left. What needs a command that isn't there, or the right to install, is left out, with
-a line.
+From the .tar.gz the example gives the same in Rust, and with the module that pip installs from the wheel and from the prefix. lintian
+finds no error in the Debian package, and nothing that its programs load and Depends doesn't have. After dpkg has removed the package nothing is left.
 
-There must be current proved programs and a library, which ./build and ./build library make."""
+--debian DIR also tries the package in a Debian of its own, with what it depends on and not forced: both programs answer, a page is
+written, the example runs in C and Python, and nothing is left after the removal. If DIR isn't there, debootstrap makes it, which takes
+the network and some minutes; it is kept for the next time.
+
+What needs a command that isn't there, or the right to install, is left out, with a line. There must be current proved programs and a
+library, which ./build and ./build library make."""
+import argparse
 import gzip
 import os
 import pathlib
@@ -24,6 +32,11 @@ import pages
 
 TOP = pages.TOP
 DOCS = "share/doc/alphamu"
+PATH = "/usr/bin:/bin"
+# What the library's example needs in a Debian beside the package.
+IN_DEBIAN = "python3,gcc,libc6-dev,pkg-config"
+# Where a package puts what stays, and what a Debian keeps there for itself.
+PLACES, OWN = ("etc", "opt", "usr", "var"), ("var/lib/dpkg", "var/log", "var/cache")
 # The jobs of the second program, and what no man page may say: marks of Markdown, the source's launchers, and what has no place there.
 STUDY_JOBS = ("page", "words", "lines", "cards", "review")
 OUT_OF_PLACE = ("![", "](", "./study", "./alphamu", "last three rows", "last four rows", "you can't", "the picture", "tables above", "see below", "see above")
@@ -69,20 +82,62 @@ def try_words(prefix):
     expect(f"{prefix}: the strategies in words: {told.stdout!r}", told.returncode == 0 and told.stdout.splitlines() == answer)
 
 
+def example_env(prefix):
+    """What the library's example is run with where the system doesn't know the library."""
+    return {"PATH": PATH, "PKG_CONFIG_PATH": str(prefix / "lib/pkgconfig"), "LD_LIBRARY_PATH": str(prefix / "lib"),
+            "PYTHONPATH": str(prefix / "share/alphamu/python"), "PYTHONDONTWRITEBYTECODE": "1"}
+
+
 def try_library(prefix):
     """The example of the library in C, linked against what is installed, and in Python: both print the same."""
-    example, env = prefix / DOCS / "examples/library/ending", {"PATH": "/usr/bin:/bin", "PYTHONDONTWRITEBYTECODE": "1"}
+    example, env = prefix / DOCS / "examples/library/ending", example_env(prefix)
     if shutil.which("cc") is None or shutil.which("pkg-config") is None:
         left_out.append("the library isn't linked: that takes cc and pkg-config")
         return
-    env |= {"PKG_CONFIG_PATH": str(prefix / "lib/pkgconfig"), "LD_LIBRARY_PATH": str(prefix / "lib"),
-            "PYTHONPATH": str(prefix / "share/alphamu/python")}
     with tempfile.TemporaryDirectory() as room:
         found = run(["sh", "-c", 'cc "$0.c" $(pkg-config --cflags --libs alphamu) -o "$1"', example, f"{room}/ending"], env=env)
         expect(f"{prefix}: linking: {found.stdout}", (found.returncode, found.stdout) == (0, ""))
         in_c, in_python = (run([it], env=env) for it in (f"{room}/ending", f"{example}.py"))
     is_right = in_c.returncode == 0 and in_c.stdout == in_python.stdout and "\nplay S3\na strategy: " in in_c.stdout
     expect(f"{prefix}: the library: {in_c.stdout!r} {in_python.stdout!r}", is_right)
+
+
+def expect_example(what, prefix, words, **given):
+    """The example, run in another way, prints what it does with the module under the prefix."""
+    right = run([prefix / DOCS / "examples/library/ending.py"], env=example_env(prefix))
+    found = run(words, **given)
+    expect(f"{what}: {found.stdout!r}", (found.returncode, found.stdout) == (0, right.stdout) and right.stdout != "")
+
+
+def try_rust(prefix):
+    """The example in Rust, with the crate under the prefix, which finds the library."""
+    if shutil.which("cargo") is None or shutil.which("cc") is None:
+        left_out.append("the example isn't built in Rust: that takes cargo and cc")
+        return
+    with tempfile.TemporaryDirectory() as room:
+        user = pathlib.Path(room)
+        (user / "src").mkdir()
+        shutil.copy(prefix / DOCS / "examples/library/ending.rs", user / "src/main.rs")
+        needed = f'[dependencies]\nalphamu = {{ path = "{prefix}/share/alphamu/rust" }}\n'
+        (user / "Cargo.toml").write_text(f'[package]\nname = "user"\nedition = "2021"\n\n{needed}')
+        expect_example(f"{prefix}: in Rust", prefix, ["cargo", "run", "--offline", "--quiet"], cwd=user)
+
+
+def try_pip(prefix, wheel):
+    """The module as pip installs it without the network, from the wheel and from the prefix. It brings the library with it."""
+    pip = [sys.executable, "-m", "pip"]
+    if run([*pip, "--version"]).returncode != 0:
+        left_out.append("the module for Python isn't installed: no pip")
+        return
+    words = ("install", "--quiet", "--no-index", "--no-deps", "--disable-pip-version-check", "--no-compile", "--target")
+    for source in (wheel, prefix / "share/alphamu/python"):
+        with tempfile.TemporaryDirectory() as room:
+            env = {"PATH": PATH, "HOME": room, "PYTHONDONTWRITEBYTECODE": "1"}
+            found = run([*pip, *words, f"{room}/modules", source], env=env)
+            expect(f"pip install {source}: {found.stdout}", found.returncode == 0)
+            expect(f"{source}: type checkers don't see its hints", pathlib.Path(room, "modules/alphamu/py.typed").exists())
+            env["PYTHONPATH"] = f"{room}/modules"
+            expect_example(f"{source}, by pip", prefix, [sys.executable, prefix / DOCS / "examples/library/ending.py"], env=env)
 
 
 def try_sums(prefix):
@@ -130,12 +185,28 @@ def try_pages(prefix):
             expect(f"{page} says {wrong}", wrong not in page.read_text(encoding="utf-8"))
 
 
-def try_tar(folder, made):
+def try_copyright(prefix):
+    """It says of the licence what README says, and nothing else."""
+    [*_, line] = (prefix / DOCS / "copyright").read_text(encoding="utf-8").splitlines()
+    expect(f"{prefix}: README doesn't say: {line}", line in (TOP / "README.md").read_text(encoding="utf-8").splitlines())
+
+
+def try_tar(folder, made, wheel):
     with tarfile.open(made) as tar:
         tar.extractall(folder, filter="data")
     prefix = next(folder.iterdir())
-    for it in (try_answer, try_words, try_library, try_sums, try_links, try_pages, try_man_pages):
+    try_pip(prefix, wheel)
+    for it in (try_answer, try_words, try_library, try_rust, try_sums, try_links, try_pages, try_copyright, try_man_pages):
         it(prefix)
+
+
+def try_lintian(made):
+    if shutil.which("lintian") is None:
+        left_out.append("the Debian package isn't judged: no lintian")
+        return
+    found = run(["lintian", *(["--allow-root"] if os.geteuid() == 0 else []), "--fail-on", "error", made])
+    errors = [it for it in found.stdout.splitlines() if it.startswith("E: ") or "undeclared-elf-prerequisites" in it]
+    expect(f"lintian: {errors or found.stdout}", found.returncode == 0 and not errors)
 
 
 def try_deb(root, made):
@@ -144,17 +215,70 @@ def try_deb(root, made):
         return
     (root / "var/lib/dpkg").mkdir(parents=True)
     (root / "var/lib/dpkg/status").touch()
-    found = run(["dpkg", f"--root={root}", "--force-depends", "--install", made])
+    chrootless = ["dpkg", f"--root={root}", "--force-script-chrootless"]
+    found = run([*chrootless, "--force-depends", "--install", made])
     expect(f"dpkg --install: {found.stdout}", found.returncode == 0)
     for it in (try_answer, try_words, try_library, try_sums):
         it(root / "usr")
     found = run(["dpkg", f"--root={root}", "--verify", "alphamu"])
     expect(f"dpkg --verify: {found.stdout}", (found.returncode, found.stdout) == (0, ""))
-    found = run(["dpkg", f"--root={root}", "--purge", "alphamu"])
+    found = run([*chrootless, "--purge", "alphamu"])
     expect(f"dpkg --purge: {found.stdout}", found.returncode == 0 and not any(it.is_file() for it in (root / "usr").rglob("*")))
 
 
+def names_in(root):
+    """All that is in a Debian, without what it keeps for itself, and what Python keeps of its own modules."""
+    found = (it.relative_to(root).as_posix() for place in PLACES for it in (root / place).rglob("*"))
+    return {it for it in found if not it.startswith(OWN) and ("alphamu" in it or "__pycache__" not in it)}
+
+
+def try_debian(root, made):
+    """The Debian package in a Debian that is otherwise empty, from its coming to its going."""
+    if os.geteuid() != 0 or not root.exists() and shutil.which("debootstrap") is None:
+        left_out.append(f"the Debian {root}: that takes root, and debootstrap if it isn't there")
+        return
+    if not root.exists():
+        found = run(["debootstrap", "--variant=minbase", f"--include={IN_DEBIAN}", "stable", root])
+        if found.returncode != 0:
+            left_out.append(f"the Debian {root}: debootstrap: {found.stdout.splitlines()[-1:]}")
+            return
+
+    def inside(command, **given):
+        words = ["chroot", root, "sh", "-c", f"cd /usr/{DOCS} && {command}"]
+        return subprocess.run(words, stdout=subprocess.PIPE, stderr=subprocess.STDOUT, text=True, env={"PATH": "/usr/sbin:" + PATH}, **given)
+
+    before = names_in(root)
+    shutil.copy(made, root / "tmp/alphamu.deb")
+    found = run(["chroot", root, "dpkg", "--install", "/tmp/alphamu.deb"])
+    expect(f"{root}: dpkg --install: {found.stdout}", found.returncode == 0)
+    try_inside(inside)
+    found = run(["chroot", root, "dpkg", "--purge", "alphamu"])
+    left = names_in(root) - before
+    expect(f"{root}: dpkg --purge: {found.stdout} {sorted(left)[:5]}", found.returncode == 0 and not left)
+
+
+def try_inside(inside):
+    """What a user of a Debian does with the package."""
+    words, answer = first_question()
+    found = inside(f"alphamu {' '.join(words)}")
+    expect(f"in Debian: the first question: {found.stdout!r}", found.returncode == 0 and found.stdout.splitlines() == answer)
+    using = pages.commands((TOP / "docs/USING.md").read_text(encoding="utf-8"))
+    command, answer = next((it, lines) for _, it, lines in using if it.startswith("./study --job words"))
+    found = inside(command.replace("./study", "alphamu_study"))
+    expect(f"in Debian: the strategies in words: {found.stdout!r}", found.returncode == 0 and found.stdout.splitlines() == answer)
+    found = inside("alphamu_study --job page --deal examples/queen.pbn --layouts examples/queen.lay --moves 2")
+    is_page = found.stdout.startswith("<!DOCTYPE html>") and found.stdout.endswith("</html>\n")
+    expect(f"in Debian: a page: {found.stdout[:200]!r}", found.returncode == 0 and is_page)
+    found = inside("cc examples/library/ending.c $(pkg-config --cflags --libs alphamu) -o /tmp/ending && /tmp/ending")
+    expect(f"in Debian: in C: {found.stdout!r}", found.returncode == 0 and "\nplay S3\na strategy: " in found.stdout)
+    in_python = inside("PYTHONPATH=/usr/share/alphamu/python python3 examples/library/ending.py")
+    expect(f"in Debian: in Python: {in_python.stdout!r}", (in_python.returncode, in_python.stdout) == (0, found.stdout))
+
+
 def main():
+    parser = argparse.ArgumentParser(description=__doc__, formatter_class=argparse.RawDescriptionHelpFormatter)
+    parser.add_argument("--debian", type=pathlib.Path, metavar="DIR", help="a Debian that is otherwise empty")
+    given = parser.parse_args()
     if subprocess.run([TOP / "checks" / "program_state"]).returncode != 0:
         sys.exit("package: there is no current proved program: run ./build")
     with tempfile.TemporaryDirectory() as folder:
@@ -164,9 +288,14 @@ def main():
         found = run([TOP / "package/package.py", "package", "--out", folder / "made"])
         expect(f"package.py: {found.stdout}", found.returncode == 0)
         made = {it.suffix: it for it in (folder / "made").iterdir()}
-        try_tar(folder / "tar", made[".gz"])
+        try_tar(folder / "tar", made[".gz"], made[".whl"])
         if ".deb" in made:
+            try_lintian(made[".deb"])
             try_deb(folder / "root", made[".deb"])
+            if given.debian:
+                try_debian(given.debian.absolute(), made[".deb"])
+            else:
+                left_out.append("a Debian of its own: that takes --debian")
         else:
             left_out.append("there is no Debian package: no dpkg-deb")
         found = run([TOP / "package/package.py", "install", "--prefix", "/dev/null/below"])
