@@ -13,7 +13,7 @@ finds no error in the Debian package, and nothing that its programs load and Dep
 written, the example runs in C and Python, and nothing is left after the removal. If DIR isn't there, debootstrap makes it, which takes
 the network and some minutes; it is kept for the next time.
 
-What needs a command that isn't there, or the right to install, is left out, with a line. There must be current proved programs and a
+What else needs a command that isn't there, or the right to install, is left out, with a line. There must be current proved programs and a
 library, which ./build and ./build library make."""
 import argparse
 import gzip
@@ -34,7 +34,7 @@ TOP = pages.TOP
 DOCS = "share/doc/alphamu"
 PATH = "/usr/bin:/bin"
 # What the library's example needs in a Debian beside the package.
-IN_DEBIAN = "python3,gcc,libc6-dev,pkg-config"
+IN_DEBIAN = "python3,gcc,libc6-dev,pkgconf"
 # Where a package puts what stays, and what a Debian keeps there for itself.
 PLACES, OWN = ("etc", "opt", "usr", "var"), ("var/lib/dpkg", "var/log", "var/cache")
 # The jobs of the second program, and what no man page may say: marks of Markdown, the source's launchers, and what has no place there.
@@ -235,12 +235,12 @@ def names_in(root):
 def try_debian(root, made):
     """The Debian package in a Debian that is otherwise empty, from its coming to its going."""
     if os.geteuid() != 0 or not root.exists() and shutil.which("debootstrap") is None:
-        left_out.append(f"the Debian {root}: that takes root, and debootstrap if it isn't there")
+        faults.append(f"{root}: that takes root, and debootstrap if it isn't there")
         return
     if not root.exists():
         found = run(["debootstrap", "--variant=minbase", f"--include={IN_DEBIAN}", "stable", root])
         if found.returncode != 0:
-            left_out.append(f"the Debian {root}: debootstrap: {found.stdout.splitlines()[-1:]}")
+            faults.append(f"{root}: debootstrap: {found.stdout.splitlines()[-1:]}")
             return
 
     def inside(command, **given):

@@ -21,7 +21,7 @@ Section: misc
 Priority: optional
 Installed-Size: {size}
 Depends: {depends}
-Suggests: c-compiler, cargo, pkg-config, python3 (>= 3.9)
+Suggests: c-compiler, cargo, pkgconf, python3 (>= 3.9)
 Description: {summary}
  alphamu reads a deal of bridge with the play so far, and the ways in which the
  defenders' cards may lie. It names the card of the line of play that makes the
