@@ -12,7 +12,8 @@ pub mod laws;
 mod list;
 mod made;
 
+pub use dividing::Choices;
 pub use fault::MakeFault;
 pub use layout_list::Layout;
-pub use list::all_layouts;
+pub use list::{all_layouts, allowed_choices};
 pub use made::{Made, made_problem, made_problems_are_accepted};

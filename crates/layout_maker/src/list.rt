@@ -1,9 +1,10 @@
 //! Every layout of a board that the play allows.
-ghost use Rattle.std.specs.Prelude.{◌≡◌, ◌≤◌, Ok, map, length, MatchResult};
+ghost use Rattle.std.specs.Prelude.{◌≡◌, ◌≤◌, [], Some, Ok, map, length, MatchOption, IfSome, MatchResult};
 ghost use Rattle.card_sets.specs.SetWords.{IsCardSet};
+ghost use Rattle.pbn_deal.specs.Boards.{IsBoard};
 ghost use Rattle.pbn_deal.specs.BoardRead.{together};
 ghost use Rattle.layout_maker.specs.Divisions.{most_unseen, hands_of_size, layout_with};
-ghost use Rattle.layout_maker.specs.Divisions.{if_few, layouts_made, IsMakeFaultOf};
+ghost use Rattle.layout_maker.specs.Divisions.{layouts_over, if_few, layouts_made, IsMakeFaultOf};
 
 use crate::allowed::may_hold;
 use crate::dividing::{Choices, fitting_choices};
@@ -36,6 +37,23 @@ fn listed(alloc: Global, unseen: CardSet, choices: &Choices) -> Result<Vec<Layou
     }
 }
 
+/// Left's hands in the layouts over these unseen cards that the play allows: `None` exactly if it
+/// allows no layout. In the order of these hands the layouts are in the order of `all_layouts`.
+pub fn allowed_choices(board: &Board, unseen: CardSet) -> Option<Choices>
+    requires sound { IsBoard board.now }
+    requires shown { board.now.unseen ≡ Some unseen }
+    ensures hands { MatchOption result
+        (layouts_over board.now unseen ≡ [])
+        (λ choices. layouts_over board.now unseen ≡ map (layout_with unseen)
+        (map (together choices.sure) (hands_of_size choices.wanted choices.free))) }
+    ensures a_set { IfSome result (λ choices. IsCardSet choices.sure) }
+    ensures few { IfSome result (λ choices. length choices.free ≤ most_unseen) }
+    ensures small { IfSome result (λ choices. choices.wanted ≤ 13) }
+{
+    let may = may_hold(board, unseen)?;
+    fitting_choices(&may, unseen, board.declarer_hand().count())
+}
+
 /// Every division of the unseen cards that the play allows, each defender with half of them before
 /// the first card.
 ///
@@ -51,10 +69,7 @@ pub fn all_layouts(alloc: Global, board: &Board) -> Result<Vec<Layout>, MakeFaul
     let Some(unseen) = board.unseen() else {
         return Err(MakeFault::NotShown);
     };
-    let Some(may) = may_hold(board, unseen) else {
-        return Err(MakeFault::NoneFit);
-    };
-    let Some(choices) = fitting_choices(&may, unseen, board.declarer_hand().count()) else {
+    let Some(choices) = allowed_choices(board, unseen) else {
         return Err(MakeFault::NoneFit);
     };
     listed(alloc, unseen, &choices)
