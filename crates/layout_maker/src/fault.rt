@@ -1,4 +1,8 @@
 //! Why a board's layouts aren't listed.
+ghost use Rattle.std.specs.Prelude.{◌≡◌};
+ghost use Rattle.layout_maker.specs.declared.fault.MakeFault.TheVariants.{Memory};
+
+use std::alloc::AllocError;
 use thiserror::Error;
 
 /// Why a board's layouts aren't listed.
@@ -16,4 +20,12 @@ pub enum MakeFault {
     /// Memory was refused.
     #[error("out of memory")]
     Memory,
+}
+
+impl From<AllocError> for MakeFault {
+    ghost from_gives = { λ _ fault. fault ≡ Memory };
+
+    fn from(_: AllocError) -> Self {
+        MakeFault::Memory
+    }
 }
