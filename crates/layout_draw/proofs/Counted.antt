@@ -29,6 +29,10 @@ not_yet (place ∷ places) first later =
 abbrev pub AreWithin : List ℕ → ℕ → ℕ → Type 0
 AreWithin places first size = All (λ place. (first ≤ place) × (place < first + size)) places
 
+after_head : (place first : ℕ) (places : List ℕ) → first < place → ((k d : ℕ) → k < length places → place < get_or places k d) → (k d : ℕ) → k < length (place ∷ places) → first < get_or (place ∷ places) k d
+after_head place first places above later zero d inside = above
+after_head place first places above later (suc k) d inside = let more = later k d (omega arith) in omega (arith, more, above)
+
 pub length-at_places : (places : List ℕ) (first : ℕ) (xs : List Layout) → AllPairs (λ place later. place < later) places → AreWithin places first (length xs) → length (at_places places first xs) ≡ length places
 length-at_places [] first xs up within = ap length (none_at first xs)
 length-at_places (place ∷ places) first [] up within = let here = within 0 0 (omega arith) in absurd (omega (arith, here.0, here.1))
@@ -42,7 +46,7 @@ length-at_places (place ∷ places) first (x ∷ xs) up within =
           (ap suc (length-at_places places (first + 1) xs rest
           (λ k d inside. let after = up 0 (suc k) d (omega arith) (omega arith) in let bound = within (suc k) d (omega arith) in (omega (arith, after, same), omega (arith, bound.1)))))
       | inr other ↦
-          let after : All (λ p. first < p) (place ∷ places) = λ k d inside. ? in
+          let after : All (λ p. first < p) (place ∷ places) = after_head place first places (omega (arith, here.0, other)) (λ k d inside. up 0 (suc k) d (omega arith) (omega arith)) in
           rw (not_yet (place ∷ places) first after)
           (length-at_places (place ∷ places) (first + 1) xs up (λ k d inside. let bound = within k d inside in let more = after k d inside in (omega (arith, more), omega (arith, bound.1))))
     ]

@@ -1,2 +1,3 @@
 pub mod Walked
 pub mod Counted
+pub mod Drawing

@@ -1,5 +1,5 @@
 -- The layouts that the play and conditions allow, and those drawn of them.
-use Rattle.std.specs.Prelude.{◌≡◌, ◌⊎◌, ℕ, ◌+◌, Bool, true, ◌&&◌, ◌==◌, min, Option, None, Some, Result, Ok, Err, List, [], ◌∷◌, length, filter, if◌then◌else◌}
+use Rattle.std.specs.Prelude.{◌≡◌, ◌⊎◌, ℕ, ◌+◌, Bool, ◌&&◌, ◌||◌, ◌==◌, min, Option, None, Some, Result, Ok, Err, List, [], ◌∷◌, length, filter, if◌then◌else◌}
 use Rattle.std.specs.List.{list_any}
 use Rattle.pbn_deal.specs.Boards.{BoardValue}
 use Rattle.layout_list.specs.declared.line.Layout.{Layout}
@@ -12,10 +12,9 @@ use Rattle.layout_maker.specs.Divisions.{layouts_over}
 
 -- ---- the layouts that fit
 
--- whether a hand meets one of these conditions, or there are none
+-- whether there are no conditions, or a hand meets one of them
 abbrev pub meets_one : List (List Term) → List ℕ → Bool
-meets_one [] hand = true
-meets_one (condition ∷ more) hand = list_any (λ one. meets one hand) (condition ∷ more)
+meets_one conditions hand = (length conditions == 0) || list_any (λ condition. meets condition hand) conditions
 
 -- whether the two hands of a layout meet the conditions on Left's and on Right's hand
 abbrev pub fits : List (List Term) → List (List Term) → Layout → Bool

@@ -1,5 +1,7 @@
 //! Which layouts meet the conditions.
 ghost use Rattle.std.specs.Prelude.{◌≡◌};
+ghost use Rattle.std.specs.List.{list_any};
+ghost use Rattle.hand_conditions.specs.Conditions.{meets};
 ghost use Rattle.layout_draw.specs.Fitting.{meets_one, fits};
 
 use card_sets::CardSet;
@@ -14,11 +16,18 @@ pub struct Conditions {
     pub right: Vec<Condition>,
 }
 
-// Whether a hand meets one of these conditions, or there are none.
+// Whether a hand meets one of these conditions.
+fn meets_any(conditions: &[Condition], hand: CardSet) -> bool
+    ensures { result ≡ list_any (λ condition. meets condition hand) conditions.now }
+{
+    conditions.iter().any(|condition| condition.is_met_by(hand))
+}
+
+// Whether there are no conditions, or a hand meets one of them.
 fn meets_one(conditions: &[Condition], hand: CardSet) -> bool
     ensures { result ≡ meets_one conditions.now hand }
 {
-    conditions.is_empty() || conditions.iter().any(|condition| condition.is_met_by(hand))
+    conditions.is_empty() || meets_any(conditions, hand)
 }
 
 impl Conditions {
