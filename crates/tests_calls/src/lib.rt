@@ -5,6 +5,10 @@
 #![tactic(auto)]
 
 #[cfg(test)]
+mod conditions;
+#[cfg(test)]
+mod draws;
+#[cfg(test)]
 mod endings;
 #[cfg(test)]
 mod games;
