@@ -1,13 +1,9 @@
--- Tests on each card of a set, and the points of a hand.
+-- Tests on each card of a set.
 use Rattle.std.proofs.Common.{◌≡◌, ℕ, ◌+◌, ◌*◌, ◌<◌, ◌≤◌, ◌⊎◌, Bool, true, false, not, List, [], ◌∷◌, length, refl, sym, ap, ◌∙◌, subst, inl, inr, arith}
 use Rattle.std.specs.Prelude.{◌==◌, ◌||◌, ◌&&◌}
 use Rattle.std.specs.List.{list_all}
 use Rattle.std.proofs.lemmas.Bool.{cases_Bool, eq-eqb, eqb-true, false≢true, and_parts, not-true}
-use Rattle.std.proofs.lemmas.List.Sums.{sum_by-cons}
-use Rattle.card_sets.specs.SetWords.{has_card, IsCardSet, IsSubset, Apart}
-use Rattle.card_sets.proofs.Sets.{IsCardSet-tail}
-use Rattle.card_sets.proofs.SetCounts.{length-le_52}
-use Rattle.hand_conditions.specs.Conditions.{points, card_points}
+use Rattle.card_sets.specs.SetWords.{has_card, IsSubset, Apart}
 
 or_cases : (a b : Bool) → (a || b) ≡ true → (a ≡ true) ⊎ (b ≡ true)
 or_cases true b holds = inl refl
@@ -54,21 +50,3 @@ lacks_each told cards hand there back =
     same_test told (list_all (λ card. not (has_card hand card)) cards)
     (λ yes. each_held (λ card. not (has_card hand card)) cards (λ card holds. ap not (there yes card holds)))
     (λ all. back (λ card holds. not-true (has_card hand card) (held_each (λ c. not (has_card hand c)) cards all card holds)))
-
--- ---- points
-
-pub points-more : (card : ℕ) (cards : List ℕ) → points (card ∷ cards) ≡ card_points card + points cards
-unfolding points
-points-more card cards = sum_by-cons card_points card cards
-
-pub points-none : points [] ≡ 0
-unfolding points
-points-none = refl
-
--- the points so far and four for each card left are few
-pub few_points : (counted now_counted more : ℕ) (hand rest : List ℕ) (card : ℕ) → IsCardSet hand → hand ≡ card ∷ rest → (counted ≡ 0) ⊎ (counted + 4 * length hand ≤ 208) → more ≤ 4 → now_counted ≡ counted + more
-    → now_counted + 4 * length rest ≤ 208
-few_points counted now_counted more hand rest card a_set is few small sum =
-    let size : length hand ≡ length rest + 1 = ap length is ∙ omega arith in
-    let most = length-le_52 hand a_set in
-    elim few [ inl none ↦ omega arith | inr bound ↦ omega arith ]

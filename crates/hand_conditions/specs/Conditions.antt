@@ -1,5 +1,5 @@
 -- What a condition says of a hand.
-use Rattle.std.specs.Prelude.{ℕ, ◌-◌, Bool, not, ◌&&◌, ◌||◌, ◌==◌, nat_le, List, [], ◌∷◌, length, filter, sum_by, count_by}
+use Rattle.std.specs.Prelude.{ℕ, ◌-◌, ◌%◌, Bool, not, ◌&&◌, ◌||◌, ◌==◌, nat_le, List, [], ◌∷◌, length, filter, sum_by, count_by}
 use Rattle.std.specs.List.{list_all}
 use Rattle.card_sets.specs.declared.card.Suit.{Suit}
 use Rattle.card_sets.specs.declared.card.Suit.TheVariants.{Spades, Hearts, Diamonds, Clubs}
@@ -16,6 +16,10 @@ use Rattle.hand_conditions.specs.declared.term.Term.TheVariants.{Count, Balanced
 -- 4, 3, 2 and 1 for the ace, king, queen and jack, whose ranks are 14, 13, 12 and 11
 abbrev pub card_points : ℕ → ℕ
 card_points card = rank_of card - 10
+
+-- whether a card is at this place of its suit, where the two has place 0 and the ace place 12
+abbrev pub is_at : ℕ → ℕ → Bool
+is_at place card = card % 13 == place
 
 -- the high-card points of a hand
 unfoldable pub points : List ℕ → ℕ

@@ -1,28 +1,39 @@
 //! What is counted in a hand: its high-card points, and its cards of each suit.
-ghost use Rattle.std.specs.Prelude.{◌≡◌, ◌≤◌, length};
-ghost use Rattle.card_sets.specs.SetWords.{IsCardSet};
-ghost use Rattle.hand_conditions.specs.Conditions.{points, card_points, suit_length, shape, suits_of, is_balanced_shape};
+ghost use Rattle.std.specs.Prelude.{◌≡◌, ◌<◌, length, filter};
+ghost use Rattle.card_sets.specs.SetWords.{IsCardSet, cards_where};
+ghost use Rattle.hand_conditions.specs.Conditions.{points, is_at, suit_length, shape, suits_of, is_balanced_shape};
 
 use card_sets::{Card, CardSet, Suit};
 
-// The points of a card: 4, 3, 2 and 1 for the ace, king, queen and jack.
-fn card_points(card: Card) -> u8
-    ensures value { result ≡ card_points card }
-    ensures few { result ≤ 4 }
+// The cards at this place of each suit: the two has place 0, and the ace place 12.
+fn at_place(place: u8) -> CardSet
+    requires { place < 13 }
+    ensures { result ≡ cards_where (is_at place) }
 {
-    card.rank().number().saturating_sub(10)
+    CardSet::empty()
+        .with(Card::from_number(place))
+        .with(Card::from_number(place + 13))
+        .with(Card::from_number(place + 26))
+        .with(Card::from_number(place + 39))
+}
+
+// How many cards of a hand are at this place of their suits.
+fn count_at(place: u8, hand: CardSet) -> u8
+    requires place { place < 13 }
+    requires a_set { IsCardSet hand }
+    ensures { result ≡ length (filter (is_at place) hand) }
+{
+    hand.both(at_place(place)).count()
 }
 
 /// The high-card points of a hand: 4, 3, 2 and 1 for each ace, king, queen and jack.
 pub fn points(hand: CardSet) -> u8
     ensures { result ≡ points hand }
 {
-    let mut points = 0;
-    let mut rest = hand;
-    while let Some(card) = rest.pop_first() {
-        points += card_points(card);
+    if hand.is_empty() {
+        return 0;
     }
-    points
+    4 * count_at(12, hand) + 3 * count_at(11, hand) + 2 * count_at(10, hand) + count_at(9, hand)
 }
 
 /// How many cards of a suit a hand has.

@@ -5,10 +5,6 @@
 #![tactic(auto)]
 
 #[cfg(test)]
-mod conditions;
-#[cfg(test)]
-mod draws;
-#[cfg(test)]
 mod endings;
 #[cfg(test)]
 mod games;

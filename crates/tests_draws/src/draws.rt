@@ -1,6 +1,6 @@
 //! Layouts that are drawn: how many fit, which are drawn when all are asked for, and how often each.
 //! The counts were worked out by another program, which makes every division of the cards.
-use crate::endings::spades;
+use card_sets::{Card, CardSet};
 use hand_conditions::{Condition, read_condition};
 use layout_draw::{Conditions, draw_layouts};
 use layout_maker::MakeFault;
@@ -85,6 +85,15 @@ fn the_layouts_that_fit_are_counted(rt: HostRuntime) -> Result<(), Fail> {
         689
     );
     Ok(())
+}
+
+// The spades of these numbers, of which none is greater than 12.
+fn spades(numbers: [u8; 2]) -> CardSet {
+    let mut set = CardSet::empty();
+    for number in numbers {
+        set = set.with(Card::from_number(number % 13));
+    }
+    set
 }
 
 // Whether the layouts drawn of the ending are those in which West has these spades.
