@@ -1,11 +1,10 @@
 //! Places of a list drawn by chance: so many different ones, the same for the same seed. It builds
-//! on `rand`, whose generator makes the choice. Its contract promises how many places there are, that
-//! they differ, that each is one of the list, and their order; that each is as likely as another is
-//! only tested.
+//! on `rand`, whose generator makes the choice. Its contract promises how many places there are,
+//! that they differ, that each is one of the list, and their order; that each is as likely as
+//! another is only tested.
 #![tactic(auto)]
 
 ghost use Rattle.std.specs.Prelude.{◌≡◌, ◌≤◌, ◌<◌, IfOk, AllPairs};
-ghost use Rattle.std.specs.List.{list_any};
 ghost use Rattle.drawn_places.specs.Places.{ArePlaces, is_among};
 
 use rand::seq::index::sample;

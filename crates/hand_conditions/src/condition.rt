@@ -2,7 +2,8 @@
 ghost use Rattle.std.specs.Prelude.{◌≡◌, ◌<◌, ◌∷◌, [], Ok, length, MatchOption, MatchResult};
 ghost use Rattle.std.specs.List.{list_all, slice_split};
 ghost use Rattle.hand_conditions.specs.Conditions.{is_met_by, meets};
-ghost use Rattle.hand_conditions.specs.Reading.{is_comma, condition_read, term_refused, IsConditionFaultOf};
+ghost use Rattle.hand_conditions.specs.Reading.{is_comma, condition_read, term_refused};
+ghost use Rattle.hand_conditions.specs.Reading.{IsConditionFaultOf};
 
 use crate::fault::{ConditionFault, TermFault};
 use crate::reading::read_term;

@@ -1,7 +1,8 @@
 //! What is counted in a hand: its high-card points, and its cards of each suit.
 ghost use Rattle.std.specs.Prelude.{◌≡◌, ◌<◌, length, filter};
 ghost use Rattle.card_sets.specs.SetWords.{IsCardSet, cards_where};
-ghost use Rattle.hand_conditions.specs.Conditions.{points, is_at, suit_length, shape, suits_of, is_balanced_shape};
+ghost use Rattle.hand_conditions.specs.Conditions.{points, is_at, suit_length, shape};
+ghost use Rattle.hand_conditions.specs.Conditions.{suits_of, is_balanced_shape};
 
 use card_sets::{Card, CardSet, Suit};
 
@@ -66,7 +67,12 @@ fn suits_of(count: u8, shape: &[u8]) -> usize
 pub(crate) fn is_balanced(shape: &[u8]) -> bool
     ensures { result ≡ is_balanced_shape shape.now }
 {
-    match (suits_of(5, shape), suits_of(4, shape), suits_of(3, shape), suits_of(2, shape)) {
+    match (
+        suits_of(5, shape),
+        suits_of(4, shape),
+        suits_of(3, shape),
+        suits_of(2, shape),
+    ) {
         (0, 1, 3, 0) | (0, 2, 1, 1) | (1, 0, 2, 1) => true,
         _ => false,
     }

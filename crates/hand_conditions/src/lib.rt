@@ -1,6 +1,7 @@
 //! Conditions on a hand of cards as a player says them, as `15-17 hcp, 5+ hearts, holds SK`. It
-//! builds on `card_sets` for hands, and on `byte_text` and `card_letters` for the text. Its contract
-//! promises what a text means, or the term that has no meaning; and which hands meet a condition.
+//! builds on `card_sets` for hands, and on `byte_text` and `card_letters` for the text. Its
+//! contract promises what a text means, or the term that has no meaning; and which hands meet a
+//! condition.
 #![tactic(auto)]
 
 mod condition;

@@ -1,12 +1,14 @@
 //! How a term is read.
 ghost use Rattle.std.specs.Prelude.{◌≡◌, []};
 ghost use Rattle.byte_text.specs.Blanks.{words};
-ghost use Rattle.hand_conditions.specs.Reading.{measure_named, card_named, cards_named, some_cards, term_read, count_term, balanced_term};
+ghost use Rattle.hand_conditions.specs.Reading.{measure_named, card_named, cards_named};
+ghost use Rattle.hand_conditions.specs.Reading.{some_cards, term_read, count_term};
+ghost use Rattle.hand_conditions.specs.Reading.{balanced_term};
 
 use crate::fault::TermFault;
 use crate::span::read_span;
 use crate::term::{Measure, Term};
-use byte_text::{are_blanks, first_word};
+use byte_text::first_word;
 use card_letters::read_card;
 use card_sets::{Card, CardSet, Suit};
 

@@ -23,7 +23,7 @@ pub at_places-append : (places : List ℕ) (first : ℕ) (xs ys : List Layout) �
 at_places-append places first [] ys = ap (λ n. at_places places n ys) (omega arith)
 at_places-append places first (x ∷ xs) ys =
     let later : at_places places (first + 1) (xs ++ ys) ≡ at_places places (first + 1) xs ++ at_places places (first + length (x ∷ xs)) ys =
-        at_places-append places (first + 1) xs ys ∙ ap (λ n. at_places places (first + 1) xs ++ at_places places n ys) (omega arith) in
+    at_places-append places (first + 1) xs ys ∙ ap (λ n. at_places places (first + 1) xs ++ at_places places n ys) (omega arith) in
     elim (cases_Bool (is_among places first)) [
       | inl one ↦ rw (one) (ap (λ zs. x ∷ zs) later)
       | inr none ↦ rw (none) later
@@ -56,7 +56,7 @@ fitting_from-split left right unseen hand with_card free rest card wanted fewer 
 -- ---- how many
 
 pub length-hands_more : (card wanted : ℕ) (free : List ℕ) → length (hands_of_size (suc wanted) (card ∷ free)) ≡ length (hands_of_size wanted free) + length (hands_of_size (suc wanted) free)
-length-hands_more card wanted free = 
+length-hands_more card wanted free =
     length-append (map (λ hand. card ∷ hand) (hands_of_size wanted free)) (hands_of_size (suc wanted) free)
     ∙ ap (λ n. n + length (hands_of_size (suc wanted) free)) (length-map (hands_of_size wanted free) (λ hand. card ∷ hand))
 

@@ -1,8 +1,8 @@
 //! Layouts drawn from those that fit.
-ghost use Rattle.std.specs.Prelude.{◌≡◌, ◌+◌, ◌≤◌, ◌<◌, ◌++◌, [], length, map, filter, AllPairs, IfOk, MatchResult};
+ghost use Rattle.std.specs.Prelude.{◌≡◌, ◌≤◌, ◌<◌, length, AllPairs, IfOk, MatchResult};
 ghost use Rattle.card_sets.specs.SetWords.{IsCardSet};
 ghost use Rattle.layout_maker.specs.Divisions.{most_unseen, IsMakeFaultOf};
-ghost use Rattle.layout_draw.specs.Fitting.{fits, at_places, fitting_made, IsDrawOf};
+ghost use Rattle.layout_draw.specs.Fitting.{at_places, fitting_made, IsDrawOf};
 ghost use Rattle.layout_draw.specs.Walks.{fitting_from};
 
 use crate::fitting::Conditions;
@@ -47,8 +47,8 @@ fn walked(alloc: Global, task: &Task<'_>, choices: &Choices) -> Result<Progress,
 /// takes all of them if there are fewer. The same seed draws the same layouts on every machine.
 ///
 /// They are different layouts of `all_layouts`, in that order. `count` is the exact number of
-/// layouts that fit. The fault is `NotShown` exactly when the board doesn't tell the unseen cards, and
-/// else `NoneFit` exactly when no layout fits. `Memory` may come in place of any answer.
+/// layouts that fit. The fault is `NotShown` exactly when the board doesn't tell the unseen cards,
+/// and else `NoneFit` exactly when no layout fits. `Memory` may come in place of any answer.
 pub fn draw_layouts(
     alloc: Global,
     board: &Board,

@@ -1,5 +1,6 @@
 //! A walk over the layouts that the play allows.
-ghost use Rattle.std.specs.Prelude.{◌≡◌, ◌+◌, ◌<◌, ◌++◌, ◌∷◌, ◌^◌, [], length, filter, AllPairs, OnOk};
+ghost use Rattle.std.specs.Prelude.{◌≡◌, ◌+◌, ◌<◌, ◌++◌, ◌∷◌, ◌^◌, []};
+ghost use Rattle.std.specs.Prelude.{length, filter, AllPairs, OnOk};
 ghost use Rattle.card_sets.specs.SetWords.{IsCardSet};
 ghost use Rattle.layout_maker.specs.Divisions.{hands_of_size, layout_with};
 ghost use Rattle.layout_draw.specs.Fitting.{fits, at_places};
@@ -58,8 +59,8 @@ impl Progress {
         Ok(())
     }
 
-    /// Takes the layouts in which Left has these cards and `wanted` of the free ones, those with the
-    /// first free card before those without it.
+    /// Takes the layouts in which Left has these cards and `wanted` of the free ones, those with
+    /// the first free card before those without it.
     pub fn walk(
         &mut self,
         task: &Task<'_>,

@@ -1,5 +1,6 @@
 //! Every layout of a board that the play allows.
-ghost use Rattle.std.specs.Prelude.{◌≡◌, ◌≤◌, [], Some, Ok, map, length, MatchOption, IfSome, MatchResult};
+ghost use Rattle.std.specs.Prelude.{◌≡◌, ◌≤◌, [], Some, Ok, map, length, MatchOption, IfSome};
+ghost use Rattle.std.specs.Prelude.{MatchResult};
 ghost use Rattle.card_sets.specs.SetWords.{IsCardSet};
 ghost use Rattle.pbn_deal.specs.Boards.{IsBoard};
 ghost use Rattle.pbn_deal.specs.BoardRead.{together};

@@ -1,4 +1,4 @@
-//! Layouts that are drawn: how many fit, which are drawn when all are asked for, and how often each.
+//! Layouts that are drawn: how many fit, which are drawn if all are asked for, and how often each.
 //! The counts were worked out by another program, which makes every division of the cards.
 use card_sets::{Card, CardSet};
 use hand_conditions::{Condition, read_condition};
@@ -173,7 +173,8 @@ fn tallies(alloc: Global) -> Result<[u32; 6], Fail> {
     Ok(tallies)
 }
 
-// Each is drawn by a third of the seeds: 333 times, and a standard deviation is 15. Six of them are 90.
+// Each is drawn by a third of the seeds: 333 times, and a standard deviation is 15. Six of them are
+// 90.
 #[test]
 fn each_layout_is_drawn_as_often(rt: HostRuntime) -> Result<(), Fail> {
     let tallies = tallies(rt.alloc())?;
