@@ -2,7 +2,7 @@
 use Rattle.std.specs.Prelude.{◌≡◌, ◌<◌, ◌==◌, ℕ, Bool, List, length, All, AllPairs}
 use Rattle.std.specs.List.{list_any}
 
--- so many different places of a list of this length, in order
+-- this many different places of a list of this length, in order
 pub record ArePlaces (size amount : ℕ) (places : List ℕ) : Type 0 where
   pub count : length places ≡ amount
   pub inside : All (λ place. place < size) places

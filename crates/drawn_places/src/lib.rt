@@ -1,5 +1,5 @@
-//! Places of a list drawn by chance: so many different ones, the same for the same seed. It builds
-//! on `rand`, whose generator makes the choice. Its contract promises how many places there are,
+//! Different places of a list drawn by chance, the same for the same seed. It builds on `rand`, whose
+//! generator makes the choice. Its contract promises how many places there are,
 //! that they differ, that each is one of the list, and their order; that each is as likely as
 //! another is only tested.
 #![tactic(auto)]
@@ -12,7 +12,7 @@ use rand_chacha::ChaCha8Rng;
 use rand_core::SeedableRng;
 use std::alloc::{AllocError, Global};
 
-/// So many different places of a list of this length, in order.
+/// `amount` different places of a list with `length` items, counted from 0 and in order.
 ///
 /// The seed decides which: the same seed gives the same places on every machine.
 pub fn draw_places(

@@ -40,13 +40,13 @@ fitting_made board left right = fitting_shown board left right board.unseen
 
 -- ---- those drawn
 
--- the layouts of a list that stand at these places, in the order of the list, whose first place has this number
+-- the layouts at these places of a list, in its order; its first place has this number
 abbrev pub at_places : List ℕ → ℕ → List Layout → List Layout
 at_places places first [] = []
 at_places places first (layout ∷ more) =
     if is_among places first then layout ∷ at_places places (first + 1) more else at_places places (first + 1) more
 
--- layouts drawn from a list: those at so many different places, or at all if there are fewer
+-- layouts drawn from a list: those at this many different places, or at all if there are fewer
 pub record AreDrawn (fitting : List Layout) (amount : ℕ) (drawn : List Layout) : Type 0 where
   pub places : List ℕ
   pub are_places : ArePlaces (length fitting) (min amount (length fitting)) places

@@ -6,7 +6,7 @@ use Rattle.layout_list.specs.declared.line.Layout.{Layout}
 use Rattle.layout_maker.specs.Divisions.{hands_of_size, layout_with}
 use Rattle.layout_draw.specs.Fitting.{fits}
 
--- the layouts in which Left has these cards and so many of the free ones
+-- the layouts in which Left has these cards and this many of the free ones
 abbrev pub layouts_from : List ℕ → List ℕ → ℕ → List ℕ → List Layout
 layouts_from unseen hand wanted free = map (λ more. layout_with unseen (together hand more)) (hands_of_size wanted free)
 

@@ -43,8 +43,8 @@ fn walked(alloc: Global, task: &Task<'_>, choices: &Choices) -> Result<Progress,
     Ok(progress)
 }
 
-/// Draws so many layouts of a board that the play and conditions on the defenders' hands allow, or
-/// takes all of them if there are fewer. The same seed draws the same layouts on every machine.
+/// Draws `amount` of the layouts of a board that the play and the conditions on the defenders'
+/// hands allow, or takes all of them if there are fewer. The same seed draws the same layouts on every machine.
 ///
 /// They are different layouts of `all_layouts`, in that order. `count` is the exact number of
 /// layouts that fit. The fault is `NotShown` exactly when the board doesn't tell the unseen cards,
