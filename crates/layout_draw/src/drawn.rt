@@ -44,10 +44,11 @@ fn walked(alloc: Global, task: &Task<'_>, choices: &Choices) -> Result<Progress,
 }
 
 /// Draws `amount` of the layouts of a board that the play and the conditions on the defenders'
-/// hands allow, or takes all of them if there are fewer. The same seed draws the same layouts on every machine.
+/// hands allow, or takes all of them if there are fewer. The same seed draws the same layouts on
+/// every machine.
 ///
 /// They are different layouts of `all_layouts`, in that order. `count` is the exact number of
-/// layouts that fit. The fault is `NotShown` exactly when the board doesn't tell the unseen cards,
+/// layouts that fit. The fault is `NotShown` exactly when the board doesn't show the unseen cards,
 /// and else `NoneFit` exactly when no layout fits. `Memory` may come in place of any answer.
 pub fn draw_layouts(
     alloc: Global,
