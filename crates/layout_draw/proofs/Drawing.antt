@@ -1,6 +1,6 @@
 -- What a draw gives.
-use Rattle.std.proofs.Common.{◌≡◌, ℕ, ◌+◌, ◌<◌, ◌≤◌, Option, None, Some, Result, Ok, Err, List, [], ◌∷◌, length, map, filter, refl, sym, ap, ap₂, ◌∙◌, subst, arith}
-use Rattle.std.specs.Prelude.{min, All}
+use Rattle.std.proofs.Common.{◌≡◌, ℕ, ◌<◌, None, Some, Result, Ok, Err, List, [], ◌∷◌, length, map, filter, refl, sym, ap, ◌∙◌, subst, arith}
+use Rattle.std.specs.Prelude.{min}
 use Rattle.hand_conditions.specs.declared.term.Term.{Term}
 use Rattle.pbn_deal.specs.Boards.{BoardValue}
 use Rattle.pbn_deal.specs.BoardRead.{together}

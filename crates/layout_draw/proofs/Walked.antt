@@ -1,5 +1,5 @@
 -- How the layouts of a walk are counted and kept.
-use Rattle.std.proofs.Common.{◌≡◌, ℕ, zero, suc, ◌+◌, ◌^◌, ◌<◌, ◌≤◌, Bool, true, false, not, cond, List, [], ◌∷◌, ◌++◌, length, map, filter, refl, sym, ap, ap₂, ◌∙◌, inl, inr, arith, length-append, append_assoc}
+use Rattle.std.proofs.Common.{◌≡◌, ℕ, suc, ◌+◌, ◌^◌, ◌<◌, ◌≤◌, Bool, not, List, [], ◌∷◌, ◌++◌, length, map, filter, refl, sym, ap, ap₂, ◌∙◌, inl, inr, arith, length-append}
 use Rattle.std.specs.Prelude.{◌==◌, ◌||◌}
 use Rattle.std.proofs.lemmas.Bool.{cases_Bool}
 use Rattle.std.proofs.lemmas.List.Elements.{filter-append}
@@ -11,7 +11,6 @@ use Rattle.hand_conditions.specs.declared.term.Term.{Term}
 use Rattle.layout_list.specs.declared.line.Layout.{Layout}
 use Rattle.drawn_places.specs.Places.{is_among}
 use Rattle.layout_maker.specs.Divisions.{most_unseen, hands_of_size, layout_with}
-use Rattle.layout_maker.specs.Choosing.{ways}
 use Rattle.layout_maker.proofs.Hands.{length-hands_of_size}
 use Rattle.layout_maker.proofs.Adding.{ways-small, layouts_of-one, layouts_of-none, layouts_of-more}
 use Rattle.layout_draw.specs.Fitting.{fits, at_places}

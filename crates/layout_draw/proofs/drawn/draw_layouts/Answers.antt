@@ -1,4 +1,4 @@
-use Rattle.std.proofs.Common.{◌∙◌, sym, ap, inr, arith, length}
+use Rattle.std.proofs.Common.{◌∙◌, sym, ap, inr, arith}
 use Rattle.layout_draw.specs.Walks.{fitting_from}
 use Rattle.layout_draw.specs.Fitting.{at_places}
 use Rattle.layout_draw.proofs.Drawing.{fitting-walked, fitting-none, made-none, made-counted_none, drawn-of}
