@@ -4,10 +4,10 @@ ghost use Rattle.strategy_tree.specs.PlanMeaning.{plan_of};
 ghost use Rattle.am_report.specs.Reading.{report_of};
 ghost use Rattle.page_text.specs.Verdicts.{begins_with as begins};
 ghost use Rattle.page_report.specs.ReportPages.{first_card as first_card_of};
-ghost use Rattle.page_report.specs.Named.{names_own_card as is_own};
+ghost use Rattle.page_report.specs.Named.{has_line, names_own_card as is_own};
 
 use crate::lines::first_card;
-use am_report::ReadReport;
+use am_report::{ReadEntry, ReadReport};
 use card_sets::Card;
 use strategy_tree::Plan;
 use trick_rules::Node;
@@ -22,15 +22,19 @@ fn begins_with(card: Card, plan: &Plan) -> bool
     }
 }
 
+// Whether one of the strategies does.
+fn has_line(card: Card, entries: &[ReadEntry]) -> bool
+    ensures { result ≡ has_line card entries.now }
+{
+    entries
+        .iter()
+        .any(|read| begins_with(card, &read.entry.plan))
+}
+
 /// Whether the card that a report names can be played at the node, and one of the report's
 /// strategies begins with it or stops before it.
 pub fn names_own_card(node: &Node, report: &ReadReport) -> bool
     ensures { result ≡ is_own node.now (report_of report.now) }
 {
-    let card = report.card;
-    node.choices().has(card)
-        && report
-            .entries
-            .iter()
-            .any(|read| begins_with(card, &read.entry.plan))
+    node.choices().has(report.card) && has_line(report.card, &report.entries)
 }
