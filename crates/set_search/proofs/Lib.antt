@@ -1,4 +1,5 @@
 pub mod Places
 pub mod OurCards
+pub mod Opened
 pub mod Replies
 pub mod Roots

@@ -1,7 +1,6 @@
 -- At declarer's turn: the cards tried so far, and the core that they leave.
-use Rattle.std.proofs.Common.{◌≡◌, ◌∙◌, ◌≤◌, ◌⊎◌, ℕ, zero, suc, true, false, is_some, List, [], ◌∷◌, length, replicate, get_or, Contains, refl, sym, ap, subst, inl, inr, ⊎_elim, arith}
+use Rattle.std.proofs.Common.{◌≡◌, ◌∙◌, ◌≤◌, ◌⊎◌, ℕ, zero, suc, true, false, is_some, List, [], ◌∷◌, length, get_or, Contains, refl, sym, ap, subst, inl, inr, ⊎_elim, arith}
 use Rattle.std.proofs.lemmas.Bool.{false≢true}
-use Rattle.std.proofs.lemmas.List.{length-replicate}
 use Rattle.card_sets.specs.SetWords.{has_card}
 use Rattle.win_vectors.specs.Vectors.{ones_of, either_of}
 use Rattle.win_vectors.specs.Fronts.{Vector, Dominates}
@@ -19,18 +18,16 @@ use Rattle.set_nodes.proofs.Parts.{first_layout, layout_of}
 use Rattle.set_nodes.proofs.Numbers.{keeps_numbers, is_part, layouts_in_part, some_layouts, width_below}
 use Rattle.set_nodes.proofs.Legal.{length-legal_at, legal_there}
 use Rattle.set_nodes.proofs.Won.{IsWon, won_in_part, won_by_card, lost_by_cards}
-use Rattle.set_nodes.proofs.Places.{HasOne, dominates_ones, one_at, one_within, no_one, meet_within}
-use Rattle.set_search.specs.Judged.{IsLostAt}
+use Rattle.set_nodes.proofs.Places.{HasOne, dominates_ones, one_at, one_within, meet_within}
+use Rattle.set_memo.specs.Known.{IsLostAt}
+use Rattle.set_search.specs.Judged.{AreAllMade}
+use Rattle.set_search.specs.Open.{own_legal, LostAfter, AreOpenCards}
 
 -- ---- cards
 
 -- a card of a list is its first or one of the others
 pub first_or_later : (card : ℕ) (later : List ℕ) (c : ℕ) → has_card (card ∷ later) c ≡ true → (card ≡ c) ⊎ (has_card later c ≡ true)
 first_or_later card later c h = ⊎_elim (λ (e : card ≡ c). inl e) (λ (k : Contains later c). inr (has_card-from_Contains later c k)) (Contains-cons card later c (Contains-from_has_card (card ∷ later) c h))
-
--- the legal cards of declarer's side, which don't depend on the layout
-abbrev pub own_legal : PositionValue → List ℕ
-own_legal t = legal_in (record { position = t; left = [] })
 
 own_in : (t : PositionValue) (left : List ℕ) (card : ℕ) → is_declarers (to_play t) ≡ true → is_legal t card left ≡ has_card (own_legal t) card
 own_in t left card ours = ap (λ (cards : List ℕ). has_card cards card) (legal_in-ours t left ours ∙ sym (legal_in-ours t [] ours))
@@ -48,6 +45,14 @@ choice_from_own n card ok ours own =
     let layout = layout_of n first.0 first.1 in
     what_is_legal_is_a_choice n card first.0 ok first.1
     (subst (λ (s : State). has_card (legal_in s) card ≡ true) layout.2 (own_in n.position layout.0 card ours ∙ own))
+
+-- the first of the rest is among the rest
+pub comes : (rest later : List ℕ) (card : ℕ) → rest ≡ card ∷ later → has_card rest card ≡ true
+comes rest later card first = ap (λ (cards : List ℕ). has_card cards card) first ∙ has_card-from_Contains (card ∷ later) card (Contains-here card later)
+
+-- and so is what comes after it
+pub before : (rest later : List ℕ) (card : ℕ) → rest ≡ card ∷ later → (c : ℕ) → has_card later c ≡ true → has_card rest c ≡ true
+before rest later card first c h = ap (λ (cards : List ℕ). has_card cards c) first ∙ has_card-from_Contains (card ∷ later) c (Contains-there card later c (Contains-from_has_card later c h))
 
 -- ---- after a card of declarer's side
 
@@ -78,17 +83,14 @@ module _ (layouts : List (List ℕ)) (t : PositionValue) (ours : is_declarers (t
 
 -- ---- the core so far
 
--- some of these layouts are a core after the card
-abbrev pub LostAfter : List (List ℕ) → PositionValue → ℕ → ℕ → Vector → Type 0
-LostAfter layouts t less card core = (part : Vector) × Dominates core part × IsLostAt layouts (after_card t card) less part
-
--- each card is still to come, or lost with these layouts
-pub record IsCoreSoFar (layouts : List (List ℕ)) (t : PositionValue) (less : ℕ) (chosen : Vector) (rest : List ℕ) (core : Vector) : Type 0 where
+-- of the cards that are tried, each is still to come, and double dummy makes each layout after it, or lost with these layouts
+pub record IsCoreSoFar (layouts : List (List ℕ)) (t : PositionValue) (less : ℕ) (chosen : Vector) (tried rest : List ℕ) (core : Vector) : Type 0 where
   pub within : Dominates chosen core
   pub to_come : (card : ℕ) → has_card rest card ≡ true → has_card (own_legal t) card ≡ true
-  pub each : (card : ℕ) → has_card (own_legal t) card ≡ true → (has_card rest card ≡ true) ⊎ LostAfter layouts t less card core
+  pub made : (card : ℕ) → has_card rest card ≡ true → AreAllMade (node_at layouts (after_card t card) chosen)
+  pub each : (card : ℕ) → has_card tried card ≡ true → (has_card rest card ≡ true) ⊎ LostAfter layouts t less card core
 
-either_ones : (u v : Vector) (k : ℕ) → HasOne (either_of u v) k → HasOne u k ⊎ HasOne v k
+pub either_ones : (u v : Vector) (k : ℕ) → HasOne (either_of u v) k → HasOne u k ⊎ HasOne v k
 either_ones [] v k h = absurd (false≢true h)
 either_ones (a ∷ u) [] k h = absurd (false≢true h)
 either_ones (true ∷ u) (b ∷ v) zero h = inl refl
@@ -96,14 +98,14 @@ either_ones (false ∷ u) (true ∷ v) zero h = inr refl
 either_ones (false ∷ u) (false ∷ v) zero h = absurd (false≢true h)
 either_ones (a ∷ u) (b ∷ v) (suc k) h = either_ones u v k h
 
-first_either : (u v : Vector) → length u ≡ length v → Dominates (either_of u v) u
+pub first_either : (u v : Vector) → length u ≡ length v → Dominates (either_of u v) u
 first_either [] v e = tt
 first_either (a ∷ u) [] e = absurd (omega (arith, e))
 first_either (true ∷ u) (b ∷ v) e = (tt, first_either u v (omega (arith, e)))
 first_either (false ∷ u) (true ∷ v) e = (tt, first_either u v (omega (arith, e)))
 first_either (false ∷ u) (false ∷ v) e = (tt, first_either u v (omega (arith, e)))
 
-second_either : (u v : Vector) → length u ≡ length v → Dominates (either_of u v) v
+pub second_either : (u v : Vector) → length u ≡ length v → Dominates (either_of u v) v
 second_either [] [] e = tt
 second_either [] (b ∷ v) e = absurd (omega (arith, e))
 second_either (a ∷ u) [] e = absurd (omega (arith, e))
@@ -111,65 +113,70 @@ second_either (true ∷ u) (b ∷ v) e = (tt, second_either u v (omega (arith, e
 second_either (false ∷ u) (true ∷ v) e = (tt, second_either u v (omega (arith, e)))
 second_either (false ∷ u) (false ∷ v) e = (tt, second_either u v (omega (arith, e)))
 
-module _ (layouts : List (List ℕ)) (t : PositionValue) (less : ℕ) (chosen : Vector) where
-  pub core_none : (rest : List ℕ) (core : Vector) → rest ≡ own_legal t → core ≡ replicate (length chosen) false → IsCoreSoFar layouts t less chosen rest core
-  core_none rest core all none = record {
-    within = dominates_ones chosen core (sym (ap (λ (v : Vector). length v) none ∙ length-replicate (length chosen) false))
-        (λ k h. absurd (no_one (length chosen) k (subst (λ (v : Vector). HasOne v k) none h)));
-    to_come = λ card h. sym (ap (λ (cards : List ℕ). has_card cards card) all) ∙ h;
-    each = λ card own. inl (ap (λ (cards : List ℕ). has_card cards card) all ∙ own);
+-- a set with one more layout or core in it
+pub either_within : (chosen core lost more : Vector) → more ≡ either_of core lost → Dominates chosen core → Dominates chosen lost → Dominates chosen more
+either_within chosen core lost more is within low =
+    let wide : length core ≡ length lost = sym (width_below chosen core within) ∙ width_below chosen lost low in
+    let above : Dominates more core = subst (λ (v : Vector). Dominates v core) (sym is) (first_either core lost wide) in
+    dominates_ones chosen more (width_below chosen core within ∙ sym (width_below more core above))
+    (λ k h. ⊎_elim (λ (old : HasOne core k). one_at chosen core k within old) (λ (new : HasOne lost k). one_at chosen lost k low new)
+    (either_ones core lost k (subst (λ (v : Vector). HasOne v k) is h)))
+
+module _ (layouts : List (List ℕ)) (t : PositionValue) (chosen : Vector) (tried : List ℕ) where
+  pub core_open : (less : ℕ) (open_cards : List ℕ) (core : Vector) → AreOpenCards layouts t chosen tried open_cards core → IsCoreSoFar layouts t less chosen tried open_cards core
+  core_open less open_cards core are = record {
+    within = are.within;
+    to_come = are.legal;
+    made = are.made;
+    each = λ card own. ⊎_elim (λ (yet : has_card open_cards card ≡ true). inl yet) (λ (gone : (less : ℕ) → LostAfter layouts t less card core). inr (gone less)) (are.each card own);
   }
 
-  pub core_more : (rest later : List ℕ) (card : ℕ) (core lost more : Vector) → rest ≡ card ∷ later → more ≡ either_of core lost → Dominates chosen lost
-      → IsLostAt layouts (after_card t card) less lost → IsCoreSoFar layouts t less chosen rest core → IsCoreSoFar layouts t less chosen later more
-  core_more rest later card core lost more first is low out so =
-      let wide : length core ≡ length lost = sym (width_below chosen core so.within) ∙ width_below chosen lost low in
-      let above : Dominates more core = subst (λ (v : Vector). Dominates v core) (sym is) (first_either core lost wide) in
-      let over : Dominates more lost = subst (λ (v : Vector). Dominates v lost) (sym is) (second_either core lost wide) in
-      record {
-        within = dominates_ones chosen more (width_below chosen core so.within ∙ sym (width_below more core above))
-            (λ k h. ⊎_elim (λ (old : HasOne core k). one_at chosen core k so.within old) (λ (new : HasOne lost k). one_at chosen lost k low new)
-            (either_ones core lost k (subst (λ (v : Vector). HasOne v k) is h)));
-        to_come = λ c h. so.to_come c (ap (λ (cards : List ℕ). has_card cards c) first ∙ has_card-from_Contains (card ∷ later) c (Contains-there card later c (Contains-from_has_card later c h)));
-        each = λ c own. ⊎_elim
-            (λ (yet : has_card rest c ≡ true). ⊎_elim
-            (λ (e : card ≡ c). inr (lost, over, subst (λ (x : ℕ). IsLostAt layouts (after_card t x) less lost) e out))
-            (λ (after : has_card later c ≡ true). inl after)
-            (first_or_later card later c (sym (ap (λ (cards : List ℕ). has_card cards c) first) ∙ yet)))
-            (λ (gone : LostAfter layouts t less c core). inr (gone.0, Dominates-trans more core gone.0 above gone.1, gone.2))
-            (so.each c own);
-      }
-
-  -- the card that comes next
-  pub next_ours : (rest later : List ℕ) (card : ℕ) (core : Vector) → rest ≡ card ∷ later → IsCoreSoFar layouts t less chosen rest core → has_card (own_legal t) card ≡ true
-  next_ours rest later card core first so = so.to_come card
-      (ap (λ (cards : List ℕ). has_card cards card) first ∙ has_card-from_Contains (card ∷ later) card (Contains-here card later))
-
-  module _ (are : AreLayoutsAt layouts t chosen) (ours : is_declarers (to_play t) ≡ true) (live : is_some (decided t) ≡ false) (rest : List ℕ) (core : Vector) (none : rest ≡ []) (so : IsCoreSoFar layouts t less chosen rest core) where
-    gone_after : (card : ℕ) → has_card (own_legal t) card ≡ true → LostAfter layouts t less card core
-    gone_after card own = ⊎_elim
-        (λ (yet : has_card rest card ≡ true). absurd (false≢true (ap (λ (cards : List ℕ). has_card cards card) (sym none) ∙ yet)))
-        (λ (gone : LostAfter layouts t less card core). gone) (so.each card own)
-
-    core_some : 1 ≤ ones_of core
-    core_some =
-        let n = node_at layouts t chosen in
-        let card = there_is_a_choice n are.node (going_on t live) in
-        let gone = gone_after card.0 (own_from_choice n card.0 are.node ours card.1) in
-        let some = some_layouts layouts (after_card t card.0) gone.0 gone.2.some in
-        let fewer = Dominates-ones core gone.0 gone.1 in
-        omega arith
-
-    pub core_all : IsLostAt layouts t (suc less) core
-    core_all =
-        let there = layouts_in_part layouts t chosen core are so.within core_some in
-        let n = node_at layouts t core in record {
-          some = there;
-          lost = lost_by_cards n less there.node live ours (λ card choice w.
-              let own = own_from_choice n card there.node ours choice in
-              let gone = gone_after card own in
-              let whole = layouts_after_ours layouts t ours core card there own in
-              gone.2.lost (won_in_part (node_at layouts (after_card t card) gone.0) (node_at layouts (after_card t card) core) less gone.2.some.node whole.node
-              (is_part layouts (after_card t card) core gone.0 gone.1)
-              (subst (λ (k : NodeValue). IsWon k less) (child_ours layouts t ours core card there.width own) w)));
+  module _ (less : ℕ) where
+    pub core_more : (rest later : List ℕ) (card : ℕ) (core lost more : Vector) → rest ≡ card ∷ later → more ≡ either_of core lost → Dominates chosen lost
+        → IsLostAt layouts (after_card t card) less lost → IsCoreSoFar layouts t less chosen tried rest core → IsCoreSoFar layouts t less chosen tried later more
+    core_more rest later card core lost more first is low out so =
+        let wide : length core ≡ length lost = sym (width_below chosen core so.within) ∙ width_below chosen lost low in
+        let above : Dominates more core = subst (λ (v : Vector). Dominates v core) (sym is) (first_either core lost wide) in
+        let over : Dominates more lost = subst (λ (v : Vector). Dominates v lost) (sym is) (second_either core lost wide) in
+        record {
+          within = either_within chosen core lost more is so.within low;
+          to_come = λ c h. so.to_come c (before rest later card first c h);
+          made = λ c h. so.made c (before rest later card first c h);
+          each = λ c own. ⊎_elim
+              (λ (yet : has_card rest c ≡ true). ⊎_elim
+              (λ (e : card ≡ c). inr (lost, over, subst (λ (x : ℕ). IsLostAt layouts (after_card t x) less lost) e out))
+              (λ (after : has_card later c ≡ true). inl after)
+              (first_or_later card later c (sym (ap (λ (cards : List ℕ). has_card cards c) first) ∙ yet)))
+              (λ (gone : LostAfter layouts t less c core). inr (gone.0, Dominates-trans more core gone.0 above gone.1, gone.2))
+              (so.each c own);
         }
+
+    module _ (enough : (card : ℕ) → has_card (own_legal t) card ≡ true → has_card tried card ≡ true) (are : AreLayoutsAt layouts t chosen) (ours : is_declarers (to_play t) ≡ true) (live : is_some (decided t) ≡ false)
+        (rest : List ℕ) (core : Vector) (none : rest ≡ []) (so : IsCoreSoFar layouts t less chosen tried rest core) where
+      gone_after : (card : ℕ) → has_card (own_legal t) card ≡ true → LostAfter layouts t less card core
+      gone_after card own = ⊎_elim
+          (λ (yet : has_card rest card ≡ true). absurd (false≢true (ap (λ (cards : List ℕ). has_card cards card) (sym none) ∙ yet)))
+          (λ (gone : LostAfter layouts t less card core). gone) (so.each card (enough card own))
+
+      core_some : 1 ≤ ones_of core
+      core_some =
+          let n = node_at layouts t chosen in
+          let card = there_is_a_choice n are.node (going_on t live) in
+          let gone = gone_after card.0 (own_from_choice n card.0 are.node ours card.1) in
+          let some = some_layouts layouts (after_card t card.0) gone.0 gone.2.some in
+          let fewer = Dominates-ones core gone.0 gone.1 in
+          omega arith
+
+      pub core_all : IsLostAt layouts t (suc less) core
+      core_all =
+          let there = layouts_in_part layouts t chosen core are so.within core_some in
+          let n = node_at layouts t core in record {
+            some = there;
+            lost = lost_by_cards n less there.node live ours (λ card choice w.
+                let own = own_from_choice n card there.node ours choice in
+                let gone = gone_after card own in
+                let whole = layouts_after_ours layouts t ours core card there own in
+                gone.2.lost (won_in_part (node_at layouts (after_card t card) gone.0) (node_at layouts (after_card t card) core) less gone.2.some.node whole.node
+                (is_part layouts (after_card t card) core gone.0 gone.1)
+                (subst (λ (k : NodeValue). IsWon k less) (child_ours layouts t ours core card there.width own) w)));
+          }

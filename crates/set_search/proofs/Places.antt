@@ -1,5 +1,5 @@
 -- Layouts of a set, judged by double dummy.
-use Rattle.std.proofs.Common.{◌≡◌, ◌∙◌, ◌<◌, ◌||◌, ◌==◌, ℕ, zero, suc, Bool, true, false, is_some, List, [], length, replicate, get_or, set, Contains, refl, sym, ap, subst, true≢false, ⊎_elim, arith}
+use Rattle.std.proofs.Common.{◌≡◌, ◌∙◌, ◌<◌, ◌||◌, ◌==◌, ℕ, zero, suc, Bool, true, false, is_some, Option, None, Some, IfSome, List, [], length, replicate, get_or, set, Contains, refl, sym, ap, subst, true≢false, ⊎_elim, arith}
 use Rattle.std.proofs.lemmas.Bool.{false≢true}
 use Rattle.std.proofs.lemmas.List.{length-replicate, length-set}
 use Rattle.std.proofs.lemmas.List.Elements.{All-contains}
@@ -13,10 +13,11 @@ use Rattle.strategy_games.proofs.Lists.{Contains-map, Contains-of_map}
 use Rattle.strategy_tree.proofs.BridgeNodes.{stops-bridge}
 use Rattle.set_nodes.specs.SetNodes.{still_held, node_at, AreLayoutsAt}
 use Rattle.set_nodes.proofs.Parts.{layout_of, state_among}
-use Rattle.set_nodes.proofs.Numbers.{layouts_in_part, length-node_at}
+use Rattle.set_nodes.proofs.Numbers.{is_part, layouts_in_part, length-node_at}
 use Rattle.set_nodes.proofs.Won.{IsWon, won_makes, won_stop, won_one}
-use Rattle.set_nodes.proofs.Places.{HasOne, dominates_ones, one_within, some_ones, no_one, set_there, set_from, picked_at, picked_from}
-use Rattle.set_search.specs.Judged.{stops_here, makes_there, AreAllMade, IsLostPlace, IsLostAt}
+use Rattle.set_nodes.proofs.Places.{HasOne, dominates_ones, one_at, one_within, some_ones, no_one, set_there, set_from, picked_at, picked_from}
+use Rattle.set_memo.specs.Known.{IsLostAt}
+use Rattle.set_search.specs.Judged.{stops_here, makes_there, AreAllMade, IsLostPlace}
 
 -- ---- what goes on
 
@@ -56,6 +57,13 @@ module _ (layouts : List (List ℕ)) (t : PositionValue) (chosen : Vector) (are 
       subst (λ (x : State). makes x ≡ true) layout.2
       (subst (λ (left : List ℕ). makes (record { position = t; left = left }) ≡ true) same (each place.0 place.1))
 
+  -- what is made is made in part
+  pub made_in_part : (part : Vector) → Dominates chosen part → AreAllMade (node_at layouts t chosen) → AreAllMade (node_at layouts t part)
+  made_in_part part d each s among =
+      let layout = layout_of (node_at layouts t part) s among in
+      subst (λ (x : State). makes x ≡ true) layout.2
+      (each (record { position = t; left = layout.0 }) (state_among (node_at layouts t chosen) layout.0 ((is_part layouts t chosen part d).layouts layout.0 layout.1)))
+
   -- ---- verdicts
 
   pub won_where_stopped : (m : ℕ) → stops_here t m ≡ true → AreAllMade (node_at layouts t chosen) → IsWon (node_at layouts t chosen) m
@@ -90,3 +98,11 @@ core_alone layouts t chosen are place lost only is m =
       lost = λ w. false≢true (sym lost.lost ∙ won_makes (node_at layouts t only) m there.node w (record { position = t; left = still_held t (get_or layouts place []) })
           (state_there layouts t only there place (only_here layouts t chosen are place lost only is)));
     }
+
+-- a layout that is lost in part is lost in the whole
+pub lost_in_part : (layouts : List (List ℕ)) (t : PositionValue) (chosen part : Vector) (place : ℕ) → Dominates chosen part → IsLostPlace layouts t part place → IsLostPlace layouts t chosen place
+lost_in_part layouts t chosen part place d lost = record { chosen = one_at chosen part place d lost.chosen; lost = lost.lost }
+
+pub if_some : {X : Type 0} (P Q : X → Type 0) → ((x : X) → P x → Q x) → (o : Option X) → IfSome o P → IfSome o Q
+if_some P Q f None h = tt
+if_some P Q f (Some x) h = f x h

@@ -1,5 +1,5 @@
 -- At a defender's turn: the cards that he may play, one after the other.
-use Rattle.std.proofs.Common.{◌≡◌, ◌∙◌, ◌≤◌, ◌⊎◌, ℕ, suc, true, false, is_some, List, [], ◌∷◌, length, get_or, Contains, refl, sym, ap, subst, inl, inr, ⊎_elim, true≢false, arith}
+use Rattle.std.proofs.Common.{◌≡◌, ◌∙◌, ◌≤◌, ◌⊎◌, ℕ, suc, true, false, is_some, List, [], length, get_or, Contains, refl, sym, ap, subst, inl, inr, ⊎_elim, true≢false, arith}
 use Rattle.std.proofs.lemmas.Bool.{false≢true}
 use Rattle.std.specs.List.{items_where_true}
 use Rattle.card_sets.specs.declared.seat.Seat.{Seat}
@@ -8,10 +8,11 @@ use Rattle.card_sets.specs.SetWords.{has_card}
 use Rattle.win_vectors.specs.Vectors.{ones_of, meet_of}
 use Rattle.win_vectors.specs.Fronts.{Vector, Dominates}
 use Rattle.trick_rules.specs.Positions.{PositionValue, to_play}
-use Rattle.trick_rules.specs.Play.{after_card, decided, is_declarers, held_by, CanPlay}
-use Rattle.trick_rules.specs.Nodes.{NodeValue, IsNode, choices, child}
+use Rattle.trick_rules.specs.Play.{makes, after_card, decided, is_declarers, held_by, CanPlay}
+use Rattle.trick_rules.specs.Nodes.{NodeValue, IsNode, states, choices, child}
 use Rattle.trick_rules.proofs.PlayLaws.{what_is_legal_is_a_choice, a_choice_can_be_played, a_choice_leads_to_a_node}
 use Rattle.strategy_games.proofs.Lists.{Contains-map}
+use Rattle.strategy_tree.proofs.CardLists.{has_card-from_Contains, Contains-from_has_card}
 use Rattle.strategy_games.proofs.Vectors.{Dominates-trans}
 use Rattle.set_nodes.specs.SetNodes.{still_held, node_at, AreLayoutsAt, legal_at}
 use Rattle.set_nodes.proofs.Parts.{state_among}
@@ -19,8 +20,12 @@ use Rattle.set_nodes.proofs.Numbers.{keeps_numbers, layouts_in_part, some_layout
 use Rattle.set_nodes.proofs.Legal.{length-legal_at, legal_there}
 use Rattle.set_nodes.proofs.Won.{IsWon, won_by_replies, lost_by_reply}
 use Rattle.set_nodes.proofs.Places.{HasOne, dominates_ones, one_at, one_within, some_place, meet_ones, meet_within, length-meet, picked_at}
-use Rattle.set_search.specs.Judged.{IsLostAt}
-use Rattle.set_search.proofs.OurCards.{first_or_later}
+use Rattle.alphamu_core.specs.Kept.{IsTaken}
+use Rattle.alphamu_core.specs.declared.known.Known.TheVariants as Known
+use Rattle.alphamu_core.proofs.Inherited.{known_theirs}
+use Rattle.strategy_games.proofs.Lists.{All-at, All-from}
+use Rattle.set_memo.specs.Known.{IsLostAt}
+use Rattle.set_search.specs.Judged.{AreAllMade}
 
 held_theirs : (t : PositionValue) (seat : Seat) → is_declarers seat ≡ false → held_by t seat ≡ t.unseen
 held_theirs t Declarer theirs = absurd (true≢false theirs)
@@ -62,6 +67,13 @@ module _ (layouts : List (List ℕ)) (t : PositionValue) (chosen : Vector) (are 
 
   pub can_play_theirs : 1 ≤ ones_of kept → CanPlay t card
   can_play_theirs some = a_choice_can_be_played (node_at layouts t chosen) card are.node (kept_choice some)
+
+  -- against the defenders what is made is made still
+  pub made_after_theirs : is_declarers (to_play t) ≡ false → is_some (decided t) ≡ false → 1 ≤ ones_of kept → AreAllMade (node_at layouts t chosen) → AreAllMade (node_at layouts (after_card t card) kept)
+  made_after_theirs theirs live some each =
+      let n = node_at layouts t chosen in
+      All-at (λ s. makes s ≡ true) (states (node_at layouts (after_card t card) kept))
+      (known_theirs n card are.node live theirs (node_at layouts (after_card t card) kept) Known.AllMade (sym child_theirs) (All-from (λ s. makes s ≡ true) (states n) each))
 
   kept_within : Dominates chosen kept
   kept_within = dominates_ones chosen kept (are.width ∙ sym kept_width) (λ k h. (meet_ones chosen (legal_at layouts t card) k (subst (λ (v : Vector). HasOne v k) is h)).0)
@@ -113,14 +125,14 @@ module _ (layouts : List (List ℕ)) (t : PositionValue) (m : ℕ) (chosen : Vec
     each = λ card choice. inl (subst (λ (cards : List ℕ). has_card cards card ≡ true) (held_theirs t (to_play t) theirs) (a_choice_can_be_played (node_at layouts t chosen) card are.node choice));
   }
 
-  pub replies_more : (rest later : List ℕ) (card : ℕ) → rest ≡ card ∷ later → (has_card (choices (node_at layouts t chosen)) card ≡ true → IsWon (child (node_at layouts t chosen) card) m)
+  pub replies_more : (rest later : List ℕ) (card : ℕ) → IsTaken rest card later → (has_card (choices (node_at layouts t chosen)) card ≡ true → IsWon (child (node_at layouts t chosen) card) m)
       → AreWonSoFar layouts t m chosen rest → AreWonSoFar layouts t m chosen later
-  replies_more rest later card first won so = record {
+  replies_more rest later card taken won so = record {
     each = λ c choice. ⊎_elim
         (λ (yet : has_card rest c ≡ true). ⊎_elim
-        (λ (e : card ≡ c). inr (subst (λ (x : ℕ). IsWon (child (node_at layouts t chosen) x) m) e (won (subst (λ (x : ℕ). has_card (choices (node_at layouts t chosen)) x ≡ true) (sym e) choice))))
-        (λ (after : has_card later c ≡ true). inl after)
-        (first_or_later card later c (sym (ap (λ (cards : List ℕ). has_card cards c) first) ∙ yet)))
+        (λ (e : c ≡ card). inr (subst (λ (x : ℕ). IsWon (child (node_at layouts t chosen) x) m) (sym e) (won (subst (λ (x : ℕ). has_card (choices (node_at layouts t chosen)) x ≡ true) e choice))))
+        (λ (after : Contains later c). inl (has_card-from_Contains later c after))
+        (taken.others c (Contains-from_has_card rest c yet)))
         (λ (w : IsWon (child (node_at layouts t chosen) c) m). inr w)
         (so.each c choice);
   }

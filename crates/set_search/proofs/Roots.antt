@@ -12,10 +12,10 @@ use Rattle.winnable_sets.specs.Sets.{IsWinnable}
 use Rattle.set_nodes.specs.SetNodes.{node_at, AreLayoutsAt}
 use Rattle.set_nodes.proofs.Numbers.{part-there, length-node_at, width_below}
 use Rattle.set_nodes.proofs.Won.{sets, won_set}
-use Rattle.set_search.specs.declared.verdict.Verdict.{Verdict}
-use Rattle.set_search.specs.declared.verdict.Verdict.TheVariants.{Won, Core}
+use Rattle.set_memo.specs.declared.verdict.Verdict.{Verdict}
+use Rattle.set_memo.specs.declared.verdict.Verdict.TheVariants.{Won, Core}
 use Rattle.set_search.specs.Verdicts.{IsSetVerdict}
-use Rattle.set_search.specs.Walks.{IsVerdictAt}
+use Rattle.set_memo.specs.Known.{IsVerdictAt}
 
 pub if_ok : {T E : Type 0} (P Q : T → Type 0) → ((x : T) → P x → Q x) → (r : Result T E) → IfOk r P → IfOk r Q
 if_ok P Q f (Ok x) h = f x h

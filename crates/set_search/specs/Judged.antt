@@ -4,9 +4,7 @@ use Rattle.win_vectors.specs.Fronts.{Vector}
 use Rattle.trick_rules.specs.Positions.{PositionValue, State}
 use Rattle.trick_rules.specs.Play.{makes, decided}
 use Rattle.trick_rules.specs.Nodes.{NodeValue, states}
-use Rattle.strategy_tree.specs.Bridge.{bridge}
-use Rattle.winnable_sets.specs.Sets.{IsWonThroughout}
-use Rattle.set_nodes.specs.SetNodes.{still_held, node_at, AreLayoutsAt}
+use Rattle.set_nodes.specs.SetNodes.{still_held}
 
 -- plans stop here: no moves are left, or the result is decided
 abbrev pub stops_here : PositionValue → ℕ → Bool
@@ -24,8 +22,3 @@ makes_there layouts t place = makes (record { position = t; left = still_held t 
 pub record IsLostPlace (layouts : List (List ℕ)) (t : PositionValue) (set : Vector) (place : ℕ) : Type 0 where
   pub chosen : get_or set place false ≡ true
   pub lost : makes_there layouts t place ≡ false
-
--- some of the layouts, which no strategy wins together
-pub record IsLostAt (layouts : List (List ℕ)) (t : PositionValue) (moves : ℕ) (core : Vector) : Type 0 where
-  pub some : AreLayoutsAt layouts t core
-  pub lost : IsWonThroughout bridge (node_at layouts t core) moves → ⊥

@@ -1,3 +1,4 @@
 pub mod Judged
 pub mod Verdicts
 pub mod Walks
+pub mod Open

@@ -4,8 +4,8 @@ use Rattle.win_vectors.specs.Fronts.{Vector, Dominates}
 use Rattle.trick_rules.specs.Nodes.{NodeValue}
 use Rattle.strategy_tree.specs.Bridge.{bridge}
 use Rattle.winnable_sets.specs.Sets.{IsWinnable, IsCore}
-use Rattle.set_search.specs.declared.verdict.Verdict.{Verdict}
-use Rattle.set_search.specs.declared.verdict.Verdict.TheVariants.{Won, Core}
+use Rattle.set_memo.specs.declared.verdict.Verdict.{Verdict}
+use Rattle.set_memo.specs.declared.verdict.Verdict.TheVariants.{Won, Core}
 
 -- one strategy with these moves wins each layout of the set; or these layouts, some of the set, are a core
 abbrev pub IsSetVerdict : NodeValue → ℕ → Vector → Verdict → Type 0

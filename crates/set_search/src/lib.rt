@@ -1,12 +1,13 @@
 //! Is this set of layouts winnable by one strategy? A search that answers by yes or no, and gives a
 //! core if the answer is no.
-//! It builds on `set_nodes` for the laws, on `dd_solver` for double dummy, and on the budget of
-//! `alphamu_core`.
+//! It builds on `set_nodes` for the laws, on `set_memo` for what it has found already, on `dd_solver`
+//! for double dummy, and on the budget of `alphamu_core`.
 #![tactic(auto)]
 
 mod judge;
+mod open_cards;
+mod reply_order;
 mod search;
-mod verdict;
 
 pub use search::SetSearch;
-pub use verdict::Verdict;
+pub use set_memo::{SetMemo, Verdict};

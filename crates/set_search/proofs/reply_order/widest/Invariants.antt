@@ -1,0 +1,9 @@
+use Rattle.std.proofs.Common.{◌≡◌, true, length}
+use Rattle.card_sets.specs.SetWords.{has_card}
+use Rattle.set_search.proofs.reply_order.widest.Given as goal
+
+abbrev pub invariant-loop-card : goal.invariant-loop-card
+invariant-loop-card l = has_card l.fn.cards l.best ≡ true
+
+abbrev pub decreases-loop-card : goal.decreases-loop-card
+decreases-loop-card l = length l.rest

@@ -1,0 +1,61 @@
+//! A defender's cards, in the order in which they are tried.
+ghost use Rattle.std.specs.Prelude.{◌≡◌, true, [], length, MatchOption};
+ghost use Rattle.card_sets.specs.SetWords.{has_card};
+ghost use Rattle.alphamu_core.specs.Kept.{IsTaken};
+
+use card_sets::{Card, CardSet};
+use set_nodes::left_at;
+use trick_rules::Position;
+use win_vectors::WinVector;
+
+/// For each card, in how many layouts of a set it is legal.
+///
+/// No clause: no law depends on the order in which cards are tried.
+pub(crate) fn legal_counts(layouts: &[CardSet], position: &Position, set: WinVector) -> [u16; 52]
+    requires { length set ≡ length layouts.now }
+{
+    let mut counts = [0u16; 52];
+    for place in 0..set.width() {
+        if set.get(place) {
+            let legal = position.legal_in(left_at(layouts, position, place));
+            count_each(legal, &mut counts);
+        }
+    }
+    counts
+}
+
+// One layout more for each of these cards. No clause, for the same reason.
+fn count_each(cards: CardSet, counts: &mut [u16; 52]) {
+    let mut rest = cards;
+    while let Some(card) = rest.pop_first() {
+        let place = usize::from(card.number());
+        counts[place] = counts[place].saturating_add(1);
+    }
+}
+
+// The card with the highest count, of several the highest card.
+fn widest(cards: CardSet, counts: &[u16; 52], highest: Card) -> Card
+    requires { has_card cards highest ≡ true }
+    ensures { has_card cards result ≡ true }
+{
+    let mut best = highest;
+    let mut rest = cards;
+    while let Some(card) = rest.pop_first() {
+        let more = counts[usize::from(card.number())] >= counts[usize::from(best.number())];
+        if cards.has(card) && more {
+            best = card;
+        }
+    }
+    best
+}
+
+/// Takes out the card with the highest count, of several the highest card.
+pub(crate) fn take_widest(cards: &mut CardSet, counts: &[u16; 52]) -> Option<Card>
+    ensures taken { MatchOption result ((cards.old ≡ []) × (cards.new ≡ []))
+        (λ card. IsTaken cards.old card cards.new) }
+{
+    let highest = cards.last()?;
+    let card = widest(*cards, counts, highest);
+    *cards = cards.without(card);
+    Some(card)
+}
