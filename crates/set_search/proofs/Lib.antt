@@ -3,3 +3,4 @@ pub mod OurCards
 pub mod Opened
 pub mod Replies
 pub mod Roots
+pub mod Valued

@@ -2,3 +2,4 @@ pub mod Judged
 pub mod Verdicts
 pub mod Walks
 pub mod Open
+pub mod Values

@@ -8,6 +8,8 @@ mod judge;
 mod open_cards;
 mod reply_order;
 mod search;
+mod value;
 
 pub use search::SetSearch;
 pub use set_memo::{SetMemo, Verdict};
+pub use value::SetValue;

@@ -2,8 +2,8 @@
 use crate::endings::{LEFT, ending, spades};
 use alphamu_core::Budget;
 use dd_solver::Solver;
-use set_search::{SetSearch, Verdict};
-use std::alloc::Global;
+use set_search::{SetMemo, SetSearch, Verdict};
+use std::alloc::{AllocError, Global};
 use std::test::Fail;
 use trick_rules::Node;
 use win_vectors::WinVector;
@@ -12,15 +12,34 @@ use win_vectors::WinVector;
 const OTHER: [u8; 2] = [3, 12];
 
 // Whether one strategy wins all layouts of a node. It never runs out of these nodes.
-fn is_won(alloc: Global, node: &Node) -> bool {
+fn is_won(alloc: Global, node: &Node) -> Result<bool, AllocError> {
     let mut solver = Solver::new(alloc);
     let mut budget = Budget::new(1_000);
+    let mut memo = SetMemo::new(alloc, node, 64)?;
     let mut search = SetSearch {
         solver: &mut solver,
         budget: &mut budget,
+        memo: &mut memo,
     };
     let answer = search.is_winnable(node, 26, WinVector::all(node.width()));
-    matches!(&answer, Ok(Verdict::Won))
+    Ok(matches!(&answer, Ok(Verdict::Won)))
+}
+
+// How many positions a second question enters, after the same question was answered once.
+fn entered_again(alloc: Global, node: &Node) -> Result<u64, AllocError> {
+    let mut solver = Solver::new(alloc);
+    let mut budget = Budget::new(1_000);
+    let mut memo = SetMemo::new(alloc, node, 64)?;
+    let mut search = SetSearch {
+        solver: &mut solver,
+        budget: &mut budget,
+        memo: &mut memo,
+    };
+    let all = WinVector::all(node.width());
+    let _ = search.is_winnable(node, 26, all);
+    let before = search.budget.left();
+    let _ = search.is_winnable(node, 26, all);
+    Ok(before.saturating_sub(search.budget.left()))
 }
 
 // One trick is needed. The king makes it if Left has the queen, and the jack if he has the ace.
@@ -36,8 +55,10 @@ fn the_king_or_the_jack(rt: HostRuntime) -> Result<(), Fail> {
     let with_queen = Node::new(alloc, position.copy(), [queen].as_slice())?;
     let with_ace = Node::new(alloc, position.copy(), [ace].as_slice())?;
     let with_either = Node::new(alloc, position, [queen, ace].as_slice())?;
-    assert!(rt; is_won(alloc, &with_queen));
-    assert!(rt; is_won(alloc, &with_ace));
-    assert!(rt; !is_won(alloc, &with_either));
+    assert!(rt; is_won(alloc, &with_queen)?);
+    assert!(rt; is_won(alloc, &with_ace)?);
+    assert!(rt; !is_won(alloc, &with_either)?);
+    // The memo answers it the second time.
+    assert!(rt; entered_again(alloc, &with_either)? == 1);
     Ok(())
 }
