@@ -6,7 +6,7 @@ use set_search::{SetMemo, SetSearch, Verdict};
 use std::alloc::{AllocError, Global};
 use std::test::Fail;
 use trick_rules::Node;
-use win_vectors::WinVector;
+use win_vectors::{Weights, WinVector};
 
 // Left's hand with the ace in place of the queen: SA S5.
 const OTHER: [u8; 2] = [3, 12];
@@ -42,8 +42,24 @@ fn entered_again(alloc: Global, node: &Node) -> Result<u64, AllocError> {
     Ok(before.saturating_sub(search.budget.left()))
 }
 
-// One trick is needed. The king makes it if Left has the queen, and the jack if he has the ace.
-// Right plays the seven in both, so no strategy wins both.
+// In how many layouts of a node one strategy wins, if the search ends with the exact value.
+fn value(alloc: Global, node: &Node, nodes: u64) -> Result<Option<u32>, AllocError> {
+    let mut solver = Solver::new(alloc);
+    let mut budget = Budget::new(nodes);
+    let mut memo = SetMemo::new(alloc, node, 64)?;
+    let mut search = SetSearch {
+        solver: &mut solver,
+        budget: &mut budget,
+        memo: &mut memo,
+    };
+    match search.value(alloc, node, 26, &Weights::equal(node.width())) {
+        Ok(found) if found.least == found.most => Ok(Some(found.least)),
+        _ => Ok(None),
+    }
+}
+
+// One trick is needed. The king makes it if Left has the queen, and the jack if he has the ace. Right
+// plays the seven in both, so no strategy wins both.
 #[test]
 fn the_king_or_the_jack(rt: HostRuntime) -> Result<(), Fail> {
     let alloc = rt.alloc();
@@ -58,6 +74,9 @@ fn the_king_or_the_jack(rt: HostRuntime) -> Result<(), Fail> {
     assert!(rt; is_won(alloc, &with_queen)?);
     assert!(rt; is_won(alloc, &with_ace)?);
     assert!(rt; !is_won(alloc, &with_either)?);
+    assert!(rt; value(alloc, &with_queen, 1_000)? == Some(1));
+    assert!(rt; value(alloc, &with_either, 1_000)? == Some(1));
+    assert!(rt; value(alloc, &with_either, 1)?.is_none());
     // The memo answers it the second time.
     assert!(rt; entered_again(alloc, &with_either)? == 1);
     Ok(())
