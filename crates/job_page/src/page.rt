@@ -41,10 +41,7 @@ fn judge_card(
     if cards.is_some() || names_own_card(&root.kept.node, report) {
         Ok(())
     } else {
-        Err(Status::BadReport(
-            card_line(bytes.bytes()),
-            ReportKind::Card,
-        ))
+        Err(Status::BadReport(card_line(bytes.bytes()), ReportKind::Card))
     }
 }
 

@@ -6,7 +6,7 @@ use crate::endings::{after, guess};
 use crate::gates::Count;
 use am_outside::{Gate, OpenGate};
 use card_sets::Card;
-use root_workers::{Options, Outcome, RootFront, Stored, root_card, root_front};
+use root_workers::{Options, Outcome, RootCard, RootFront, Stored, root_card, root_front};
 use shared_table::{Pass, SharedTable};
 use std::alloc::Global;
 use std::process::Abort;
@@ -55,6 +55,29 @@ fn front_of<R: Threads + Abort + Sync, G: Gate>(
     assert!(rt; node.is_ours() && !node.position().over() && weights.width() == node.width());
     assert!(rt; 1 <= moves && moves <= 26 && 1 <= options.workers && options.workers <= 64);
     Ok(root_front(
+        rt, alloc, node, moves, &weights, &options, table, pass, gate,
+    )?)
+}
+
+// The card to play there, and its weight.
+fn card_of<R: Threads + Abort + Sync, G: Gate>(
+    rt: &R,
+    alloc: Global,
+    asked: &Asked<'_>,
+    table: &SharedTable,
+    pass: &mut Pass,
+    gate: &G,
+) -> Result<RootCard, Fail>
+    requires { IsPassOf table.now pass.old }
+    ensures { IsPassOf table.now pass.new }
+{
+    let node = asked.node;
+    let moves = asked.moves;
+    let options = asked.options();
+    let weights = Weights::equal(node.width());
+    assert!(rt; node.is_ours() && !node.position().over() && weights.width() == node.width());
+    assert!(rt; 1 <= moves && moves <= 26 && 1 <= options.workers && options.workers <= 64);
+    Ok(root_card(
         rt, alloc, node, moves, &weights, &options, table, pass, gate,
     )?)
 }
@@ -120,15 +143,9 @@ fn the_weight_stops_the_loop(rt: HostRuntime) -> Result<(), Fail> {
         nodes: 10,
         cuts: true,
     };
-    let weights = Weights::equal(node.width());
-    assert!(rt; node.is_ours() && !node.position().over() && weights.width() == node.width());
-    let options = asked.options();
-    assert!(rt; options.workers == 1);
     let (table, mut pass) = SharedTable::new(alloc, 1, 64)?;
     let gate = Count::new();
-    let found = root_card(
-        &rt, alloc, &node, 2, &weights, &options, &table, &mut pass, &gate,
-    )?;
+    let found = card_of(&rt, alloc, &asked, &table, &mut pass, &gate)?;
     assert!(rt; found.card == Card::from_number(9) && found.weight == 1);
     assert_eq!(rt; gate.entered(), 3);
     Ok(())
