@@ -534,6 +534,10 @@ def main():
     parser.add_argument("--seconds", type=float, default=300)
     parser.add_argument("--only", default="*", metavar="PATTERN")
     given = parser.parse_args()
+    # A shell has what it starts in the background ignore these signals, and so would all that is started here.
+    for it in signal.SIGINT, signal.SIGQUIT, signal.SIGHUP:
+        if signal.getsignal(it) == signal.SIG_IGN:
+            signal.signal(it, signal.SIG_DFL)
     lacking = cases.lacks_program()
     if lacking:
         print(f"odd places: {lacking}")
