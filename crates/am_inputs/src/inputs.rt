@@ -30,9 +30,10 @@ fn limit_of(file: FileWord) -> u64
     }
 }
 
-// The bytes of a file.
+/// The bytes of a file. Errors: `Unread` if it isn't there or reading it fails; `TooLong` if it has
+/// more bytes than such a file may have; `Memory`.
 #[tactic(auto, unfolding(am_answer::specs::Files::file_read))]
-pub(crate) fn read_file<S: Shelf>(
+pub fn read_file<S: Shelf>(
     alloc: Global,
     shelf: &mut S,
     file: FileWord,

@@ -10,5 +10,5 @@ mod inputs;
 mod root;
 
 pub use boards::read_roots;
-pub use inputs::{read_inputs, read_named};
+pub use inputs::{read_file, read_inputs, read_named};
 pub use root::{read_deal, read_root};

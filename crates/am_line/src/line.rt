@@ -15,8 +15,8 @@ use itoa::Buffer;
 use layout_list::LayoutFault;
 use layout_maker::MakeFault;
 
-// Writes pieces one after another, up to the first fault.
-fn write_pieces<O: Sink>(out: &mut O, pieces: &[&[u8]]) -> Result<(), SinkFailed>
+/// Writes pieces one after another, up to the first fault.
+pub(crate) fn write_pieces<O: Sink>(out: &mut O, pieces: &[&[u8]]) -> Result<(), SinkFailed>
     ensures written { IsWritten (O.told out.old) (joined_pieces (map (λ p. p.now) pieces.now))
         (O.told out.new) result }
     ensures failed { OnErr result (Rose (O.faults out.old) (O.faults out.new)) }

@@ -8,15 +8,15 @@ use Rattle.clap.specs.declared.error.Error.{Error}
 use Rattle.clap.specs.declared.error.kind.ErrorKind.{ErrorKind}
 use Rattle.clap.specs.declared.error.kind.ErrorKind.TheVariants.{OutOfMemory}
 use Rattle.clap.proofs.OnLiterals.{clap_on_literals}
-use Rattle.job_words.specs.Command.{option_command, value_command}
+use Rattle.job_words.specs.Command.{list_command, option_command, value_command}
 use Rattle.job_words.specs.Options.{options_at, options_read}
 
 is_plain : is_simple option_command ≡ true
-unfolding option_command value_command clap_on_literals
+unfolding option_command list_command value_command clap_on_literals
 is_plain = refl
 
 is_free : is_simple_and_free option_command ≡ true
-unfolding option_command value_command clap_on_literals
+unfolding option_command list_command value_command clap_on_literals
 is_free = refl
 
 -- words that clap takes

@@ -1,4 +1,5 @@
 mod CommandLemmas
+mod ConditionLemmas
 mod NumberLemmas
 mod PlainLemmas
 mod PlaceLemmas

@@ -14,7 +14,7 @@ use Rattle.clap.specs.declared.parser.matches.ValueSource.TheVariants.{CommandLi
 use Rattle.clap.specs.declared.builder.value_parser.Reading.TheVariants.{AsWritten}
 use Rattle.clap.proofs.OnLiterals.{clap_on_literals}
 use Rattle.trick_rules.specs.Nodes.{most_moves}
-use Rattle.job_words.specs.Command.{option_command, value_command}
+use Rattle.job_words.specs.Command.{list_command, option_command, value_command}
 use Rattle.job_words.specs.Options.{OptionValues, options_at, options_read}
 use Rattle.job_words.specs.Values.{file_of, is_value, job_named, number_in, number_of, number_read, number_or}
 use Rattle.job_words.specs.Table.{misused}
@@ -25,7 +25,7 @@ use Rattle.job_words.specs.Plain.{audit_words, boards_words, card_words, check_w
 use Rattle.job_words.specs.Words.{ask_in, audit_in, boards_in, card_in, check_in, has_two_dashes, job_in, list_in, made_in, match_in, moves_in, on_layouts, options_found, prove_in, search_in, solve_in, switch_in, table_in, words_read}
 
 unfoldable pub shape : Shape
-unfolding option_command value_command
+unfolding option_command list_command value_command
 shape = (built option_command).top
 
 -- what is found for an option
@@ -116,11 +116,11 @@ no_fault : (a : App) (words : List Text) (end : Walk) → walk_fault a.top (name
 no_fault a words end fault is after = rw (fault, is) after
 
 all_words : (words : List Text) → argument_words option_command words ≡ words
-unfolding option_command value_command
+unfolding option_command list_command value_command
 all_words words = refl
 
 no_names : names_of (built option_command) ≡ []
-unfolding option_command value_command
+unfolding option_command list_command value_command
 no_names = refl
 
 read_as : (words : List Text) (rows : List Row) → has_two_dashes words ≡ false → fault_of option_command words ≡ [] → matches_of option_command words ≡ rows → options_found words ≡ Some (options_at rows)

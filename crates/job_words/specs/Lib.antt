@@ -1,8 +1,10 @@
 pub mod Command
 pub mod Options
+pub mod SeatConditions
 pub mod Values
 pub mod Table
 pub mod Asks
+pub mod Draws
 pub mod StudyAsks
 pub mod Words
 pub mod StudyWords

@@ -1,8 +1,8 @@
 -- What each option was given.
-use Rattle.std.specs.Prelude.{Bool, false, List, Option, Some, None, option_map, codes, if◌then◌else◌}
+use Rattle.std.specs.Prelude.{Bool, false, List, [], Option, Some, None, map, option_map, unwrap_or, codes, if◌then◌else◌}
 use Rattle.std.specs.Option.{option_map_or}
 use Rattle.std.specs.Str.{bytes_eq}
-use Rattle.clap.specs.Walk.{Row, Text, first_of, is_empty, one_of}
+use Rattle.clap.specs.Walk.{Row, Text, all_of, first_of, is_empty, one_of}
 use Rattle.clap.specs.Simple.{matches_of}
 use Rattle.clap.specs.Faults.{fault_of}
 use Rattle.job_words.specs.declared.options.Options.{Options}
@@ -17,7 +17,7 @@ pub record SearchOptionValues : Type 0 where
   pub no_table : Bool
   pub no_cuts : Bool
 
--- the value of each option that was given, and whether each flag was
+-- the value of each option that was given, or all its values, and whether each flag was
 pub record OptionValues : Type 0 where
   pub job : Option Text
   pub deal : Option Text
@@ -33,6 +33,16 @@ pub record OptionValues : Type 0 where
   pub form : Option Text
   pub from : Option Text
   pub games : Bool
+  pub draw : Option Text
+  pub seed : Option Text
+  pub north : List Text
+  pub east : List Text
+  pub south : List Text
+  pub west : List Text
+
+-- all values of an option, in order
+abbrev pub all_given : Text → List Row → List Text
+all_given name rows = unwrap_or (all_of name rows) []
 
 -- a flag holds the text `true` if it was given
 abbrev pub has_flag : Text → List Row → Bool
@@ -61,6 +71,12 @@ options_at rows = record {
   form = first_of (codes "form") rows;
   from = first_of (codes "from") rows;
   games = has_flag (codes "games") rows;
+  draw = first_of (codes "draw") rows;
+  seed = first_of (codes "seed") rows;
+  north = all_given (codes "north") rows;
+  east = all_given (codes "east") rows;
+  south = all_given (codes "south") rows;
+  west = all_given (codes "west") rows;
 }
 
 -- the values in the words, where clap finds no fault in them
@@ -95,4 +111,10 @@ options_of o = record {
   form = option_map (λ s. s.now) o.form;
   from = option_map (λ s. s.now) o.from;
   games = o.games;
+  draw = option_map (λ s. s.now) o.draw;
+  seed = option_map (λ s. s.now) o.seed;
+  north = map (λ s. s.now) o.north.items;
+  east = map (λ s. s.now) o.east.items;
+  south = map (λ s. s.now) o.south.items;
+  west = map (λ s. s.now) o.west.items;
 }

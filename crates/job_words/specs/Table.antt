@@ -1,13 +1,15 @@
 -- Which options each job requires, allows and refuses.
-use Rattle.std.specs.Prelude.{◌||◌, Bool, true, not, List, [], ◌∷◌, Option, Some, None, is_some, if◌then◌else◌}
+use Rattle.std.specs.Prelude.{◌||◌, Bool, true, false, not, List, [], ◌∷◌, Option, Some, None, is_some, if◌then◌else◌}
+use Rattle.clap.specs.Walk.{Text}
 use Rattle.job_words.specs.declared.bad_word.BadWord.{BadWord}
 use Rattle.job_words.specs.declared.bad_word.BadWord.TheVariants.{Missing, NotTaken}
 use Rattle.job_words.specs.declared.bad_word.OptionName.{OptionName}
 use Rattle.job_words.specs.declared.bad_word.OptionName.TheVariants as name
 use Rattle.job_words.specs.declared.table.Job as jobs
 use Rattle.job_words.specs.declared.table.StudyJob as studies
+use Rattle.job_words.specs.declared.table.Asked.{Asked}
 use Rattle.job_words.specs.declared.table.Use.{Use}
-use Rattle.job_words.specs.declared.table.Use.TheVariants.{Required, Allowed, Refused, InPlaceOfMoves, WithMoves}
+use Rattle.job_words.specs.declared.table.Use.TheVariants.{Required, Allowed, Refused, InPlaceOfMoves, WithMoves, InPlaceOfDraw, WithDraw}
 use Rattle.job_words.specs.declared.table.Uses.{Uses}
 use Rattle.job_words.specs.declared.table.OptionUse.{OptionUse}
 use Rattle.job_words.specs.Options.{OptionValues}
@@ -28,6 +30,9 @@ no_options = record {
   form = Refused;
   from = Refused;
   games = Refused;
+  draw = Refused;
+  seed = Refused;
+  conditions = Refused;
 }
 
 -- the table: a row for each job of `alphamu`
@@ -45,28 +50,31 @@ uses_by jobs.TheVariants.Boards = record no_options { deal = Required; layouts =
 
 -- a report, or a search in its place
 abbrev told_uses : Uses
-told_uses = record no_options { deal = Required; layouts = Required; report = InPlaceOfMoves; moves = Allowed; nodes = WithMoves; search = WithMoves }
+told_uses = record no_options { deal = Required; layouts = InPlaceOfDraw; report = InPlaceOfMoves; moves = Allowed; nodes = WithMoves; search = WithMoves; draw = Allowed; seed = WithDraw; conditions = WithDraw }
 
 -- and a row for each job of `alphamu_study`
 abbrev pub uses_by_study : studies.StudyJob → Uses
 uses_by_study studies.TheVariants.Words = told_uses
 uses_by_study studies.TheVariants.Lines = told_uses
 uses_by_study studies.TheVariants.Page = told_uses
-uses_by_study studies.TheVariants.Cards = record no_options { deal = Required; layouts = Required; moves = Required; nodes = Allowed; search = Allowed; form = Allowed }
+uses_by_study studies.TheVariants.Cards = record no_options { deal = Required; layouts = InPlaceOfDraw; moves = Allowed; nodes = Allowed; search = Allowed; form = Allowed; draw = Allowed; seed = WithDraw; conditions = WithDraw }
 uses_by_study studies.TheVariants.Review = record no_options { deal = Required; layouts = Required; moves = Required; nodes = Allowed; search = Allowed; form = Allowed; from = Allowed; games = Allowed }
+uses_by_study studies.TheVariants.Draw = record no_options { deal = Required; draw = Required; seed = Allowed; conditions = Allowed }
 
--- an option that is given, or isn't, is so used by words that ask for a search, or don't
-abbrev pub is_used_so : Use → Bool → Bool → Bool
-is_used_so Required searches given = given
-is_used_so Allowed searches given = true
-is_used_so Refused searches given = not given
-is_used_so InPlaceOfMoves searches given = if searches then not given else given
-is_used_so WithMoves searches given = searches || not given
+-- an option that is given, or isn't, is so used by words that ask for a search, or don't, and for layouts that are drawn, or don't
+abbrev pub is_used_so : Use → Asked → Bool → Bool
+is_used_so Required asked given = given
+is_used_so Allowed asked given = true
+is_used_so Refused asked given = not given
+is_used_so InPlaceOfMoves asked given = if asked.searches then not given else given
+is_used_so WithMoves asked given = asked.searches || not given
+is_used_so InPlaceOfDraw asked given = if asked.draws then not given else given
+is_used_so WithDraw asked given = asked.draws || not given
 
 -- why an option isn't so used, if it isn't
-abbrev pub fault_of_row : Bool → OptionUse → Option BadWord
-fault_of_row searches row =
-    if is_used_so row.wanted searches row.given then None
+abbrev pub fault_of_row : Asked → OptionUse → Option BadWord
+fault_of_row asked row =
+    if is_used_so row.wanted asked row.given then None
     else if row.given then Some (NotTaken row.name) else Some (Missing row.name)
 
 -- a fault, if there is one, or else what later ones say
@@ -75,14 +83,20 @@ first_or None later = later
 first_or (Some fault) later = Some fault
 
 -- the first such fault
-abbrev pub first_fault : Bool → List OptionUse → Option BadWord
-first_fault searches [] = None
-first_fault searches (row ∷ rows) = first_or (fault_of_row searches row) (first_fault searches rows)
+abbrev pub first_fault : Asked → List OptionUse → Option BadWord
+first_fault asked [] = None
+first_fault asked (row ∷ rows) = first_or (fault_of_row asked row) (first_fault asked rows)
 
 abbrev use_of : OptionName → Use → Bool → OptionUse
 use_of option wanted given = record { name = option; wanted = wanted; given = given }
 
--- what a job with these uses makes of each option. The options on how to search go together, except the number of nodes
+-- an option has at least one value
+abbrev pub are_given : List Text → Bool
+are_given [] = false
+are_given (value ∷ values) = true
+
+-- what a job with these uses makes of each option. The options on how to search go together, except the number of nodes, and so
+-- do the conditions on the four hands
 abbrev pub rows_of : Uses → OptionValues → List OptionUse
 rows_of uses o =
     use_of name.Deal uses.deal (is_some o.deal) ∷ use_of name.Layouts uses.layouts (is_some o.layouts)
@@ -93,8 +107,11 @@ rows_of uses o =
     ∷ use_of name.Shards uses.search (is_some o.search.shards) ∷ use_of name.Room uses.search (is_some o.search.room)
     ∷ use_of name.NoTable uses.search o.search.no_table ∷ use_of name.NoCuts uses.search o.search.no_cuts
     ∷ use_of name.Form uses.form (is_some o.form) ∷ use_of name.From uses.from (is_some o.from)
-    ∷ use_of name.Games uses.games o.games ∷ []
+    ∷ use_of name.Games uses.games o.games ∷ use_of name.Draw uses.draw (is_some o.draw)
+    ∷ use_of name.Seed uses.seed (is_some o.seed) ∷ use_of name.North uses.conditions (are_given o.north)
+    ∷ use_of name.East uses.conditions (are_given o.east) ∷ use_of name.South uses.conditions (are_given o.south)
+    ∷ use_of name.West uses.conditions (are_given o.west) ∷ []
 
 -- the first option that isn't used as these uses want it
 unfoldable pub misused : Uses → OptionValues → Option BadWord
-misused uses o = first_fault (is_some o.moves) (rows_of uses o)
+misused uses o = first_fault (record { searches = is_some o.moves; draws = is_some o.draw }) (rows_of uses o)

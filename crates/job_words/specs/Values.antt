@@ -86,4 +86,5 @@ study_job_named name =
     else if bytes_eq name (codes "page") then Some studies.Page
     else if bytes_eq name (codes "cards") then Some studies.Cards
     else if bytes_eq name (codes "review") then Some studies.Review
+    else if bytes_eq name (codes "draw") then Some studies.Draw
     else None

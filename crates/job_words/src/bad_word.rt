@@ -1,5 +1,8 @@
 //! What isn't understood in words.
 
+use byte_text::Text;
+use hand_conditions::TermFault;
+
 /// The options, by name.
 #[derive(Clone, Copy, Debug, PartialEq, Eq)]
 pub enum OptionName {
@@ -21,10 +24,16 @@ pub enum OptionName {
     Form,
     From,
     Games,
+    Draw,
+    Seed,
+    North,
+    East,
+    South,
+    West,
 }
 
 /// What isn't understood in words: the first fault in them.
-#[derive(Clone, Copy, Debug, PartialEq, Eq)]
+#[derive(Debug, Drop)]
 pub enum BadWord {
     /// The word of this number, counted from 0: no option or value can stand there, or none of that
     /// name. It is the number of words if the value of the last option is missing.
@@ -35,4 +44,9 @@ pub enum BadWord {
     NotTaken(OptionName),
     /// The option takes no such value.
     Value(OptionName),
+    /// A condition on a hand, told by this option, has a term that isn't understood, as it stands
+    /// between the commas, and why.
+    Term(OptionName, Text, TermFault),
+    /// The option tells a condition on a hand of declarer's side.
+    NotDefender(OptionName),
 }

@@ -63,7 +63,7 @@ fn table_in(options: &Options<'_>) -> Result<(u32, u32), BadWord>
 }
 
 #[tactic(auto, unfolding(crate::specs::Words::search_in))]
-fn search_in(options: &Options<'_>) -> Result<Search, BadWord>
+pub(crate) fn search_in(options: &Options<'_>) -> Result<Search, BadWord>
     ensures search { result ≡ search_in (options_of options.now) }
     ensures limits { IfOk result IsSearchWithinLimits }
 {
@@ -81,7 +81,7 @@ fn search_in(options: &Options<'_>) -> Result<Search, BadWord>
 }
 
 #[tactic(auto, unfolding(crate::specs::Words::moves_in))]
-fn moves_in(options: &Options<'_>) -> Result<u8, BadWord>
+pub(crate) fn moves_in(options: &Options<'_>) -> Result<u8, BadWord>
     ensures moves { result ≡ moves_in (options_of options.now) }
     ensures limits { IfOk result IsMoves }
 {

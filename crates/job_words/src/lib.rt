@@ -23,6 +23,8 @@ mod asks;
 mod bad_word;
 mod by_job;
 mod by_study;
+mod conditions;
+mod draw;
 mod options;
 mod place;
 mod study;
@@ -33,6 +35,8 @@ pub use asks::{Ask, GameNames, LayoutsJob, NamedAsk, Search};
 pub use bad_word::{BadWord, OptionName};
 use by_job::ask_in;
 use by_study::study_in;
+use conditions::conditions_in;
+pub use draw::{Draw, SeatConditions};
 use place::{bad_place, find_options};
 use std::alloc::{AllocError, Global};
 pub use study::{FormName, NamedStudyAsk, Study, StudyAsk};
@@ -65,7 +69,10 @@ pub fn read_study<'a>(
     ensures limits { IfOk result (λ r. IfOk r (λ ask. IsStudyWithinLimits (study_ask_of ask))) }
 {
     match find_options(alloc, words)? {
-        Some(options) => Ok(study_in(&options)),
+        Some(options) => {
+            let conditions = conditions_in(alloc, &options)?;
+            Ok(study_in(&options, conditions))
+        }
         None => Ok(Err(BadWord::At(bad_place(alloc, words)?))),
     }
 }

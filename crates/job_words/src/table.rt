@@ -1,8 +1,8 @@
 //! Which options each job requires, allows and refuses.
-ghost use Rattle.std.specs.Prelude.{◌≡◌, option_map, is_some};
+ghost use Rattle.std.specs.Prelude.{◌≡◌, map, option_map, is_some};
 ghost use Rattle.job_words.specs.Options.{options_of};
 ghost use Rattle.job_words.specs.Table.{fault_of_row, first_fault, is_used_so, misused, rows_of};
-ghost use Rattle.job_words.specs.Table.{uses_by, uses_by_study};
+ghost use Rattle.job_words.specs.Table.{are_given, uses_by, uses_by_study};
 
 use crate::bad_word::{BadWord, OptionName};
 use crate::options::Options;
@@ -30,6 +30,7 @@ pub(crate) enum StudyJob {
     Page,
     Cards,
     Review,
+    Draw,
 }
 
 /// What a job makes of an option.
@@ -42,25 +43,40 @@ pub(crate) enum Use {
     InPlaceOfMoves,
     /// Allowed with `--moves`, and refused without it.
     WithMoves,
+    /// Required without `--draw`, and refused with it.
+    InPlaceOfDraw,
+    /// Allowed with `--draw`, and refused without it.
+    WithDraw,
+}
+
+/// What is asked for, as far as other options depend on it.
+#[derive(Clone, Copy)]
+pub(crate) struct Asked {
+    /// With `--moves` a search.
+    pub(crate) searches: bool,
+    /// With `--draw` layouts that are drawn.
+    pub(crate) draws: bool,
 }
 
 impl Use {
-    // Whether an option that is given, or isn't, is used so. With `--moves` a search is asked for.
-    fn is_used_so(self, searches: bool, given: bool) -> bool
-        ensures { result ≡ is_used_so self searches given }
+    // Whether an option that is given, or isn't, is used so.
+    fn is_used_so(self, asked: Asked, given: bool) -> bool
+        ensures { result ≡ is_used_so self asked given }
     {
         match self {
             Use::Required => given,
             Use::Allowed => true,
             Use::Refused => !given,
-            Use::InPlaceOfMoves => given != searches,
-            Use::WithMoves => searches || !given,
+            Use::InPlaceOfMoves => given != asked.searches,
+            Use::WithMoves => asked.searches || !given,
+            Use::InPlaceOfDraw => given != asked.draws,
+            Use::WithDraw => asked.draws || !given,
         }
     }
 }
 
 /// What a job makes of each option. The options on how to search go together, except the number of
-/// nodes.
+/// nodes, and so do the conditions on the four hands.
 #[derive(Clone, Copy)]
 pub(crate) struct Uses {
     pub(crate) deal: Use,
@@ -76,6 +92,9 @@ pub(crate) struct Uses {
     pub(crate) form: Use,
     pub(crate) from: Use,
     pub(crate) games: Use,
+    pub(crate) draw: Use,
+    pub(crate) seed: Use,
+    pub(crate) conditions: Use,
 }
 
 const NO_OPTIONS: Uses = Uses {
@@ -92,6 +111,9 @@ const NO_OPTIONS: Uses = Uses {
     form: Use::Refused,
     from: Use::Refused,
     games: Use::Refused,
+    draw: Use::Refused,
+    seed: Use::Refused,
+    conditions: Use::Refused,
 };
 
 /// The row of the table for this job of `alphamu`.
@@ -162,20 +184,33 @@ pub(crate) fn uses_by_study(job: StudyJob) -> Uses
     match job {
         StudyJob::Words | StudyJob::Lines | StudyJob::Page => Uses {
             deal: Use::Required,
-            layouts: Use::Required,
+            layouts: Use::InPlaceOfDraw,
             report: Use::InPlaceOfMoves,
             moves: Use::Allowed,
             nodes: Use::WithMoves,
             search: Use::WithMoves,
+            draw: Use::Allowed,
+            seed: Use::WithDraw,
+            conditions: Use::WithDraw,
             ..NO_OPTIONS
         },
         StudyJob::Cards => Uses {
             deal: Use::Required,
-            layouts: Use::Required,
-            moves: Use::Required,
+            layouts: Use::InPlaceOfDraw,
+            moves: Use::Allowed,
             nodes: Use::Allowed,
             search: Use::Allowed,
             form: Use::Allowed,
+            draw: Use::Allowed,
+            seed: Use::WithDraw,
+            conditions: Use::WithDraw,
+            ..NO_OPTIONS
+        },
+        StudyJob::Draw => Uses {
+            deal: Use::Required,
+            draw: Use::Required,
+            seed: Use::Allowed,
+            conditions: Use::Allowed,
             ..NO_OPTIONS
         },
         StudyJob::Review => Uses {
@@ -202,10 +237,10 @@ struct OptionUse {
 
 impl OptionUse {
     // Why the option isn't used as wanted, if it isn't.
-    fn fault(&self, searches: bool) -> Option<BadWord>
-        ensures { result ≡ fault_of_row searches self.now }
+    fn fault(&self, asked: Asked) -> Option<BadWord>
+        ensures { result ≡ fault_of_row asked self.now }
     {
-        if self.wanted.is_used_so(searches, self.given) {
+        if self.wanted.is_used_so(asked, self.given) {
             None
         } else if self.given {
             Some(BadWord::NotTaken(self.name))
@@ -231,12 +266,18 @@ fn is_given(value: Option<&str>) -> bool
     value.is_some()
 }
 
+fn are_given(values: &[&str]) -> bool
+    ensures { result ≡ are_given (map (λ s. s.now) values.now) }
+{
+    !values.is_empty()
+}
+
 // The first fault in rows.
-fn first_fault(searches: bool, rows: &[OptionUse]) -> Option<BadWord>
-    ensures { result ≡ first_fault searches rows.now }
+fn first_fault(asked: Asked, rows: &[OptionUse]) -> Option<BadWord>
+    ensures { result ≡ first_fault asked rows.now }
 {
     for row in rows {
-        if let Some(fault) = row.fault(searches) {
+        if let Some(fault) = row.fault(asked) {
             return Some(fault);
         }
     }
@@ -245,7 +286,7 @@ fn first_fault(searches: bool, rows: &[OptionUse]) -> Option<BadWord>
 
 impl Uses {
     // What a job with these uses makes of each option.
-    fn rows(&self, options: &Options<'_>) -> [OptionUse; 17]
+    fn rows(&self, options: &Options<'_>) -> [OptionUse; 23]
         ensures { result ≡ rows_of self.now (options_of options.now) }
     {
         let search = &options.search;
@@ -267,6 +308,20 @@ impl Uses {
             use_of(OptionName::Form, self.form, is_given(options.form)),
             use_of(OptionName::From, self.from, is_given(options.from)),
             use_of(OptionName::Games, self.games, options.games),
+            use_of(OptionName::Draw, self.draw, is_given(options.draw)),
+            use_of(OptionName::Seed, self.seed, is_given(options.seed)),
+            use_of(
+                OptionName::North,
+                self.conditions,
+                are_given(&options.north),
+            ),
+            use_of(OptionName::East, self.conditions, are_given(&options.east)),
+            use_of(
+                OptionName::South,
+                self.conditions,
+                are_given(&options.south),
+            ),
+            use_of(OptionName::West, self.conditions, are_given(&options.west)),
         ]
     }
 
@@ -275,6 +330,10 @@ impl Uses {
     pub(crate) fn misused(&self, options: &Options<'_>) -> Option<BadWord>
         ensures { result ≡ misused self.now (options_of options.now) }
     {
-        first_fault(is_given(options.moves), &self.rows(options))
+        let asked = Asked {
+            searches: is_given(options.moves),
+            draws: is_given(options.draw),
+        };
+        first_fault(asked, &self.rows(options))
     }
 }

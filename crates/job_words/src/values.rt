@@ -138,6 +138,7 @@ pub(crate) fn study_job_named(name: &str) -> Option<StudyJob>
         "page" => Some(StudyJob::Page),
         "cards" => Some(StudyJob::Cards),
         "review" => Some(StudyJob::Review),
+        "draw" => Some(StudyJob::Draw),
         _ => None,
     }
 }

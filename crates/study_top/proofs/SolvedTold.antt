@@ -14,7 +14,7 @@ use Rattle.am_answer.specs.Reports.{IsText, IsSolveText}
 use Rattle.am_answer.specs.Stages.{IsFileRefusal, IsTextFor}
 use Rattle.am_answer.specs.Tasks.{TaskValue, Solve}
 use Rattle.job_words.specs.declared.study.Study.{Study}
-use Rattle.job_words.specs.declared.study.Study.TheVariants.{Words, Lines, Page, Cards, Review}
+use Rattle.job_words.specs.declared.study.Study.TheVariants.{Words, Lines, Page, Cards, ExactCards, Review}
 use Rattle.card_brackets.specs.declared.table.CardTable.{CardTable}
 use Rattle.job_page.specs.PageJob.{IsPageRefusal}
 use Rattle.study_top.specs.Solved.{IsSolvedReport, IsUnsolved}
@@ -69,4 +69,5 @@ module _ (root : Root) (moves : ℕ) (search : Search) where
     never_refused Lines known cards status refused = inl (good_or_memory status refused)
     never_refused Page known cards status refused = of_page known status cards refused
     never_refused (Cards form) known cards status refused = inr (inr refused)
+    never_refused (ExactCards form) known cards status refused = inr (inr refused)
     never_refused (Review form from) known cards status refused = inr (inr refused)

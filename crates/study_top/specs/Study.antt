@@ -1,15 +1,18 @@
 -- What a study is asked, and what comes of it.
 use Rattle.std.specs.Prelude.{◌≡◌, ◌⊎◌, ℕ, List, Result, Ok, Err, Option, None, Some, length, nat_le, if◌then◌else◌}
-use Rattle.byte_text.specs.Steps.{◌>>=◌}
 use Rattle.pbn_deal.specs.Boards.{BoardValue}
 use Rattle.am_outside.specs.Faults.{Rose}
 use Rattle.am_outside.specs.Shelf.{Files}
 use Rattle.job_words.specs.declared.asks.Ask.TheVariants as asks
 use Rattle.job_words.specs.declared.asks.LayoutsJob.TheVariants as jobs
 use Rattle.job_words.specs.declared.asks.Search.{Search}
-use Rattle.job_words.specs.declared.bad_word.BadWord.{BadWord}
+use Rattle.job_words.specs.declared.draw.Draw.{Draw}
 use Rattle.job_words.specs.declared.study.Study.{Study}
-use Rattle.job_words.specs.declared.study.Study.TheVariants.{Words, Lines, Page, Cards, Review}
+use Rattle.job_words.specs.declared.study.Study.TheVariants.{Lines, Page, Cards, ExactCards, Review}
+use Rattle.job_words.specs.declared.study.Study.TheVariants as studies
+use Rattle.job_words.specs.declared.study.StudyAsk.TheVariants.{OfFiles, OfDrawn}
+use Rattle.job_words.specs.declared.study.StudyAsk.TheVariants as ask
+use Rattle.job_words.specs.Asks.{AskValue, LayoutsJobValue}
 use Rattle.job_words.specs.StudyAsks.{StudyAskValue}
 use Rattle.job_words.specs.StudyWords.{study_read}
 use Rattle.am_answer.specs.declared.root.Root.{Root}
@@ -17,7 +20,8 @@ use Rattle.am_answer.specs.declared.status.FileWord.{FileWord}
 use Rattle.am_answer.specs.declared.status.Status.{Status}
 use Rattle.am_answer.specs.declared.status.Status.TheVariants.{BadWords, Memory}
 use Rattle.am_answer.specs.Answers.{board_in, root_in, task_at}
-use Rattle.am_answer.specs.Files.{InputsValue, IsNameOf, named_read}
+use Rattle.am_answer.specs.declared.status.FileWord.TheVariants.{Layouts}
+use Rattle.am_answer.specs.Files.{InputsValue, IsNameOf, named_read, within_limit}
 use Rattle.am_answer.specs.Stages.{IsReadRefusal, IsFileRefusal}
 use Rattle.job_told.specs.ToldJob.{IsToldReport}
 use Rattle.job_lines.specs.LinesJob.{IsLinesReport}
@@ -27,25 +31,13 @@ use Rattle.card_brackets.specs.Rows.{IsTableUpTo}
 use Rattle.job_cards.specs.Cards.{IsCardsText, IsCardsRefusal}
 use Rattle.job_review.specs.Reviews.{IsReviewText, IsReviewRefusal}
 use Rattle.job_reviews.specs.Reviews.{IsReviewsText}
+use Rattle.job_draw.specs.DrawJob.{IsDrawFile, IsDrawRefusal}
+use Rattle.job_draw.specs.declared.refusal.DrawRefusal.{DrawRefusal}
 use Rattle.study_top.specs.Forms.{form_of}
+use Rattle.study_top.specs.Refusals.{refusal_of_draw, refusal_of_status}
+use Rattle.study_top.specs.declared.refusal.Refusal.{Refusal}
+use Rattle.study_top.specs.declared.refusal.Refusal.TheVariants.{Words, Ended}
 use Rattle.study_top.specs.Solved.{IsSolvedReport, IsUnsolved}
-
--- ---- the words
-
--- words that aren't understood are refused
-abbrev pub or_bad_words : Result StudyAskValue BadWord → Result StudyAskValue Status
-or_bad_words (Ok ask) = Ok ask
-or_bad_words (Err bad) = Err BadWords
-
--- what the words of a study ask for
-abbrev pub study_asked : List (List ℕ) → Result StudyAskValue Status
-study_asked words = or_bad_words (study_read words)
-
--- and what is read for it from the files
-unfoldable pub study_inputs : List (List ℕ) → Files → Result InputsValue Status
-study_inputs words files = do
-  ask ← study_asked words
-  named_read files ask.reads
 
 -- ---- what comes of it
 
@@ -60,21 +52,21 @@ IsRefusedAt deal layouts status IsRefused =
 
 -- what a job tells of a report at the root of a deal, and on a page of every legal card, if they are known
 abbrev pub IsTextOfReport : Study → List ℕ → Root → List ℕ → Option CardTable → List ℕ → Type 0
-IsTextOfReport Words deal root report known text = IsToldReport root report text
+IsTextOfReport studies.Words deal root report known text = IsToldReport root report text
 IsTextOfReport Lines deal root report known text = IsLinesReport deal root report text
 IsTextOfReport Page deal root report known text = IsPage deal root report known text
 IsTextOfReport study deal root report known text = ⊥
 
 -- why a job that takes no report tells nothing of one
 abbrev pub TakesNoReport : Study → Status → Type 0
-TakesNoReport Words status = ⊥
+TakesNoReport studies.Words status = ⊥
 TakesNoReport Lines status = ⊥
 TakesNoReport Page status = ⊥
 TakesNoReport study status = status ≡ BadWords
 
 -- why it tells nothing of it: `check` refuses the report, or a page the card that it names; any other job takes none
 abbrev pub IsReportRefusal : Study → Root → List ℕ → Option CardTable → Status → Type 0
-IsReportRefusal Words root report known status = IsFileRefusal (task_at root (jobs.Check report)) status
+IsReportRefusal studies.Words root report known status = IsFileRefusal (task_at root (jobs.Check report)) status
 IsReportRefusal Lines root report known status = IsFileRefusal (task_at root (jobs.Check report)) status
 IsReportRefusal Page root report known status = IsPageRefusal root report known status
 IsReportRefusal study root report known status = TakesNoReport study status
@@ -110,6 +102,7 @@ abbrev pub IsTextOf : Study → InputsValue → List ℕ → Type 0
 IsTextOf study (asks.OnLayouts deal layouts (jobs.Check report)) text = IsToldAt deal layouts (λ root. IsTextOfReport study deal root report None text)
 IsTextOf study (asks.OnLayouts deal layouts (jobs.Solve moves search)) text = IsToldAt deal layouts (λ root. IsTextOfSearch study deal root moves search text)
 IsTextOf (Cards form) (asks.OnLayouts deal layouts (jobs.Card moves search)) text = IsToldAt deal layouts (λ root. IsCardsText root moves (form_of form) text)
+IsTextOf (ExactCards form) (asks.OnLayouts deal layouts (jobs.Card moves search)) text = IsToldAt deal layouts (λ root. IsCardsText root moves (form_of form) text)
 IsTextOf (Review form from) (asks.OnLayouts deal layouts (jobs.Card moves search)) text = (board : BoardValue) × (board_in deal ≡ Ok board) × IsReviewText board layouts moves from (form_of form) text
 IsTextOf (Review form from) (asks.Boards files moves search) text = IsReviewsText files (record { moves = moves; from = from; search = search }) (form_of form) text
 IsTextOf _ _ _ = ⊥
@@ -120,30 +113,86 @@ abbrev pub IsRefusalOf : Study → InputsValue → Status → Type 0
 IsRefusalOf study (asks.OnLayouts deal layouts (jobs.Check report)) status = IsRefusedAt deal layouts status (λ root. IsReportRefusal study root report None status)
 IsRefusalOf study (asks.OnLayouts deal layouts (jobs.Solve moves search)) status = IsRefusedAt deal layouts status (λ root. IsSearchRefusal study root moves search status)
 IsRefusalOf (Cards form) (asks.OnLayouts deal layouts (jobs.Card moves search)) status = IsRefusedAt deal layouts status (λ root. IsCardsRefusal root moves search status)
+IsRefusalOf (ExactCards form) (asks.OnLayouts deal layouts (jobs.Card moves search)) status = IsRefusedAt deal layouts status (λ root. IsCardsRefusal root moves search status)
 IsRefusalOf (Review form from) (asks.OnLayouts deal layouts (jobs.Card moves search)) status = IsFileRefusal (board_in deal) status
     ⊎ ((board : BoardValue) × (board_in deal ≡ Ok board) × IsReviewRefusal board layouts moves from search.nodes status)
 IsRefusalOf (Review form from) (asks.Boards files moves search) status = status ≡ Memory
 IsRefusalOf _ _ status = status ≡ BadWords
 
+-- ---- layouts that are drawn
+
+-- what is searched for at layouts that are drawn, as a job of `alphamu`
+abbrev pub drawn_job : Study → ℕ → Search → LayoutsJobValue
+drawn_job studies.Words moves search = jobs.Solve moves search
+drawn_job Lines moves search = jobs.Solve moves search
+drawn_job Page moves search = jobs.Solve moves search
+drawn_job study moves search = jobs.Card moves search
+
+-- what a study tells of layouts drawn for a deal: what it tells of the file that `draw` writes, which is no longer than a layout file
+-- may be
+pub record IsTextOfDrawn (study : Study) (deal : List ℕ) (draw : Draw) (job : LayoutsJobValue) (text : List ℕ) : Type 0 where
+  pub layouts : List ℕ
+  pub drawn : IsDrawFile deal draw layouts
+  pub told : IsTextOf study (asks.OnLayouts deal layouts job) text
+
+-- why it tells nothing of them
+abbrev pub IsRefusalOfDrawn : Study → List ℕ → Draw → LayoutsJobValue → Refusal → Type 0
+IsRefusalOfDrawn study deal draw job refusal =
+    ((why : DrawRefusal) × IsDrawRefusal deal draw why × (refusal ≡ refusal_of_draw why))
+    ⊎ ((layouts : List ℕ) × (status : Status) × IsDrawFile deal draw layouts × (within_limit Layouts (Some layouts) ≡ Err status) × (refusal ≡ Ended status))
+    ⊎ ((layouts : List ℕ) × (status : Status) × IsDrawFile deal draw layouts
+    × IsRefusalOf study (asks.OnLayouts deal layouts job) status × (refusal ≡ refusal_of_status status))
+
+-- ---- the words
+
+-- what is read for what the words ask for, as a request of `alphamu`
+abbrev pub reads_of : StudyAskValue → AskValue
+reads_of (OfFiles study reads) = reads
+reads_of (OfDrawn study deal draw moves search) = asks.List deal
+reads_of (ask.Draw deal draw) = asks.List deal
+
+-- what is told of what was read
+abbrev pub IsAnswerTo : StudyAskValue → InputsValue → List ℕ → Type 0
+IsAnswerTo (OfFiles study reads) inputs text = IsTextOf study inputs text
+IsAnswerTo (OfDrawn study name draw moves search) (asks.List deal) text = IsTextOfDrawn study deal draw (drawn_job study moves search) text
+IsAnswerTo (ask.Draw name draw) (asks.List deal) text = IsDrawFile deal draw text
+IsAnswerTo _ _ text = ⊥
+
+-- why nothing is told of it
+abbrev pub IsNoAnswerTo : StudyAskValue → InputsValue → Refusal → Type 0
+IsNoAnswerTo (OfFiles study reads) inputs refusal = (status : Status) × IsRefusalOf study inputs status × (refusal ≡ refusal_of_status status)
+IsNoAnswerTo (OfDrawn study name draw moves search) (asks.List deal) refusal = IsRefusalOfDrawn study deal draw (drawn_job study moves search) refusal
+IsNoAnswerTo (ask.Draw name draw) (asks.List deal) refusal = (why : DrawRefusal) × IsDrawRefusal deal draw why × (refusal ≡ refusal_of_draw why)
+IsNoAnswerTo _ _ refusal = ⊥
+
 -- the words ask for this, and this is read for it from the files
-pub record IsAsked (words : List (List ℕ)) (files : Files) (ask : StudyAskValue) (inputs : InputsValue) : Type 0 where
-  pub asked : study_read words ≡ Ok ask
-  pub read : named_read files ask.reads ≡ Ok inputs
+pub record IsAsked (words : List (List ℕ)) (files : Files) (asked : StudyAskValue) (inputs : InputsValue) : Type 0 where
+  pub understood : study_read words ≡ Ok asked
+  pub read : named_read files (reads_of asked) ≡ Ok inputs
 
 -- the text of a study: what it tells of what its words ask for
 pub record IsStudyText (words : List (List ℕ)) (files : Files) (text : List ℕ) : Type 0 where
-  pub ask : StudyAskValue
+  pub asked : StudyAskValue
   pub inputs : InputsValue
-  pub asked : IsAsked words files ask inputs
-  pub told : IsTextOf ask.study inputs text
+  pub is_asked : IsAsked words files asked inputs
+  pub told : IsAnswerTo asked inputs text
 
--- why there is none: the words aren't understood, the files can't be read, or nothing is told of them
-abbrev pub IsStudyRefusal : List (List ℕ) → Files → Status → Type 0
-IsStudyRefusal words files status =
-    IsReadRefusal (study_inputs words files) status
-    ⊎ ((ask : StudyAskValue) × (inputs : InputsValue) × IsAsked words files ask inputs × IsRefusalOf ask.study inputs status)
+-- the words aren't understood, and this is the first fault in them; or an allocation failed
+abbrev pub IsUnasked : List (List ℕ) → Refusal → Type 0
+IsUnasked words (Words bad) = study_read words ≡ Err bad
+IsUnasked words (Ended status) = status ≡ Memory
+
+-- the files that the words name can't be read
+abbrev pub IsUnreadable : List (List ℕ) → Files → Refusal → Type 0
+IsUnreadable words files refusal = (asked : StudyAskValue) × (status : Status) × (study_read words ≡ Ok asked)
+    × IsReadRefusal (named_read files (reads_of asked)) status × (refusal ≡ refusal_of_status status)
+
+-- why there is no text: the words aren't understood, the files can't be read, or nothing is told of them
+abbrev pub IsStudyRefusal : List (List ℕ) → Files → Refusal → Type 0
+IsStudyRefusal words files refusal = IsUnasked words refusal ⊎ IsUnreadable words files refusal
+    ⊎ ((asked : StudyAskValue) × (inputs : InputsValue) × IsAsked words files asked inputs × IsNoAnswerTo asked inputs refusal)
 
 -- the words name the file, and the count of faults at a name of it rose
 abbrev pub IsStudyUnread : Option Files → List (List ℕ) → (List ℕ → ℕ) → (List ℕ → ℕ) → FileWord → Type 0
-IsStudyUnread told words before now file = (ask : StudyAskValue) × (name : List ℕ)
-    × (study_read words ≡ Ok ask) × IsNameOf told ask.reads file name × Rose (before name) (now name)
+IsStudyUnread told words before now file = (asked : StudyAskValue) × (name : List ℕ)
+    × (study_read words ≡ Ok asked) × IsNameOf told (reads_of asked) file name × Rose (before name) (now name)

@@ -5,8 +5,10 @@
 
 mod form;
 mod program;
+mod refusal;
 mod solved;
 mod study;
 
 pub use am_answer::Status;
 pub use program::run_study;
+pub use refusal::Refusal;

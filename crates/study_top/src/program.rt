@@ -1,39 +1,48 @@
 //! The call that the program makes.
-ghost use Rattle.std.specs.Prelude.{◌≡◌, ◌≢◌, ◌<◌, ◌-◌, ◌^◌, Ok, IfOk, IfErr, IfSome, IsErrOf, List, ℕ};
-ghost use Rattle.std.specs.Prelude.{length, option_copied, All};
+ghost use Rattle.std.specs.Prelude.{◌≡◌, ◌≢◌, ◌≤◌, ◌<◌, ◌-◌, ◌^◌, Ok, IfOk, IfErr, IfSome};
+ghost use Rattle.std.specs.Prelude.{IsErrOf, List, ℕ, length, option_copied, All};
 ghost use Rattle.std.specs.Io.KnownBytes.{append_known};
 ghost use Rattle.am_outside.specs.Faults.{Rose};
 ghost use Rattle.am_outside.specs.Sink.{AppendsPart};
 ghost use Rattle.win_vectors.specs.Weights.{IsWeight};
 ghost use Rattle.job_words.specs.Asks.{texts_of, IsMoves, IsSearchWithinLimits};
 ghost use Rattle.job_words.specs.declared.asks.Ask.TheVariants.{OnLayouts};
+ghost use Rattle.am_answer.specs.declared.status.FileWord.TheVariants.{Deal};
 ghost use Rattle.am_answer.specs.Answers.{IsRoot, board_in};
+ghost use Rattle.am_answer.specs.Files.{AreWithin, IsJobWithin, limit_of};
 ghost use Rattle.am_answer.specs.Lines.{status_line};
 ghost use Rattle.am_line.specs.Said.{IsSaid};
-ghost use Rattle.am_answer.specs.Files.{AreWithin};
+ghost use Rattle.study_top.specs.Refusals.{IsRefused, refusal_line, status_of};
 ghost use Rattle.study_top.specs.Study.{IsTextOf, IsRefusalOf, IsStudyText, IsStudyUnread};
 ghost use Rattle.study_top.specs.Study.{IsStudyRefusal, IsTextOfReport, IsReportRefusal};
 ghost use Rattle.study_top.specs.Study.{AreCardsFor, AreCardsRefused, table_moves as moves_of};
-ghost use Rattle.study_top.specs.Study.{IsTextOfSearch, IsSearchRefusal};
+ghost use Rattle.study_top.specs.Study.{IsTextOfSearch, IsSearchRefusal, IsTextOfDrawn};
+ghost use Rattle.study_top.specs.Study.{IsRefusalOfDrawn, drawn_job};
+ghost use Rattle.study_top.specs.declared.refusal.Refusal.TheVariants.{Ended};
 
 use crate::form::form_of;
+use crate::refusal::Refusal;
 use crate::solved::solved_report;
 use crate::study::read_ask;
 use am_answer::{FileWord, Inputs, Root, Status};
-use am_inputs::{read_deal, read_named, read_root};
-use am_line::refuse;
+use am_inputs::{read_deal, read_file, read_named, read_root};
+use am_line::{refuse, refuse_words};
 use am_outside::{Shelf, Sink, write_whole};
 use byte_text::Text;
 use card_brackets::CardTable;
 use job_cards::{cards_of, tell_cards};
+use job_draw::draw_file;
 use job_lines::tell_lines;
 use job_page::tell_page;
 use job_review::{Asked, tell_review};
 use job_reviews::tell_reviews;
 use job_told::tell_report;
-use job_words::{Ask, LayoutsJob, Search, Study, StudyAsk};
+use job_words::{Ask, Draw, LayoutsJob, Search, Study, StudyAsk};
 use std::alloc::Global;
 use std::thread::Threads;
+
+// The most bytes that a layout file may have.
+const MOST_BYTES: usize = 1_048_576;
 
 // How many moves a page plans to judge each card. With many layouts the bounds of a card take
 // minutes, and a page is not worth so long a wait.
@@ -151,6 +160,10 @@ fn text_on<R: Threads + Sync>(
             let root = read_root(alloc, deal, layouts)?;
             tell_cards(alloc, &root, *moves, search, form_of(form))
         }
+        (Study::ExactCards { form }, LayoutsJob::Card { moves, search }) => {
+            let root = read_root(alloc, deal, layouts)?;
+            tell_cards(alloc, &root, *moves, search, form_of(form))
+        }
         (Study::Review { form, from }, LayoutsJob::Card { moves, search }) => {
             let asked = Asked {
                 moves: *moves,
@@ -198,34 +211,100 @@ fn text_in<R: Threads + Sync>(
     }
 }
 
-// The text of the study, or why there is none.
-#[tactic(auto, unfolding(crate::specs::Study::study_inputs))]
+// What is searched for at layouts that are drawn, as a job of `alphamu`.
+fn drawn_job(study: Study, moves: u8, search: Search) -> LayoutsJob<Text>
+    requires moves { IsMoves moves }
+    requires limits { IsSearchWithinLimits search }
+    ensures job { result ≡ drawn_job study moves search }
+    ensures limits { IsJobWithin result }
+{
+    match study {
+        Study::Words | Study::Lines | Study::Page => LayoutsJob::Solve { moves, search },
+        _ => LayoutsJob::Card { moves, search },
+    }
+}
+
+// What is told of layouts that are drawn.
+fn text_of_drawn<R: Threads + Sync>(
+    rt: &R,
+    alloc: Global,
+    study: Study,
+    deal: &Text,
+    draw: Draw,
+    job: &LayoutsJob<Text>,
+) -> Result<Text, Refusal>
+    requires deal { length deal.now ≤ limit_of Deal }
+    requires job { IsJobWithin job.now }
+    ensures text { IfOk result (IsTextOfDrawn study deal.now draw job.now) }
+    ensures refused { IfErr result (IsRefusalOfDrawn study deal.now draw job.now) }
+{
+    let layouts = draw_file(alloc, deal, draw)?;
+    if layouts.bytes().len() > MOST_BYTES {
+        return Err(Refusal::Ended(Status::TooLong(FileWord::Layouts)));
+    }
+    Ok(text_on(rt, alloc, study, deal, &layouts, job)?)
+}
+
+// What is told of what the words ask for, or why there is nothing.
 fn text_for<R: Threads + Sync, S: Shelf>(
     rt: &R,
     alloc: Global,
     words: &[String],
     shelf: &mut S,
-) -> Result<Text, Status>
+) -> Result<Text, Refusal>
     ensures text { IfSome (S.told shelf.old) (λ files.
         IfOk result (IsStudyText (texts_of words.now) files)) }
     ensures refused { IfSome (S.told shelf.old) (λ files.
         IfErr result (IsStudyRefusal (texts_of words.now) files)) }
-    ensures not_done { IfErr result (λ status.
-        (status ≢ Status.Done) × (status ≢ Status.Unwritten)) }
-    ensures unread { (file : FileWord) → IsErrOf result (Status.Unread file)
+    ensures not_done { IfErr result IsRefused }
+    ensures unread { (file : FileWord) → IsErrOf result (Ended (Status.Unread file))
         → IsStudyUnread (S.told shelf.old) (texts_of words.now)
         (S.faults shelf.old) (S.faults shelf.new) file }
     ensures same_files { S.told shelf.new ≡ S.told shelf.old }
 {
-    let StudyAsk { study, reads } = read_ask(alloc, words)?;
-    let inputs = read_named(alloc, shelf, reads)?;
-    text_in(rt, alloc, study, &inputs)
+    match read_ask(alloc, words)? {
+        StudyAsk::OfFiles { study, reads } => {
+            let inputs = read_named(alloc, shelf, reads)?;
+            Ok(text_in(rt, alloc, study, &inputs)?)
+        }
+        StudyAsk::OfDrawn {
+            study,
+            deal,
+            draw,
+            moves,
+            search,
+        } => {
+            let deal = read_file(alloc, shelf, FileWord::Deal, deal)?;
+            let job = drawn_job(study, moves, search);
+            text_of_drawn(rt, alloc, study, &deal, draw, &job)
+        }
+        StudyAsk::Draw { deal, draw } => {
+            let deal = read_file(alloc, shelf, FileWord::Deal, deal)?;
+            Ok(draw_file(alloc, &deal, draw)?)
+        }
+    }
 }
 
-/// Tells the strategies of a report or shows it as a page, puts every legal card side by side, or
-/// goes through every decision of a played board. What the words ask for, and which of them aren't
-/// understood, is `study_read` of `job_words`. A report that is read is refused as `check` refuses
-/// it, and one that is searched for never is. The words don't include the program's name.
+// Says why a study is refused, and gives the status that the program ends with.
+fn refuse_study<E: Sink>(words: &[String], refusal: Refusal, err: &mut E) -> Status
+    ensures status { result ≡ status_of refusal }
+    ensures said { IsSaid (refusal_line (texts_of words.now) refusal)
+        (E.told err.old) (E.told err.new) (E.faults err.old) (E.faults err.new) }
+{
+    match refusal {
+        Refusal::Words(bad) => {
+            refuse_words(words, &bad, err);
+            Status::BadWords
+        }
+        Refusal::Ended(status) => refuse(status, err),
+    }
+}
+
+/// Draws layouts, tells the strategies of a report or shows it as a page, puts every legal card side
+/// by side, or goes through every decision of a played board. What the words ask for, and which of
+/// them aren't understood, is `study_read` of `job_words`. A report that is read is refused as
+/// `check` refuses it, and one that is searched for never is. The words don't include the program's
+/// name.
 ///
 /// The whole text is made before its first byte is written. The workers are joined, so it may wait.
 pub fn run_study<R: Threads + Sync + AllocGlobal, S: Shelf, O: Sink, E: Sink>(
@@ -238,9 +317,12 @@ pub fn run_study<R: Threads + Sync + AllocGlobal, S: Shelf, O: Sink, E: Sink>(
     ensures told { IfSome (S.told shelf.old) (λ files. result ≡ Status.Done
         → (text : List ℕ) × IsStudyText (texts_of words.now) files text
         × (O.told out.new ≡ append_known (O.told out.old) text)) }
-    ensures refused { IfSome (S.told shelf.old) (λ files.
-        (result ≢ Status.Done) → (result ≢ Status.Unwritten)
-        → IsStudyRefusal (texts_of words.now) files result) }
+    ensures refused { (result ≢ Status.Done) → (result ≢ Status.Unwritten)
+        → (refusal : Refusal) × (result ≡ status_of refusal)
+        × IfSome (S.told shelf.old) (λ files.
+        IsStudyRefusal (texts_of words.now) files refusal)
+        × IsSaid (refusal_line (texts_of words.now) refusal)
+        (E.told err.old) (E.told err.new) (E.faults err.old) (E.faults err.new) }
     ensures part { IfSome (S.told shelf.old) (λ files. result ≡ Status.Unwritten
         → (text : List ℕ) × IsStudyText (texts_of words.now) files text
         × AppendsPart (O.told out.old) text (O.told out.new)) }
@@ -248,11 +330,10 @@ pub fn run_study<R: Threads + Sync + AllocGlobal, S: Shelf, O: Sink, E: Sink>(
     ensures unread { (file : FileWord) → result ≡ Status.Unread file
         → IsStudyUnread (S.told shelf.old) (texts_of words.now)
         (S.faults shelf.old) (S.faults shelf.new) file }
-    ensures unwritten { result ≡ Status.Unwritten → Rose (O.faults out.old) (O.faults out.new) }
-    ensures quiet { result ≡ Status.Done → err.new ≡ err.old }
-    ensures said { (result ≢ Status.Done)
-        → IsSaid (status_line result) (E.told err.old) (E.told err.new)
+    ensures unwritten { result ≡ Status.Unwritten → Rose (O.faults out.old) (O.faults out.new)
+        × IsSaid (status_line result) (E.told err.old) (E.told err.new)
         (E.faults err.old) (E.faults err.new) }
+    ensures quiet { result ≡ Status.Done → err.new ≡ err.old }
     ensures same_files { S.told shelf.new ≡ S.told shelf.old }
 {
     match text_for(rt, rt.alloc(), words, shelf) {
@@ -260,6 +341,6 @@ pub fn run_study<R: Threads + Sync + AllocGlobal, S: Shelf, O: Sink, E: Sink>(
             Ok(()) => Status::Done,
             Err(_) => refuse(Status::Unwritten, err),
         },
-        Err(status) => refuse(status, err),
+        Err(refusal) => refuse_study(words, refusal, err),
     }
 }

@@ -2,7 +2,7 @@ use Rattle.std.proofs.Common.{◌≡◌, ◌∙◌, ap₂, sym, arith}
 use Rattle.std.specs.Borrow.{Bor}
 use Rattle.std.proofs.lemmas.List.Sums.{fold_more}
 use Rattle.clap.specs.Words.{App, Text, with_rule}
-use Rattle.job_words.specs.Command.{flag_option, option_command, value_command}
+use Rattle.job_words.specs.Command.{flag_option, list_command, option_command}
 use Rattle.job_words.proofs.options.option_command.Goals as goal
 
 pub returns : goal.returns
@@ -15,4 +15,4 @@ pub loop-name-preserved : goal.loop-name-preserved
 loop-name-preserved c =
     c.in_ok-command-2.ensures.shape c.flag_option.ensures.local
     ∙ (ap₂ with_rule c.loop-name.invariant c.flag_option.ensures.rule
-    ∙ sym (fold_more (λ (a : App) (name : Bor Text). with_rule a (flag_option name.now)) value_command _ c.loop-name.name-index _ (omega arith)))
+    ∙ sym (fold_more (λ (a : App) (name : Bor Text). with_rule a (flag_option name.now)) list_command _ c.loop-name.name-index _ (omega arith)))

@@ -5,7 +5,7 @@ use Rattle.job_words.proofs.options.read_options.Goals as goal
 
 pub returns-in-Ok : goal.returns-in-Ok
 returns-in-Ok c =
-    ap Some c.options_in.ensures ∙ taken (app_of c.in_ok-command.command) _ c.in-Ok.matches c.in_ok-command.ensures c.in-Ok.ensures.kinds c.in-Ok.ensures.matches
+    ap Some c.in_ok-options-in-Ok.ensures ∙ taken (app_of c.in_ok-command.command) _ c.in-Ok.matches c.in_ok-command.ensures c.in-Ok.ensures.kinds c.in-Ok.ensures.matches
 
 pub returns : goal.returns
 returns c =

@@ -8,7 +8,7 @@ use Rattle.job_words.proofs.options.value_command.Goals as goal
 pub returns : goal.returns
 unfolding value_command
 returns c =
-    let all : c.loop-name.name-index ≡ 15 = omega arith in
+    let all : c.loop-name.name-index ≡ 17 = omega arith in
     rw all at c.loop-name.invariant
 
 pub loop-name-preserved : goal.loop-name-preserved
