@@ -1,5 +1,7 @@
 //! The line that says which of the words of a study aren't understood. It takes no memory.
-ghost use Rattle.std.specs.Prelude.{◌≡◌, OnErr, option_map, string_bytes};
+ghost use Rattle.std.specs.Prelude.{◌≡◌, ◌∷◌, [], OnErr, codes};
+ghost use Rattle.std.specs.Fmt.{decimal};
+ghost use Rattle.std.specs.List.{slice_get};
 ghost use Rattle.am_outside.specs.Faults.{Rose};
 ghost use Rattle.am_answer.specs.Lines.{joined_pieces};
 ghost use Rattle.job_words.specs.Asks.{texts_of};
@@ -54,28 +56,53 @@ fn term_text(why: TermFault) -> &'static [u8]
     }
 }
 
-// Writes the line for the word at a place, or for a value that is missing at the end.
-fn write_place<O: Sink>(out: &mut O, place: usize, word: Option<&String>) -> Result<(), SinkFailed>
-    ensures written { IsWritten (O.told out.old)
-        (joined_pieces (place_pieces place (option_map (λ w. string_bytes w.now) word.entry)))
+// Writes the line for a word by its number, counted from 1.
+fn write_word<O: Sink>(out: &mut O, number: u64, word: &[u8]) -> Result<(), SinkFailed>
+    ensures written { IsWritten (O.told out.old) (joined_pieces (codes "alphamu: word "
+        ∷ decimal number ∷ codes " isn't understood: " ∷ word.now ∷ codes "\n" ∷ []))
         (O.told out.new) result }
     ensures failed { OnErr result (Rose (O.faults out.old) (O.faults out.new)) }
 {
-    let Some(word) = word else {
-        return write_pieces(out, &[b"alphamu: the last option has no value\n"]);
-    };
     let mut digits = Buffer::new();
-    let number = digits.format(place as u64 + 1).as_bytes();
+    let number = digits.format(number).as_bytes();
     write_pieces(
         out,
         &[
             b"alphamu: word ",
             number,
             b" isn't understood: ",
-            word.as_bytes(),
+            word,
             b"\n",
         ],
     )
+}
+
+// Writes the line for the word at a place, or for a value that is missing at the end.
+fn write_place<O: Sink>(out: &mut O, words: &[String], place: usize) -> Result<(), SinkFailed>
+    ensures written { IsWritten (O.told out.old)
+        (joined_pieces (place_pieces place (slice_get (texts_of words.now) place)))
+        (O.told out.new) result }
+    ensures failed { OnErr result (Rose (O.faults out.old) (O.faults out.new)) }
+{
+    if place < words.len() {
+        write_word(out, place as u64 + 1, words[place].as_bytes())
+    } else {
+        write_pieces(out, &[b"alphamu: the last option has no value\n"])
+    }
+}
+
+// Writes the line for a term of a condition.
+fn write_term<O: Sink>(
+    out: &mut O,
+    option: &[u8],
+    term: &[u8],
+    end: &[u8],
+) -> Result<(), SinkFailed>
+    ensures written { IsWritten (O.told out.old) (joined_pieces (codes "alphamu: "
+        ∷ option.now ∷ codes ": \"" ∷ term.now ∷ end.now ∷ [])) (O.told out.new) result }
+    ensures failed { OnErr result (Rose (O.faults out.old) (O.faults out.new)) }
+{
+    write_pieces(out, &[b"alphamu: ", option, b": \"", term, end])
 }
 
 // Writes the line of what isn't understood in these words.
@@ -86,7 +113,7 @@ fn write_words<O: Sink>(out: &mut O, words: &[String], bad: &BadWord) -> Result<
     ensures failed { OnErr result (Rose (O.faults out.old) (O.faults out.new)) }
 {
     match bad {
-        BadWord::At(place) => write_place(out, *place, words.get(*place)),
+        BadWord::At(place) => write_place(out, words, *place),
         BadWord::Missing(option) => {
             write_pieces(out, &[b"alphamu: ", option_text(*option), b" is missing\n"])
         }
@@ -106,16 +133,9 @@ fn write_words<O: Sink>(out: &mut O, words: &[String], bad: &BadWord) -> Result<
                 b" doesn't take this value\n",
             ],
         ),
-        BadWord::Term(option, term, why) => write_pieces(
-            out,
-            &[
-                b"alphamu: ",
-                option_text(*option),
-                b": \"",
-                term.bytes(),
-                term_text(*why),
-            ],
-        ),
+        BadWord::Term(option, term, why) => {
+            write_term(out, option_text(*option), term.bytes(), term_text(*why))
+        }
         BadWord::NotDefender(option) => write_pieces(
             out,
             &[
