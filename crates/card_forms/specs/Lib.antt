@@ -1,3 +1,4 @@
+pub mod Planned
 pub mod Plain
 pub mod Records
 pub mod Objects

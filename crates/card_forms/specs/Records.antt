@@ -5,8 +5,9 @@ use Rattle.card_letters.specs.Letters.{letters_of}
 use Rattle.bit_letters.specs.Bits.{bit_letter}
 use Rattle.text_forms.specs.Records.{record_text}
 use Rattle.card_brackets.specs.declared.rows.CardRow.{CardRow}
-use Rattle.card_brackets.specs.declared.table.CardTable.{CardTable}
 use Rattle.card_brackets.specs.Rows.{is_final}
+use Rattle.card_forms.specs.declared.planned.Planned.{Planned}
+use Rattle.card_forms.specs.Planned.{planned_text}
 
 -- the names of the fields
 abbrev pub field_names : List (List ℕ)
@@ -24,11 +25,14 @@ unfoldable pub known_fields : CardRow → List (List ℕ)
 known_fields row =
     letters_of row.card ∷ decimal row.most ∷ decimal row.least ∷ decimal row.sampled ∷ yes_no (is_final row) ∷ map bit_letter row.vector ∷ []
 
+-- the same in each record: the number of moves, and how many layouts there are with their weight
+unfoldable pub shared_fields : List ℕ → Planned → List (List ℕ)
+shared_fields weights planned = planned_text planned ∷ decimal (length weights) ∷ decimal (sum weights) ∷ []
+
 -- the fields of a row: what is known of its card, whether it is the named one, and what is the same in each record
-unfoldable pub row_fields : List ℕ → CardTable → CardRow → List (List ℕ)
-row_fields weights table row =
-    known_fields row ++ yes_no (row.card == table.named) ∷ decimal table.moves ∷ decimal (length weights) ∷ decimal (sum weights) ∷ []
+unfoldable pub row_fields : List ℕ → Planned → ℕ → CardRow → List (List ℕ)
+row_fields weights planned named row = known_fields row ++ yes_no (row.card == named) ∷ shared_fields weights planned
 
 -- a record of the names, and then one for each row
-unfoldable pub cards_csv : List ℕ → CardTable → List ℕ
-cards_csv weights table = record_text field_names ++ flat_map (λ row. record_text (row_fields weights table row)) table.rows.items
+unfoldable pub cards_csv : List ℕ → Planned → List CardRow → ℕ → List ℕ
+cards_csv weights planned rows named = record_text field_names ++ flat_map (λ row. record_text (row_fields weights planned named row)) rows

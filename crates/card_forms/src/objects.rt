@@ -4,10 +4,12 @@ ghost use Rattle.serde_json.specs.View.{view};
 ghost use Rattle.bit_letters.specs.Bits.{bit_letter};
 ghost use Rattle.card_forms.specs.Objects.{card_data, cards_data, cards_json};
 
+use crate::planned::{Planned, planned_value};
 use crate::weight::weight_of_all;
 use bit_letters::push_bits;
 use byte_text::Text;
-use card_brackets::{CardRow, CardTable};
+use card_brackets::CardRow;
+use card_sets::Card;
 use serde_json::{Value, json};
 use std::alloc::{AllocError, Global};
 use text_forms::{card_string, json_line};
@@ -50,17 +52,25 @@ fn card_values(alloc: Global, rows: &Vec<CardRow>) -> Result<Vec<Value>, AllocEr
     Ok(values)
 }
 
-// The table as a value.
+// All that is told as a value.
 #[tactic(auto, unfolding(crate::specs::Objects::cards_data))]
-fn cards_value(alloc: Global, weights: &Weights, table: &CardTable) -> Result<Value, AllocError>
-    ensures { IfOk result (λ value. view value ≡ cards_data weights.now table.now) }
+fn cards_value(
+    alloc: Global,
+    weights: &Weights,
+    planned: Planned,
+    rows: &Vec<CardRow>,
+    named: Card,
+) -> Result<Value, AllocError>
+    ensures { IfOk result
+        (λ value. view value ≡ cards_data weights.now planned rows.now.items named) }
 {
-    let cards = card_values(alloc, &table.rows)?;
-    let named = card_string(alloc, table.named)?;
+    let cards = card_values(alloc, rows)?;
+    let moves = planned_value(alloc, planned)?;
+    let named = card_string(alloc, named)?;
     json!(in alloc; {
         "cards": cards,
         "layouts": weights.width(),
-        "moves": table.moves,
+        "moves": moves,
         "named": named,
         "weight": weight_of_all(weights),
     })
@@ -71,8 +81,14 @@ fn cards_value(alloc: Global, weights: &Weights, table: &CardTable) -> Result<Va
 /// No blanks stand between them, and a line feed at the end.
 ///
 /// Errors: an allocation fails.
-pub fn cards_json(alloc: Global, weights: &Weights, table: &CardTable) -> Result<Text, AllocError>
-    ensures { IfOk result (λ text. text ≡ cards_json weights.now table.now) }
+pub fn cards_json(
+    alloc: Global,
+    weights: &Weights,
+    planned: Planned,
+    rows: &Vec<CardRow>,
+    named: Card,
+) -> Result<Text, AllocError>
+    ensures { IfOk result (λ text. text ≡ cards_json weights.now planned rows.now.items named) }
 {
-    json_line(alloc, &cards_value(alloc, weights, table)?)
+    json_line(alloc, &cards_value(alloc, weights, planned, rows, named)?)
 }

@@ -4,11 +4,13 @@ ghost use Rattle.byte_text.specs.Lines.{line_of};
 ghost use Rattle.card_forms.specs.Plain.{final_text, bounds_text, outcome_text, row_line};
 ghost use Rattle.card_forms.specs.Plain.{cards_head, cards_text};
 
+use crate::planned::{Planned, push_planned};
 use crate::weight::weight_of_all;
 use bit_letters::push_bits;
 use byte_text::Text;
-use card_brackets::{CardRow, CardTable};
+use card_brackets::CardRow;
 use card_letters::letters_of;
+use card_sets::Card;
 use std::alloc::{AllocError, Global};
 use text_forms::push_number;
 use win_vectors::Weights;
@@ -68,12 +70,13 @@ fn push_rows(text: &mut Text, alloc: Global, rows: &Vec<CardRow>) -> Result<(), 
 
 // What stands before the rows.
 #[tactic(auto, unfolding(crate::specs::Plain::cards_head))]
-fn cards_head(alloc: Global, weights: &Weights, moves: u8) -> Result<Text, AllocError>
-    ensures { IfOk result (λ text. text ≡ cards_head weights.now moves) }
+fn cards_head(alloc: Global, weights: &Weights, planned: Planned) -> Result<Text, AllocError>
+    ensures { IfOk result (λ text. text ≡ cards_head weights.now planned) }
 {
     let mut text = Text::new(alloc);
     text.push(b"alphamu cards 1\n")?;
-    push_number(&mut text, alloc, b"moves ", u64::from(moves))?;
+    text.push(b"moves ")?;
+    push_planned(&mut text, alloc, planned)?;
     push_number(&mut text, alloc, b"\nlayouts ", u64::from(weights.width()))?;
     push_number(
         &mut text,
@@ -89,13 +92,19 @@ fn cards_head(alloc: Global, weights: &Weights, moves: u8) -> Result<Text, Alloc
 /// and the card that is named. Before them stand the number of moves, and how many layouts there
 /// are with their weight.
 #[tactic(auto, unfolding(crate::specs::Plain::cards_text))]
-pub fn cards_text(alloc: Global, weights: &Weights, table: &CardTable) -> Result<Text, AllocError>
-    ensures { IfOk result (λ text. text ≡ cards_text weights.now table.now) }
+pub fn cards_text(
+    alloc: Global,
+    weights: &Weights,
+    planned: Planned,
+    rows: &Vec<CardRow>,
+    named: Card,
+) -> Result<Text, AllocError>
+    ensures { IfOk result (λ text. text ≡ cards_text weights.now planned rows.now.items named) }
 {
-    let mut text = cards_head(alloc, weights, table.moves)?;
-    push_rows(&mut text, alloc, &table.rows)?;
+    let mut text = cards_head(alloc, weights, planned)?;
+    push_rows(&mut text, alloc, rows)?;
     text.push(b"named ")?;
-    text.push(&letters_of(table.named))?;
+    text.push(&letters_of(named))?;
     text.push(b"\n")?;
     Ok(text)
 }

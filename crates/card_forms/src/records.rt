@@ -1,13 +1,15 @@
 //! The cards of a root as records of CSV.
 ghost use Rattle.std.specs.Prelude.{◌≡◌, ◌++◌, IfOk, OnOk};
 ghost use Rattle.text_forms.specs.Records.{record_text};
-ghost use Rattle.card_forms.specs.Records.{cards_csv, known_fields, row_fields, yes_no};
+ghost use Rattle.card_forms.specs.Records.{cards_csv, known_fields, shared_fields, row_fields, yes_no};
 
+use crate::planned::{Planned, push_planned};
 use crate::weight::weight_of_all;
 use bit_letters::push_bits;
 use byte_text::Text;
-use card_brackets::{CardRow, CardTable};
+use card_brackets::CardRow;
 use card_letters::letters_of;
+use card_sets::Card;
 use std::alloc::{AllocError, Global};
 use text_forms::{Record, push_fields};
 use win_vectors::Weights;
@@ -33,24 +35,40 @@ fn push_known(fields: &mut Record, alloc: Global, row: &CardRow) -> Result<(), A
     fields.push(vector.bytes())
 }
 
+// Adds what is the same in each record.
+#[tactic(auto, unfolding(crate::specs::Records::shared_fields))]
+fn push_shared(
+    fields: &mut Record,
+    alloc: Global,
+    weights: &Weights,
+    planned: Planned,
+) -> Result<(), AllocError>
+    ensures { OnOk result (fields.new ≡ fields.old ++ shared_fields weights.now planned) }
+{
+    let mut moves = Text::new(alloc);
+    push_planned(&mut moves, alloc, planned)?;
+    fields.push(moves.bytes())?;
+    fields.push_number(u64::from(weights.width()))?;
+    fields.push_number(u64::from(weight_of_all(weights)))
+}
+
 // Appends the record of a row.
 #[tactic(auto, unfolding(crate::specs::Records::row_fields))]
 fn push_row(
     text: &mut Text,
     alloc: Global,
     weights: &Weights,
-    table: &CardTable,
+    planned: Planned,
+    named: Card,
     row: &CardRow,
 ) -> Result<(), AllocError>
     ensures { OnOk result
-        (text.new ≡ text.old ++ record_text (row_fields weights.now table.now row.now)) }
+        (text.new ≡ text.old ++ record_text (row_fields weights.now planned named row.now)) }
 {
     let mut fields = Record::new(alloc);
     push_known(&mut fields, alloc, row)?;
-    fields.push(yes_no(row.card == table.named))?;
-    fields.push_number(u64::from(table.moves))?;
-    fields.push_number(u64::from(weights.width()))?;
-    fields.push_number(u64::from(weight_of_all(weights)))?;
+    fields.push(yes_no(row.card == named))?;
+    push_shared(&mut fields, alloc, weights, planned)?;
     fields.write_to(text)
 }
 
@@ -61,8 +79,14 @@ fn push_row(
 ///
 /// Errors: an allocation fails.
 #[tactic(auto, unfolding(crate::specs::Records::cards_csv))]
-pub fn cards_csv(alloc: Global, weights: &Weights, table: &CardTable) -> Result<Text, AllocError>
-    ensures { IfOk result (λ text. text ≡ cards_csv weights.now table.now) }
+pub fn cards_csv(
+    alloc: Global,
+    weights: &Weights,
+    planned: Planned,
+    rows: &Vec<CardRow>,
+    named: Card,
+) -> Result<Text, AllocError>
+    ensures { IfOk result (λ text. text ≡ cards_csv weights.now planned rows.now.items named) }
 {
     let mut text = Text::new(alloc);
     push_fields(
@@ -73,8 +97,8 @@ pub fn cards_csv(alloc: Global, weights: &Weights, table: &CardTable) -> Result<
             b"layouts", b"weight",
         ],
     )?;
-    for row in &table.rows {
-        push_row(&mut text, alloc, weights, table, row)?;
+    for row in rows {
+        push_row(&mut text, alloc, weights, planned, named, row)?;
     }
     Ok(text)
 }

@@ -7,8 +7,10 @@ use Rattle.am_answer.specs.declared.status.Status.{Status}
 use Rattle.am_answer.specs.declared.status.Status.TheVariants.{Spent, Memory}
 use Rattle.card_brackets.specs.declared.table.CardTable.{CardTable}
 use Rattle.card_brackets.specs.Rows.{IsTableUpTo}
+use Rattle.exact_cards.specs.declared.table.ExactTable.{ExactTable}
+use Rattle.exact_cards.specs.ExactRows.{IsExactTable, AreFinalUnlessSpent}
 use Rattle.text_forms.specs.declared.form.Form.{Form}
-use Rattle.card_forms.specs.Forms.{cards_in}
+use Rattle.card_forms.specs.Forms.{cards_in, exact_in}
 
 -- the text of a root for a limit of moves, in a form
 abbrev pub IsCardsText : Root → ℕ → Form → List ℕ → Type 0
@@ -21,3 +23,8 @@ abbrev pub IsCardsRefusal : Root → ℕ → Search → Status → Type 0
 IsCardsRefusal root limit search (Spent card) = IsSpentAt root.kept.node limit search.nodes card
 IsCardsRefusal root limit search Memory = ⊤
 IsCardsRefusal root limit search _ = ⊥
+
+-- the text of a root, all moves planned, in a form
+abbrev pub IsExactText : Root → Form → List ℕ → Type 0
+IsExactText root form text = (table : ExactTable) × IsExactTable root.kept.node root.kept.weights table × AreFinalUnlessSpent table
+    × (text ≡ exact_in form root.kept.weights table)

@@ -1,14 +1,15 @@
 //! What is known of each card of a root, as a table and as a text.
-ghost use Rattle.std.specs.Prelude.{◌≡◌, true, IfOk, IfErr, length};
+ghost use Rattle.std.specs.Prelude.{◌≡◌, true, IfOk, IfErr, IsOkUnless, length};
 ghost use Rattle.job_words.specs.Asks.{IsMoves, IsSearchWithinLimits};
 ghost use Rattle.am_answer.specs.Answers.{has_choice};
 ghost use Rattle.card_brackets.specs.Rows.{IsTableUpTo};
-ghost use Rattle.job_cards.specs.Cards.{IsCardsText, IsCardsRefusal};
+ghost use Rattle.job_cards.specs.Cards.{IsCardsText, IsCardsRefusal, IsExactText};
 
 use am_answer::{Root, Status};
 use byte_text::Text;
 use card_brackets::{CardTable, card_table};
-use card_forms::cards_in;
+use card_forms::{cards_in, exact_in};
+use exact_cards::exact_table;
 use job_words::Search;
 use root_answers::{options_of, table_of};
 use root_workers::Question;
@@ -59,4 +60,17 @@ pub fn tell_cards(
 {
     let found = cards_of(alloc, root, moves, search)?;
     Ok(cards_in(alloc, form, &root.kept.weights, &found)?)
+}
+
+/// Every legal card of a root with what one strategy can win after it, all moves planned, written in
+/// the form. The search of each card may enter `nodes` nodes; if it is cut off, its bounds enclose
+/// that. One worker does all the work. Errors: `Memory`.
+pub fn tell_exact(alloc: Global, root: &Root, nodes: u64, form: Form) -> Result<Text, Status>
+    requires turn { has_choice root.now.kept.node ≡ true }
+    requires weighed { length root.now.kept.weights ≡ length root.now.kept.node.lefts }
+    ensures text { IfOk result (IsExactText root.now form) }
+    ensures refused { IsOkUnless result Status.Memory }
+{
+    let found = exact_table(alloc, &root.kept.node, &root.kept.weights, nodes)?;
+    Ok(exact_in(alloc, form, &root.kept.weights, &found)?)
 }

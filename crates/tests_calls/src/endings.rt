@@ -7,6 +7,9 @@ use trick_rules::{Position, Trump};
 /// Left's hand in the ending: SQ S5.
 pub const LEFT: [u8; 2] = [3, 10];
 
+/// Left's hand with the ace in place of the queen: SA S5.
+pub const OTHER: [u8; 2] = [3, 12];
+
 /// The spades of these numbers, of which none is greater than 12.
 /// No clause: the tests compare what comes of it with values from outside.
 pub fn spades(numbers: [u8; 2]) -> CardSet {

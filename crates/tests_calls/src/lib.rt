@@ -7,6 +7,8 @@
 #[cfg(test)]
 mod endings;
 #[cfg(test)]
+mod exact;
+#[cfg(test)]
 mod games;
 #[cfg(test)]
 mod logs;

@@ -1,5 +1,5 @@
 //! Sets of layouts that one strategy wins together, or none does.
-use crate::endings::{LEFT, ending, spades};
+use crate::endings::{LEFT, OTHER, ending, spades};
 use alphamu_core::Budget;
 use dd_solver::Solver;
 use set_search::{SetMemo, SetSearch, Verdict};
@@ -7,9 +7,6 @@ use std::alloc::{AllocError, Global};
 use std::test::Fail;
 use trick_rules::Node;
 use win_vectors::{Weights, WinVector};
-
-// Left's hand with the ace in place of the queen: SA S5.
-const OTHER: [u8; 2] = [3, 12];
 
 // Whether one strategy wins all layouts of a node. It never runs out of these nodes.
 fn is_won(alloc: Global, node: &Node) -> Result<bool, AllocError> {

@@ -1,0 +1,3 @@
+mod OwnCards
+mod Safest
+mod Exact
