@@ -1,3 +1,4 @@
 mod OwnCards
-mod Safest
+mod FirstRows
 mod Exact
+mod AllPlanned

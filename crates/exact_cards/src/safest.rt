@@ -12,8 +12,9 @@ pub fn safest_card(rows: &[CardRow]) -> Card
 {
     let mut best = rows[0];
     for place in 1..rows.len() {
-        if rows[place].least > best.least {
-            best = rows[place];
+        let row = rows[place];
+        if row.least > best.least {
+            best = row;
         }
     }
     best.card
