@@ -1,9 +1,9 @@
 //! What is known of one card.
-ghost use Rattle.std.specs.Prelude.{◌≡◌, true, false, IfOk, length};
+ghost use Rattle.std.specs.Prelude.{◌≡◌, ◌⊎◌, true, IfOk, length};
 ghost use Rattle.card_sets.specs.SetWords.{has_card};
 ghost use Rattle.trick_rules.specs.Positions.{to_play};
 ghost use Rattle.trick_rules.specs.Play.{is_declarers};
-ghost use Rattle.trick_rules.specs.Nodes.{choices, child};
+ghost use Rattle.trick_rules.specs.Nodes.{choices};
 ghost use Rattle.fusion_base.specs.Sampling.{made_after};
 ghost use Rattle.set_search.specs.Values.{IsBracket};
 ghost use Rattle.exact_cards.specs.ExactRows.{moves_after, IsExactRow, IsFinalUnlessSpent};
@@ -72,23 +72,6 @@ fn value_after(
     }
 }
 
-// The row of a card, of which sampling believes this.
-fn row_of(asked: &Asked, believed: &CardVector, value: &SetValue) -> CardRow
-    requires weights { length asked.now.weights.now ≡ length asked.now.node.now.lefts }
-    requires believed { believed.now.vector ≡ made_after asked.now.node.now believed.now.card }
-    requires bracket { IsBracket (child asked.now.node.now believed.now.card) moves_after
-        asked.now.weights.now value.now.won value.now.least value.now.most }
-    ensures { IsExactRow asked.now.node.now asked.now.weights.now believed.now.card result }
-{
-    CardRow {
-        card: believed.card,
-        vector: value.won,
-        most: value.most,
-        least: value.least,
-        sampled: asked.weights.total(believed.vector),
-    }
-}
-
 /// The row of a card, of which sampling believes this. The memo is one of the root's layouts: a card
 /// of declarer's side leaves each layout its number.
 ///
@@ -109,10 +92,18 @@ pub fn row_after(
     ensures spent { IfOk result (λ found. IsFinalUnlessSpent found.row found.entered) }
     ensures memo { memo.new ≡ memo.old }
 {
+    let _width = asked.node.width();
     let (child, _) = asked.node.child(asked.alloc, believed.card)?;
     let found = value_after(asked, solver, memo, &child)?;
+    let row = CardRow {
+        card: believed.card,
+        vector: found.value.won,
+        most: found.value.most,
+        least: found.value.least,
+        sampled: asked.weights.total(believed.vector),
+    };
     Ok(SearchedRow {
-        row: row_of(asked, believed, &found.value),
+        row,
         entered: found.entered,
     })
 }

@@ -9,9 +9,11 @@ use Rattle.am_answer.specs.declared.root.Root.{Root}
 use Rattle.am_answer.specs.Refusals.{root_status}
 use Rattle.card_brackets.specs.declared.table.CardTable.{CardTable}
 use Rattle.card_brackets.specs.Rows.{IsTableUpTo}
+use Rattle.exact_cards.specs.declared.table.ExactTable.{ExactTable}
+use Rattle.exact_cards.specs.ExactRows.{IsExactTable, AreFinalUnlessSpent}
 use Rattle.text_forms.specs.declared.form.Form.{Form}
-use Rattle.card_forms.specs.Forms.{cards_in}
-use Rattle.job_cards.specs.Cards.{IsCardsText, IsCardsRefusal}
+use Rattle.card_forms.specs.Forms.{cards_in, exact_in}
+use Rattle.job_cards.specs.Cards.{IsCardsText, IsCardsRefusal, IsExactText}
 
 -- the same root, once as it is and once as it is opened
 module _ (opened root : Root) (same : opened ≡ root) (moves : ℕ) where
@@ -30,3 +32,12 @@ module _ (opened root : Root) (same : opened ≡ root) (moves : ℕ) where
   refusal_of o s asked fault spent = refused s fault (λ card is.
       subst (λ (r : Root). IsSpentAt r.kept.node moves s.nodes card) same
       (subst (λ (p : Options). IsSpentAt opened.kept.node moves p.nodes card) asked (spent card is)))
+
+pub exact_of : (opened root : Root) → opened ≡ root → (form : Form) (table : ExactTable) (text : List ℕ) → IsExactTable opened.kept.node opened.kept.weights table → AreFinalUnlessSpent table
+    → text ≡ exact_in form opened.kept.weights table → IsExactText root form text
+exact_of opened root same form table text is spent written = (
+  table,
+  subst (λ (r : Root). IsExactTable r.kept.node r.kept.weights table) same is,
+  spent,
+  subst (λ (r : Root). text ≡ exact_in form r.kept.weights table) same written,
+)
