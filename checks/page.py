@@ -16,6 +16,7 @@ If the study searches for the report of a case, its page must be the same but fo
 cards, which must say what the job `cards` says. The card that the headline names is marked there, and no other.
 Each layout can be picked, has its rule of style, and has at the table the hands of the list; and the lines that are played out
 in it end and go, trick by trick, as the games of the job `lines` do.
+The pages that cases in cases/study/ expect must be XML too.
 A report that `check` refuses must be refused with the same line and status, and so must one whose card can't be played or begins
 none of its lines. The exit status is 0 only if nothing is wrong, and if
 at least LEAST pages were made.
@@ -39,7 +40,7 @@ from html.parser import HTMLParser
 sys.dont_write_bytecode = True
 import playing
 import reading
-from cases import STUDY, TOP, bytes_of, expected, is_ready, names_of_cases, parser_of, run, words_of
+from cases import STUDY, TOP, bytes_of, expected, is_ready, names_of_cases, names_of_study_cases, parser_of, run, words_of
 from options import job_of, with_job
 from playing import card_named, name_of
 
@@ -52,8 +53,8 @@ PLAYED, MOST_PLANNED, FEW_LAYOUTS = 4, 4, 40
 SIGNS = {"1": "\u2713", "0": "\u2717"}
 PLACES = ("North", "East", "South", "West")
 LETTERS = {"\u2660": "S", "\u2665": "H", "\u2666": "D", "\u2663": "C"}
-HOSTILE = b'</li><script>alert(1)</script>&amp;<b class=\'x\'>\xe9'
-SHOWN = "</li><script>alert(1)</script>&amp;<b class='x'>\ufffd"
+HOSTILE = b'</li><script>alert(1)</script>&amp;<b class=\'x\'>\xe9\x0b\xef\xbf\xbe'
+SHOWN = "</li><script>alert(1)</script>&amp;<b class='x'>\ufffd\ufffd\ufffd"
 
 
 class Reader(HTMLParser):
@@ -367,6 +368,14 @@ def faults_of_plays(page, head, lines, games, fusion):
     return wrong
 
 
+def xml_of(text):
+    """What follows the document type of a page as XML, or else none, and what is wrong with it."""
+    try:
+        return xml.etree.ElementTree.fromstring(text.split("\n", 1)[1]), []
+    except xml.etree.ElementTree.ParseError as error:
+        return None, [f"no XML: {error}"]
+
+
 def page_of(text, report):
     """The page with this report, and what is wrong with it as a page; no page if it is no XML."""
     reader = Reader()
@@ -375,10 +384,9 @@ def page_of(text, report):
     reader.close()
     wrong = reader.wrong + [f"<{tag}> isn't closed" for tag, _ in reader.open]
     wrong += [f"{link} leads nowhere" for link in reader.links if not link.startswith("#") or link[1:] not in reader.ids]
-    try:
-        page = xml.etree.ElementTree.fromstring(text.split("\n", 1)[1])
-    except xml.etree.ElementTree.ParseError as error:
-        return None, [*wrong, f"no XML: {error}"]
+    page, faults = xml_of(text)
+    if page is None:
+        return None, wrong + faults
     if reader.texts.get(("pre", "text"), "").encode() != report:
         wrong.append("the report on the page differs")
     width = len(reading.report_of(report)[2][0][0])
@@ -526,8 +534,9 @@ def judge(case, program, seconds):
     hostile, _, status = told(b"page", {deal: tags + text}.items())
     reader = Reader()
     reader.feed(hostile.decode())
-    if status or reader.wrong or reader.texts.get(("li", None), "").count(SHOWN) < 1:
-        wrong.append(f"hostile tags aren't told as text: {reader.wrong}")
+    faults = reader.wrong + (["no page"] if status else xml_of(hostile.decode())[1])
+    if faults or reader.texts.get(("li", None), "").count(SHOWN) < 1:
+        wrong.append(f"hostile tags aren't told as text: {faults}")
     return [f"{case}: {it}" for it in wrong], 3
 
 
@@ -580,6 +589,12 @@ def judge_example(program, name, seconds):
         return [f"examples/{name}: {it}" for it in faults_of(page, file.read(), report, words, fusion, games)]
 
 
+def faults_of_expected():
+    """The pages that the study's cases expect and that are no XML."""
+    pages = {case: expected(case)[0].decode() for case in names_of_study_cases() if expected(case)[0].startswith(b"<!DOCTYPE")}
+    return [f"{case}: {it}" for case, text in pages.items() for it in xml_of(text)[1]]
+
+
 def refusals(seconds):
     """Reports that `check` refuses."""
     wrong, number = [], 0
@@ -604,7 +619,7 @@ def main():
         told = list(pool.map(judge, cases, [given.program] * len(cases), [given.seconds] * len(cases)))
     not_refused, refused = refusals(given.seconds)
     shown = [judge_example(given.program, name, given.seconds) for name in EXAMPLES]
-    wrong = [line for lines in (*(lines for lines, _ in told), *shown) for line in lines] + not_refused
+    wrong = [line for lines in (*(lines for lines, _ in told), *shown) for line in lines] + not_refused + faults_of_expected()
     for line in wrong:
         print(line)
     number = sum(count for _, count in told) + len(shown)

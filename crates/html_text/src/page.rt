@@ -95,26 +95,26 @@ impl Page {
         ensures { IfOk result (λ text. text ≡ written_as self.now) }
     {
         let mut text = Text::new(self.alloc);
-        push_pieces(&mut text, &self.pieces)?;
+        push_pieces(&mut text, self.alloc, &self.pieces)?;
         Ok(text)
     }
 }
 
-fn push_pieces(out: &mut Text, pieces: &[Piece]) -> Result<(), AllocError>
+fn push_pieces(out: &mut Text, alloc: Global, pieces: &[Piece]) -> Result<(), AllocError>
     ensures { OnOk result (out.new ≡ out.old ++ written_as pieces.now) }
 {
     for piece in pieces {
-        push_piece(out, piece)?;
+        push_piece(out, alloc, piece)?;
     }
     Ok(())
 }
 
-fn push_piece(out: &mut Text, piece: &Piece) -> Result<(), AllocError>
+fn push_piece(out: &mut Text, alloc: Global, piece: &Piece) -> Result<(), AllocError>
     ensures { OnOk result (out.new ≡ out.old ++ piece_text piece.now) }
 {
     if piece.is_own {
         out.push(piece.bytes.bytes())
     } else {
-        push_escaped(out, piece.bytes.bytes())
+        push_escaped(out, alloc, piece.bytes.bytes())
     }
 }

@@ -176,7 +176,7 @@ fn push_verdict(
 }
 
 #[tactic(auto, unfolding(crate::specs::ReportPages::top))]
-fn push_top(page: &mut Page, alloc: Global, shown: &Shown, lines: &[Line]) -> Result<(), AllocError>
+fn push_top(page: &mut Page, shown: &Shown, lines: &[Line]) -> Result<(), AllocError>
     ensures { OnOk result (page.new ≡ page.old ++ top shown.now.game.now shown.now.board.now
         shown.now.kept.now (report_of shown.now.report.now)
         (option_copied shown.now.cards) lines.now) }
@@ -187,7 +187,6 @@ fn push_top(page: &mut Page, alloc: Global, shown: &Shown, lines: &[Line]) -> Re
     push_start(page, report.card, kept.node.width())?;
     push_facts(
         page,
-        alloc,
         &tags_of(shown.game),
         board.compass(kept.node.position().to_play()),
     )?;
@@ -289,7 +288,7 @@ fn page_of(alloc: Global, shown: &Shown, found: &Found) -> Result<Page, AllocErr
     let report = shown.report;
     let scale = scale_of(shown.kept, report.version);
     let mut page = Page::new(alloc);
-    push_top(&mut page, alloc, shown, &found.lines)?;
+    push_top(&mut page, shown, &found.lines)?;
     push_cards(&mut page, scale, report.card, shown.cards)?;
     push_middle(&mut page, shown, found)?;
     push_report(&mut page, bytes.bytes())?;

@@ -1,7 +1,6 @@
 -- What stands round the parts of a page: its head, facts of the deal file, and the report.
 use Rattle.std.specs.Prelude.{ℕ, Option, None, Some, List, [], ◌++◌, codes}
 use Rattle.std.specs.Option.{option_copied}
-use Rattle.std.specs.Str.Lossy.{utf8_lossy}
 use Rattle.card_sets.specs.declared.seat.Compass.{Compass}
 use Rattle.card_letters.specs.Letters.{letters_of}
 use Rattle.html_text.specs.declared.page.Piece.{Piece}
@@ -18,7 +17,7 @@ start card width = own HEAD.now ++ told (letters_of card) ++ own TITLE_END.now +
 -- what a tag of the deal file says, if it is there
 unfoldable pub fact : List ℕ → Option (List ℕ) → List Piece
 fact front None = []
-fact front (Some value) = own front ++ told (utf8_lossy value) ++ own (codes "</li>\n")
+fact front (Some value) = own front ++ told value ++ own (codes "</li>\n")
 
 -- the event, the board and the contract of the deal file, if it has them
 pub record TagValues : Type 0 where

@@ -15,7 +15,7 @@ use crate::signs::compass_word;
 use card_letters::letters_of;
 use card_sets::{Card, Compass};
 use html_text::Page;
-use std::alloc::{AllocError, Global};
+use std::alloc::AllocError;
 
 /// Adds the head, with the card to play as title, and the style for a page of this many layouts.
 #[tactic(auto, unfolding(crate::specs::Frames::start))]
@@ -34,7 +34,6 @@ pub fn push_start(page: &mut Page, card: Card, width: u16) -> Result<(), AllocEr
 #[tactic(auto, unfolding(crate::specs::Frames::fact))]
 fn push_fact(
     page: &mut Page,
-    alloc: Global,
     front: &'static [u8],
     value: Option<&[u8]>,
 ) -> Result<(), AllocError>
@@ -43,9 +42,8 @@ fn push_fact(
     let Some(bytes) = value else {
         return Ok(());
     };
-    let text = String::from_utf8_lossy(alloc, bytes)?;
     page.own(front)?;
-    page.told(text.as_bytes())?;
+    page.told(bytes)?;
     page.own(b"</li>\n")
 }
 
@@ -58,26 +56,21 @@ pub struct Tags<'a> {
 }
 
 #[tactic(auto, unfolding(crate::specs::Frames::tags))]
-fn push_tags(page: &mut Page, alloc: Global, tags: &Tags) -> Result<(), AllocError>
+fn push_tags(page: &mut Page, tags: &Tags) -> Result<(), AllocError>
     ensures { OnOk result (page.new ≡ page.old ++ tag_pieces (told_by tags.now)) }
 {
     page.own(FACTS)?;
-    push_fact(page, alloc, EVENT, tags.event)?;
-    push_fact(page, alloc, BOARD, tags.board)?;
-    push_fact(page, alloc, CONTRACT, tags.contract)
+    push_fact(page, EVENT, tags.event)?;
+    push_fact(page, BOARD, tags.board)?;
+    push_fact(page, CONTRACT, tags.contract)
 }
 
 /// Adds what the deal file says, and whose turn it is.
 #[tactic(auto, unfolding(crate::specs::Frames::facts))]
-pub fn push_facts(
-    page: &mut Page,
-    alloc: Global,
-    tags: &Tags,
-    turn: Compass,
-) -> Result<(), AllocError>
+pub fn push_facts(page: &mut Page, tags: &Tags, turn: Compass) -> Result<(), AllocError>
     ensures { OnOk result (page.new ≡ page.old ++ facts (told_by tags.now) turn) }
 {
-    push_tags(page, alloc, tags)?;
+    push_tags(page, tags)?;
     page.own(b"<li>")?;
     page.own(compass_word(turn))?;
     page.own(FACTS_END)
