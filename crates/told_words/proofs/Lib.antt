@@ -2,3 +2,4 @@ pub mod Sizes
 pub mod PlayedSets
 pub mod Telling
 pub mod Numbered
+pub mod Told

@@ -1,5 +1,6 @@
 pub mod Turns
 pub mod Phrases
+pub mod TurnLaws
 pub mod Numbers
 pub mod Steps
 pub mod Words

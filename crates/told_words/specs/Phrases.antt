@@ -1,5 +1,5 @@
 -- The words for what a seat does.
-use Rattle.std.specs.Prelude.{ℕ, Bool, true, false, Option, None, Some, List, [], ◌∷◌, ◌++◌, codes, if◌then◌else◌}
+use Rattle.std.specs.Prelude.{ℕ, Bool, true, false, Option, None, Some, List, [], ◌∷◌, ◌++◌, map, flat_map, codes, if◌then◌else◌}
 use Rattle.std.specs.List.{list_all}
 use Rattle.std.proofs.Math.Bool.{beq}
 use Rattle.card_sets.specs.declared.seat.Seat.{Seat}
@@ -13,7 +13,6 @@ use Rattle.trick_rules.specs.Nodes.{NodeValue}
 use Rattle.told_words.specs.declared.turns.Manner.{Manner}
 use Rattle.told_words.specs.declared.turns.Manner.TheVariants.{Lead, Follow, Ruff, Throw}
 use Rattle.told_words.specs.declared.phrases.Turn.{Turn}
-use Rattle.told_words.specs.declared.phrases.TheConstants.{TURNS}
 use Rattle.told_words.specs.Turns.{played_so}
 
 abbrev pub compass_name : Compass → List ℕ
@@ -76,9 +75,13 @@ phrases declarer cards places begun (turn ∷ turns) =
     let own = played_so turn.seat turn.manner cards places in
     next_phrase declarer turn own begun ++ phrases declarer cards places (has_begun own begun) turns
 
+-- declarer's side and then the defenders, each with every manner
+abbrev pub turns : List Turn
+turns = flat_map (λ seat. map (λ manner. record { seat = seat; manner = manner }) (Lead ∷ Follow ∷ Ruff ∷ Throw ∷ [])) (Declarer ∷ Dummy ∷ Left ∷ Right ∷ [])
+
 -- who plays one of the cards at these nodes, and how
 abbrev pub turn_text : Compass → List ℕ → List NodeValue → List ℕ
-turn_text declarer cards places = phrases declarer cards places false TURNS
+turn_text declarer cards places = phrases declarer cards places false turns
 
 -- whether the result is decided, and is this one
 abbrev pub is_result : Bool → Option Bool → Bool

@@ -3,6 +3,7 @@
 //! behind their steps. A contract says that the text is the one that the definition gives.
 #![tactic(auto)]
 
+pub mod laws;
 mod layouts;
 mod lines;
 mod phrases;

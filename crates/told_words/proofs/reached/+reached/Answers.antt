@@ -1,4 +1,4 @@
-use Rattle.std.proofs.Common.{◌≡◌, ◌∙◌, ◌++◌, sym, ap, subst, not}
+use Rattle.std.proofs.Common.{◌≡◌, ◌∙◌, ◌++◌, sym, ap, subst}
 use Rattle.std.specs.Prelude.{OnOk}
 use Rattle.told_plans.specs.Told.{ToldPlay, ToldHear}
 use Rattle.told_plans.specs.ToldMeaning.{told_of, branches_of}
