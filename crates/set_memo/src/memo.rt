@@ -5,7 +5,7 @@ ghost use Rattle.set_memo.specs.Known.{IsVerdictAt};
 
 use crate::kept_set::{KeptSet, digest};
 use crate::verdict::Verdict;
-use card_sets::CardSet;
+use card_sets::{Card, CardSet};
 use std::alloc::{AllocError, Global};
 use std::marker::Model;
 use trick_rules::{Node, Position};
@@ -21,6 +21,7 @@ const WAYS: usize = 16;
 pub struct SetMemo {
     layouts: Vec<CardSet>,
     slots: Vec<Option<KeptSet>>,
+    first: Vec<CardSet>,
     turn: usize,
 }
 
@@ -45,6 +46,7 @@ impl SetMemo {
         Ok(SetMemo {
             layouts: Vec::from_slice(alloc, root.lefts())?,
             slots: free_slots(alloc, slots)?,
+            first: no_cards(alloc, slots)?,
             turn: 0,
         })
     }
@@ -70,6 +72,29 @@ impl SetMemo {
             }
         }
         None
+    }
+
+    /// The card that settled a position the last time, if it is kept: it won all of a set, or a core
+    /// was left after it.
+    ///
+    /// No clause: it decides only which card is tried first.
+    pub fn settling_card(&self, position: &Position, moves: u8) -> CardSet {
+        if self.first.is_empty() {
+            return CardSet::empty();
+        }
+        self.first[digest(position, moves) as usize % self.first.len()]
+    }
+
+    /// Keeps the card that settled a position.
+    ///
+    /// No clause says that it is kept, for the same reason.
+    pub fn keep_card(&mut self, position: &Position, moves: u8, card: Card)
+        ensures { self.new ≡ self.old }
+    {
+        if !self.first.is_empty() {
+            let place = digest(position, moves) as usize % self.first.len();
+            self.first[place] = CardSet::empty().with(card);
+        }
     }
 
     /// Offers a verdict on a set. It is kept instead of what says no more, or in a free slot, or
@@ -118,4 +143,13 @@ fn free_slots(alloc: Global, count: usize) -> Result<Vec<Option<KeptSet>>, Alloc
         slots.push(None)?;
     }
     Ok(slots)
+}
+
+// This many sets with no card in them.
+fn no_cards(alloc: Global, count: usize) -> Result<Vec<CardSet>, AllocError> {
+    let mut cards = Vec::with_capacity(alloc, count)?;
+    for _ in 0..count {
+        cards.push(CardSet::empty())?;
+    }
+    Ok(cards)
 }
