@@ -4,3 +4,4 @@ pub mod Opened
 pub mod Replies
 pub mod Roots
 pub mod Valued
+mod LeftOut

@@ -19,9 +19,11 @@ use Rattle.set_nodes.proofs.Numbers.{keeps_numbers, is_part, layouts_in_part, so
 use Rattle.set_nodes.proofs.Legal.{length-legal_at, legal_there}
 use Rattle.set_nodes.proofs.Won.{IsWon, won_in_part, won_by_card, lost_by_cards}
 use Rattle.set_nodes.proofs.Places.{HasOne, dominates_ones, one_at, one_within, meet_within}
+use Rattle.alphamu_core.specs.Kept.{IsTaken}
 use Rattle.set_memo.specs.Known.{IsLostAt}
 use Rattle.set_search.specs.Judged.{AreAllMade}
 use Rattle.set_search.specs.Open.{own_legal, LostAfter, AreOpenCards}
+use Rattle.set_search.specs.LeftOut.{IsNoBetter, AreEnough}
 
 -- ---- cards
 
@@ -29,7 +31,7 @@ use Rattle.set_search.specs.Open.{own_legal, LostAfter, AreOpenCards}
 pub first_or_later : (card : ℕ) (later : List ℕ) (c : ℕ) → has_card (card ∷ later) c ≡ true → (card ≡ c) ⊎ (has_card later c ≡ true)
 first_or_later card later c h = ⊎_elim (λ (e : card ≡ c). inl e) (λ (k : Contains later c). inr (has_card-from_Contains later c k)) (Contains-cons card later c (Contains-from_has_card (card ∷ later) c h))
 
-own_in : (t : PositionValue) (left : List ℕ) (card : ℕ) → is_declarers (to_play t) ≡ true → is_legal t card left ≡ has_card (own_legal t) card
+pub own_in : (t : PositionValue) (left : List ℕ) (card : ℕ) → is_declarers (to_play t) ≡ true → is_legal t card left ≡ has_card (own_legal t) card
 own_in t left card ours = ap (λ (cards : List ℕ). has_card cards card) (legal_in-ours t left ours ∙ sym (legal_in-ours t [] ours))
 
 pub own_from_choice : (n : NodeValue) (card : ℕ) → IsNode n → is_declarers (to_play n.position) ≡ true → has_card (choices n) card ≡ true → has_card (own_legal n.position) card ≡ true
@@ -132,31 +134,49 @@ module _ (layouts : List (List ℕ)) (t : PositionValue) (chosen : Vector) (trie
   }
 
   module _ (less : ℕ) where
-    pub core_more : (rest later : List ℕ) (card : ℕ) (core lost more : Vector) → rest ≡ card ∷ later → more ≡ either_of core lost → Dominates chosen lost
+    pub core_more : (rest later : List ℕ) (card : ℕ) (core lost more : Vector) → IsTaken rest card later → more ≡ either_of core lost → Dominates chosen lost
         → IsLostAt layouts (after_card t card) less lost → IsCoreSoFar layouts t less chosen tried rest core → IsCoreSoFar layouts t less chosen tried later more
-    core_more rest later card core lost more first is low out so =
+    core_more rest later card core lost more taken is low out so =
         let wide : length core ≡ length lost = sym (width_below chosen core so.within) ∙ width_below chosen lost low in
         let above : Dominates more core = subst (λ (v : Vector). Dominates v core) (sym is) (first_either core lost wide) in
         let over : Dominates more lost = subst (λ (v : Vector). Dominates v lost) (sym is) (second_either core lost wide) in
+        let earlier : (c : ℕ) → has_card later c ≡ true → has_card rest c ≡ true = λ c h. has_card-from_Contains rest c (taken.part c (Contains-from_has_card later c h)) in
         record {
           within = either_within chosen core lost more is so.within low;
-          to_come = λ c h. so.to_come c (before rest later card first c h);
-          made = λ c h. so.made c (before rest later card first c h);
+          to_come = λ c h. so.to_come c (earlier c h);
+          made = λ c h. so.made c (earlier c h);
           each = λ c own. ⊎_elim
               (λ (yet : has_card rest c ≡ true). ⊎_elim
-              (λ (e : card ≡ c). inr (lost, over, subst (λ (x : ℕ). IsLostAt layouts (after_card t x) less lost) e out))
-              (λ (after : has_card later c ≡ true). inl after)
-              (first_or_later card later c (sym (ap (λ (cards : List ℕ). has_card cards c) first) ∙ yet)))
+              (λ (e : c ≡ card). inr (lost, over, subst (λ (x : ℕ). IsLostAt layouts (after_card t x) less lost) (sym e) out))
+              (λ (after : Contains later c). inl (has_card-from_Contains later c after))
+              (taken.others c (Contains-from_has_card rest c yet)))
               (λ (gone : LostAfter layouts t less c core). inr (gone.0, Dominates-trans more core gone.0 above gone.1, gone.2))
               (so.each c own);
         }
 
-    module _ (enough : (card : ℕ) → has_card (own_legal t) card ≡ true → has_card tried card ≡ true) (are : AreLayoutsAt layouts t chosen) (ours : is_declarers (to_play t) ≡ true) (live : is_some (decided t) ≡ false)
+    module _ (enough : AreEnough t tried) (are : AreLayoutsAt layouts t chosen) (ours : is_declarers (to_play t) ≡ true) (live : is_some (decided t) ≡ false)
         (rest : List ℕ) (core : Vector) (none : rest ≡ []) (so : IsCoreSoFar layouts t less chosen tried rest core) where
+      -- what is lost after a card is lost after one that is no better
+      lost_too : (card kept : ℕ) → has_card (own_legal t) card ≡ true → has_card (own_legal t) kept ≡ true → IsNoBetter t card kept → LostAfter layouts t less kept core → LostAfter layouts t less card core
+      lost_too card kept own own_kept better gone =
+          let part = gone.0 in
+          let there = layouts_in_part layouts t chosen part are (Dominates-trans chosen core part so.within gone.1) (some_layouts layouts (after_card t kept) part gone.2.some) in (
+            part,
+            gone.1,
+            record {
+              some = layouts_after_ours layouts t ours part card there own;
+              lost = λ w. gone.2.lost (subst (λ (n : NodeValue). IsWon n less) (child_ours layouts t ours part kept there.width own_kept)
+                  (better (node_at layouts t part).lefts less there.node (subst (λ (n : NodeValue). IsWon n less) (sym (child_ours layouts t ours part card there.width own)) w)));
+            },
+          )
+
       gone_after : (card : ℕ) → has_card (own_legal t) card ≡ true → LostAfter layouts t less card core
-      gone_after card own = ⊎_elim
-          (λ (yet : has_card rest card ≡ true). absurd (false≢true (ap (λ (cards : List ℕ). has_card cards card) (sym none) ∙ yet)))
-          (λ (gone : LostAfter layouts t less card core). gone) (so.each card (enough card own))
+      gone_after card own =
+          let kept = enough.each card own in
+          lost_too card kept.0 own (enough.legal kept.0 kept.1) kept.2
+          (⊎_elim
+          (λ (yet : has_card rest kept.0 ≡ true). absurd (false≢true (ap (λ (cards : List ℕ). has_card cards kept.0) (sym none) ∙ yet)))
+          (λ (gone : LostAfter layouts t less kept.0 core). gone) (so.each kept.0 kept.1))
 
       core_some : 1 ≤ ones_of core
       core_some =

@@ -1,5 +1,5 @@
 -- Layouts of a set, judged by double dummy.
-use Rattle.std.proofs.Common.{◌≡◌, ◌∙◌, ◌<◌, ◌||◌, ◌==◌, ℕ, zero, suc, Bool, true, false, is_some, Option, None, Some, IfSome, List, [], length, replicate, get_or, set, Contains, refl, sym, ap, subst, true≢false, ⊎_elim, arith}
+use Rattle.std.proofs.Common.{rules, ◌≡◌, ◌∙◌, ◌<◌, ◌||◌, ◌==◌, ℕ, zero, suc, Bool, true, false, is_some, Option, None, Some, IfSome, IsNone, List, [], length, replicate, get_or, set, Contains, refl, sym, ap, subst, true≢false, ⊎_elim, arith}
 use Rattle.std.proofs.lemmas.Bool.{false≢true}
 use Rattle.std.proofs.lemmas.List.{length-replicate, length-set}
 use Rattle.std.proofs.lemmas.List.Elements.{All-contains}
@@ -57,6 +57,10 @@ module _ (layouts : List (List ℕ)) (t : PositionValue) (chosen : Vector) (are 
       subst (λ (x : State). makes x ≡ true) layout.2
       (subst (λ (left : List ℕ). makes (record { position = t; left = left }) ≡ true) same (each place.0 place.1))
 
+  -- and each that is chosen is made
+  pub made_there : AreAllMade (node_at layouts t chosen) → (k : ℕ) → HasOne chosen k → makes_there layouts t k ≡ true
+  made_there each k h = each (record { position = t; left = still_held t (get_or layouts k []) }) (state_there k h)
+
   -- what is made is made in part
   pub made_in_part : (part : Vector) → Dominates chosen part → AreAllMade (node_at layouts t chosen) → AreAllMade (node_at layouts t part)
   made_in_part part d each s among =
@@ -106,3 +110,7 @@ lost_in_part layouts t chosen part place d lost = record { chosen = one_at chose
 pub if_some : {X : Type 0} (P Q : X → Type 0) → ((x : X) → P x → Q x) → (o : Option X) → IfSome o P → IfSome o Q
 if_some P Q f None h = tt
 if_some P Q f (Some x) h = f x h
+
+pub none_of : {X : Type 0} (o : Option X) → is_some o ≡ false → IsNone o
+none_of None h = search rules
+none_of (Some x) h = absurd (true≢false h)

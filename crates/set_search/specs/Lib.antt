@@ -3,3 +3,4 @@ pub mod Verdicts
 pub mod Walks
 pub mod Open
 pub mod Values
+pub mod LeftOut

@@ -1,5 +1,5 @@
 //! Double dummy in the layouts of a set.
-ghost use Rattle.std.specs.Prelude.{◌≡◌, ◌<◌, true, false, get_or, length, IfSome, IsNone};
+ghost use Rattle.std.specs.Prelude.{◌≡◌, ◌<◌, ℕ, true, false, get_or, length, IfSome, IsNone};
 ghost use Rattle.set_nodes.specs.SetNodes.{node_at, AreLayoutsAt};
 ghost use Rattle.set_search.specs.Judged.{stops_here, makes_there, IsLostPlace, AreAllMade};
 
@@ -44,6 +44,29 @@ pub fn lost_layout(
 {
     for place in 0..set.width() {
         if set.get(place) && !is_made(solver, layouts, position, set, place) {
+            return Some(place);
+        }
+    }
+    None
+}
+
+/// The first layout of the set that double dummy loses, of those that aren't in a core.
+pub fn lost_outside(
+    solver: &mut Solver,
+    layouts: &[CardSet],
+    position: &Position,
+    set: WinVector,
+    core: WinVector,
+) -> Option<u16>
+    requires layouts { AreLayoutsAt layouts.now position.now set }
+    requires width { length core ≡ length set }
+    ensures lost { IfSome result (IsLostPlace layouts.now position.now set) }
+    ensures none { IsNone result → (place : ℕ) → get_or set place false ≡ true
+        → get_or core place false ≡ false → makes_there layouts.now position.now place ≡ true }
+{
+    for place in 0..set.width() {
+        let judged = set.get(place) && !core.get(place);
+        if judged && !is_made(solver, layouts, position, set, place) {
             return Some(place);
         }
     }

@@ -5,9 +5,10 @@
 //! `alphamu_core`.
 #![tactic(auto)]
 
+mod card_order;
 mod judge;
+mod neighbours;
 mod open_cards;
-mod reply_order;
 mod search;
 mod value;
 

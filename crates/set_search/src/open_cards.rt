@@ -8,7 +8,7 @@ ghost use Rattle.set_nodes.specs.SetNodes.{node_at, AreLayoutsAt};
 ghost use Rattle.set_search.specs.Judged.{IsLostPlace, AreAllMade};
 ghost use Rattle.set_search.specs.Open.{own_legal, AreOpenCards};
 
-use crate::judge::lost_layout;
+use crate::judge::{lost_layout, lost_outside};
 use card_sets::CardSet;
 use dd_solver::Solver;
 use set_nodes::only;
@@ -42,7 +42,7 @@ fn lost_first_in(
             return place;
         }
     }
-    lost_layout(solver, layouts, position, set)
+    lost_outside(solver, layouts, position, set, core)
 }
 
 /// Judges each of these cards of declarer's side.

@@ -9,9 +9,10 @@ ghost use Rattle.set_search.specs.Judged.{stops_here, AreAllMade};
 ghost use Rattle.set_search.specs.Verdicts.{IsSetVerdict};
 ghost use Rattle.set_search.specs.Walks.{Pays, PaysBelow};
 
+use crate::card_order::{legal_counts, take_highest, take_widest};
 use crate::judge::{lost_layout, stops};
+use crate::neighbours::{has_answered_neighbour, own_cards};
 use crate::open_cards::open_cards;
-use crate::reply_order::{legal_counts, take_widest};
 use alphamu_core::{Budget, SearchFault};
 use card_sets::CardSet;
 use dd_solver::Solver;
@@ -162,14 +163,18 @@ impl SetSearch<'_> {
         ensures same_solver { self.new.solver.ghost_name ≡ self.old.solver.ghost_name }
         ensures same_memo { self.new.memo.ghost_name ≡ self.old.memo.ghost_name }
     {
-        let tried = position.legal_in(CardSet::empty());
+        let tried = own_cards(position);
+        let first = self.memo.settling_card(position, moves);
         let open = open_cards(self.solver, layouts, position, set, tried);
         let mut cards = open.cards;
         let mut core = open.core;
-        'cards: while let Some(card) = cards.pop_first() {
+        'cards: while let Some(card) = take_highest(&mut cards, first) {
             let after = play(position, card);
             match self.core_first(layouts, &after, moves - 1, set, core)? {
-                Verdict::Won => return Ok(Verdict::Won),
+                Verdict::Won => {
+                    self.memo.keep_card(position, moves, card);
+                    return Ok(Verdict::Won);
+                }
                 Verdict::Core(lost) => core = core.either(lost),
             }
         }
@@ -229,13 +234,18 @@ impl SetSearch<'_> {
         ensures same_memo { self.new.memo.ghost_name ≡ self.old.memo.ghost_name }
     {
         let counts = legal_counts(layouts, position, set);
+        let first = self.memo.settling_card(position, moves);
         let mut cards = position.unseen;
-        'cards: while let Some(card) = take_widest(&mut cards, &counts) {
+        'cards: while let Some(card) = take_widest(&mut cards, &counts, first) {
             let kept = legal_layouts(layouts, position, set, card);
             if kept.count() == 0 {
                 continue;
             }
+            if has_answered_neighbour(layouts, position, kept, cards, card) {
+                continue;
+            }
             if let Verdict::Core(lost) = self.search(layouts, &play(position, card), moves, kept)? {
+                self.memo.keep_card(position, moves, card);
                 return Ok(Verdict::Core(lost));
             }
         }

@@ -39,8 +39,17 @@ fn entered_again(alloc: Global, node: &Node) -> Result<u64, AllocError> {
     Ok(before.saturating_sub(search.budget.left()))
 }
 
-// In how many layouts of a node one strategy wins, if the search ends with the exact value.
-fn value(alloc: Global, node: &Node, nodes: u64) -> Result<Option<u32>, AllocError> {
+// Whether the search tells this set, and as exact, if layouts have these weights.
+fn is_told(
+    alloc: Global,
+    node: &Node,
+    nodes: u64,
+    weights: &Weights,
+    set: WinVector,
+) -> Result<bool, AllocError> {
+    if weights.width() != node.width() {
+        return Ok(false);
+    }
     let mut solver = Solver::new(alloc);
     let mut budget = Budget::new(nodes);
     let mut memo = SetMemo::new(alloc, node, 64)?;
@@ -49,9 +58,9 @@ fn value(alloc: Global, node: &Node, nodes: u64) -> Result<Option<u32>, AllocErr
         budget: &mut budget,
         memo: &mut memo,
     };
-    match search.value(alloc, node, 26, &Weights::equal(node.width())) {
-        Ok(found) if found.least == found.most => Ok(Some(found.least)),
-        _ => Ok(None),
+    match search.value(alloc, node, 26, weights) {
+        Ok(found) => Ok(found.least == found.most && found.won.equals(set)),
+        Err(_) => Ok(false),
     }
 }
 
@@ -71,9 +80,15 @@ fn the_king_or_the_jack(rt: HostRuntime) -> Result<(), Fail> {
     assert!(rt; is_won(alloc, &with_queen)?);
     assert!(rt; is_won(alloc, &with_ace)?);
     assert!(rt; !is_won(alloc, &with_either)?);
-    assert!(rt; value(alloc, &with_queen, 1_000)? == Some(1));
-    assert!(rt; value(alloc, &with_either, 1_000)? == Some(1));
-    assert!(rt; value(alloc, &with_either, 1)?.is_none());
+    let first = WinVector::none(2).set(0, true);
+    let second = WinVector::none(2).set(1, true);
+    let one = WinVector::all(1);
+    assert!(rt; is_told(alloc, &with_queen, 1_000, &Weights::equal(1), one)?);
+    // Of two sets that weigh the same the first is told, else the heavier one.
+    let equal = Weights::equal(2);
+    assert!(rt; is_told(alloc, &with_either, 1_000, &equal, first)?);
+    assert!(rt; !is_told(alloc, &with_either, 1, &equal, first)?);
+    assert!(rt; is_told(alloc, &with_either, 1_000, &equal.set(1, 3), second)?);
     // The memo answers it the second time.
     assert!(rt; entered_again(alloc, &with_either)? == 1);
     Ok(())

@@ -2,21 +2,22 @@ use Rattle.std.proofs.Common.{◌≡◌, ◌∙◌, ◌≤◌, ◌+◌, ◌-◌,
 use Rattle.win_vectors.specs.Vectors.{ones_of}
 use Rattle.win_vectors.specs.Fronts.{Dominates}
 use Rattle.trick_rules.specs.Positions.{PositionValue}
-use Rattle.trick_rules.specs.Play.{after_card, legal_in, cards_left}
+use Rattle.trick_rules.specs.Play.{after_card, cards_left}
 use Rattle.trick_rules.specs.Nodes.{NodeValue}
 use Rattle.trick_rules.proofs.PlayLaws.{a_card_leaves_one_fewer}
 use Rattle.card_sets.specs.SetWords.{has_card}
 use Rattle.strategy_games.proofs.Vectors.{Dominates-trans}
+use Rattle.strategy_tree.proofs.CardLists.{has_card-from_Contains}
 use Rattle.set_nodes.specs.SetNodes.{node_at, AreLayoutsAt}
 use Rattle.set_nodes.proofs.Numbers.{width_below, layouts_in_part}
 use Rattle.set_nodes.proofs.Won.{IsWon}
 use Rattle.set_memo.specs.declared.verdict.Verdict.{Verdict}
 use Rattle.set_memo.specs.Known.{IsLostAt, IsVerdictAt}
 use Rattle.set_search.specs.Judged.{AreAllMade}
-use Rattle.set_search.specs.Open.{own_legal, AreOpenCards}
 use Rattle.set_search.proofs.Places.{live_here, some_moves, made_in_part, won_alone, won_where_stopped}
-use Rattle.set_search.proofs.OurCards.{can_play_ours, layouts_after_ours, won_by_ours, core_open, core_more, comes, core_all}
-use Rattle.set_search.proofs.Replies.{AreWonSoFar, can_play_theirs, layouts_after_theirs, made_after_theirs, choice_kept, child_theirs, lost_within, core_by_reply, replies_none, replies_more, replies_all}
+use Rattle.set_search.proofs.OurCards.{can_play_ours, layouts_after_ours, won_by_ours, core_open, core_more, core_all}
+use Rattle.set_search.proofs.Replies.{AreWonSoFar, kept_width, can_play_theirs, layouts_after_theirs, made_after_theirs, choice_kept, child_theirs, lost_within, core_by_reply, replies_none, replies_more, replies_all}
+use Rattle.set_search.proofs.LeftOut.{won_by_neighbour}
 use Rattle.set_search.proofs.Roots.{not_none}
 use Rattle.set_search.proofs.search.SetSearch.+walk.Goals as goal
 use Rattle.set_search.proofs.search.SetSearch.+walk.Goals.{search-then-count-eq1-via-then-count-eq1, search-then-count-eq1-via-else-count-eq1+then-stops}
@@ -52,10 +53,8 @@ by_card-cards-init t c =
     let L = c.args.layouts.now in
     let P = c.args.position.now in
     let S = c.args.set in
-    let all : c.legal_in-tried.result ≡ own_legal P = c.legal_in-tried.ensures ∙ ap (λ (left : List ℕ). legal_in (record { position = P; left = left })) c.empty.ensures.value in
     record {
-      so = core_open L P S (own_legal P) (c.args.moves - 1) c.open_cards-open.result.cards c.open_cards-open.result.core
-          (subst (λ (cards : List ℕ). AreOpenCards L P S cards c.open_cards-open.result.cards c.open_cards-open.result.core) all c.open_cards-open.ensures);
+      so = (c.own_cards-tried.result, c.own_cards-tried.ensures, core_open L P S c.own_cards-tried.result (c.args.moves - 1) c.open_cards-open.result.cards c.open_cards-open.result.core c.open_cards-open.ensures);
       budget = refl;
       solver = refl;
       memo = refl;
@@ -71,7 +70,7 @@ by_card-play-after-requires t c =
     let S = c.args.set in
     let card = c.in-Some.card in
     can_play_ours L P c.requires.ours S card c.requires.layouts
-    (c.cards.invariant.so.to_come card (comes c.cards.cards c.pop_first.new.self card c.in-Some.ensures.value))
+    (c.cards.invariant.so.2.to_come card (has_card-from_Contains c.cards.cards card c.in-Some.ensures.taken.among))
 
 pub by_card-core_first-requires : goal.by_card-core_first-requires
 by_card-core_first-requires t c =
@@ -79,14 +78,14 @@ by_card-core_first-requires t c =
     let P = c.args.position.now in
     let S = c.args.set in
     let card = c.in-Some.card in
-    let next = comes c.cards.cards c.pop_first.new.self card c.in-Some.ensures.value in
-    let own = c.cards.invariant.so.to_come card next in
+    let next = has_card-from_Contains c.cards.cards card c.in-Some.ensures.taken.among in
+    let own = c.cards.invariant.so.2.to_come card next in
     let fewer : cards_left c.play-after.result + 1 ≡ cards_left P = ap (λ (t : PositionValue). cards_left t + 1) c.play-after.ensures.value
     ∙ a_card_leaves_one_fewer P card c.requires.layouts.node.sound (can_play_ours L P c.requires.ours S card c.requires.layouts own) in (
       omega (arith, fewer),
       (
         subst (λ (t : PositionValue). AreLayoutsAt L t S) (sym c.play-after.ensures.value) (layouts_after_ours L P c.requires.ours S card c.requires.layouts own),
-        (subst (λ (t : PositionValue). AreAllMade (node_at L t S)) (sym c.play-after.ensures.value) (c.cards.invariant.so.made card next), (c.cards.invariant.so.within, c.cards.invariant.known)),
+        (subst (λ (t : PositionValue). AreAllMade (node_at L t S)) (sym c.play-after.ensures.value) (c.cards.invariant.so.2.made card next), (c.cards.invariant.so.2.within, c.cards.invariant.known)),
       ),
     )
 
@@ -96,7 +95,7 @@ by_card-returns-in-Won-clause-verdict t c =
     let P = c.args.position.now in
     let S = c.args.set in
     let card = c.in-Some.card in
-    let own = c.cards.invariant.so.to_come card (comes c.cards.cards c.pop_first.new.self card c.in-Some.ensures.value) in
+    let own = c.cards.invariant.so.2.to_come card (has_card-from_Contains c.cards.cards card c.in-Some.ensures.taken.among) in
     let some = (some_moves P c.args.moves c.requires.goes_on).1 in
     let back : suc (c.args.moves - 1) ≡ c.args.moves = omega (arith, some) in
     let there : IsWon (node_at L c.play-after.result S) (c.args.moves - 1) = subst (λ (v : Verdict). IsVerdictAt L c.play-after.result (c.args.moves - 1) S v) c.in-Won.is c.in_ok-core_first.ensures.verdict in
@@ -110,7 +109,7 @@ by_card-either-core-requires t c =
     let S = c.args.set in
     let out : Dominates S c.in-Core.lost × IsLostAt L c.play-after.result (c.args.moves - 1) c.in-Core.lost
     = subst (λ (v : Verdict). IsVerdictAt L c.play-after.result (c.args.moves - 1) S v) c.in-Core.is c.in_ok-core_first.ensures.verdict in
-    sym (width_below S c.cards.core c.cards.invariant.so.within) ∙ width_below S c.in-Core.lost out.0
+    sym (width_below S c.cards.core c.cards.invariant.so.2.within) ∙ width_below S c.in-Core.lost out.0
 
 pub by_card-cards-preserved : goal.by_card-cards-preserved
 by_card-cards-preserved t c =
@@ -122,8 +121,12 @@ by_card-cards-preserved t c =
     = subst (λ (v : Verdict). IsVerdictAt L c.play-after.result (c.args.moves - 1) S v) c.in-Core.is c.in_ok-core_first.ensures.verdict in
     let pays = c.in_ok-core_first.ensures.pays in
     record {
-      so = core_more L P S (own_legal P) (c.args.moves - 1) c.cards.cards c.pop_first.new.self card c.cards.core c.in-Core.lost c.either-core.result c.in-Some.ensures.value c.either-core.ensures out.0
-          (subst (λ (t : PositionValue). IsLostAt L t (c.args.moves - 1) c.in-Core.lost) c.play-after.ensures.value out.1) c.cards.invariant.so;
+      so = (
+        c.cards.invariant.so.0,
+        c.cards.invariant.so.1,
+        core_more L P S c.cards.invariant.so.0 (c.args.moves - 1) c.cards.cards c.take_highest.new.cards card c.cards.core c.in-Core.lost c.either-core.result c.in-Some.ensures.taken c.either-core.ensures out.0
+            (subst (λ (t : PositionValue). IsLostAt L t (c.args.moves - 1) c.in-Core.lost) c.play-after.ensures.value out.1) c.cards.invariant.so.2,
+      );
       budget = c.core_first.ensures.same_budget ∙ c.cards.invariant.budget;
       solver = c.core_first.ensures.same_solver ∙ c.cards.invariant.solver;
       memo = c.core_first.ensures.same_memo ∙ c.cards.invariant.memo;
@@ -139,17 +142,14 @@ by_card-returns-clause-verdict t c =
     let S = c.args.set in
     let some = (some_moves P c.args.moves c.requires.goes_on).1 in
     let back : suc (c.args.moves - 1) ≡ c.args.moves = omega (arith, some) in (
-      c.cards.invariant.so.within,
+      c.cards.invariant.so.2.within,
       subst (λ (k : ℕ). IsLostAt L P k c.cards.core) back
-          (core_all L P S (own_legal P) (c.args.moves - 1) (λ card own. own) c.requires.layouts c.requires.ours (live_here P c.args.moves c.requires.goes_on)
-          c.cards.cards c.cards.core c.in_default.ensures.value.0 c.cards.invariant.so),
+          (core_all L P S c.cards.invariant.so.0 (c.args.moves - 1) c.cards.invariant.so.1 c.requires.layouts c.requires.ours (live_here P c.args.moves c.requires.goes_on)
+          c.cards.cards c.cards.core c.in_default.ensures.taken.0 c.cards.invariant.so.2),
     )
 
 pub by_card-open_cards-open-requires-clause-legal : goal.by_card-open_cards-open-requires-clause-legal
-by_card-open_cards-open-requires-clause-legal t c =
-    let P = c.args.position.now in
-    let all : c.legal_in-tried.result ≡ own_legal P = c.legal_in-tried.ensures ∙ ap (λ (left : List ℕ). legal_in (record { position = P; left = left })) c.empty.ensures.value in
-    λ card h. ap (λ (cards : List ℕ). has_card cards card) (sym all) ∙ h
+by_card-open_cards-open-requires-clause-legal t c = c.own_cards-tried.ensures.legal
 
 -- ---- the core so far first
 
@@ -202,6 +202,29 @@ by_reply-cards-preserved-then-count-eq0 t c =
       so = replies_more L P c.args.moves S c.requires.layouts c.cards.cards c.take_widest.new.cards card c.in-Some.ensures.taken
           (λ choice. absurd (let some = choice_kept L P S c.requires.layouts card kept c.legal_layouts-kept.ensures choice in
           let none : ones_of kept ≡ 0 = sym c.count.ensures ∙ c.if-count-eq0.true in omega (arith, some, none))) c.cards.invariant.so;
+      budget = c.cards.invariant.budget;
+      solver = c.cards.invariant.solver;
+      memo = c.cards.invariant.memo;
+      known = c.cards.invariant.known;
+      paid = c.cards.invariant.paid;
+      nodes = c.cards.invariant.nodes;
+    }
+
+pub by_reply-has_answered_neighbour-requires : goal.by_reply-has_answered_neighbour-requires
+by_reply-has_answered_neighbour-requires t c = kept_width c.args.layouts.now c.args.position.now c.args.set c.requires.layouts c.in-Some.card c.legal_layouts-kept.result c.legal_layouts-kept.ensures
+
+pub by_reply-cards-preserved-then-has_answered_neighbour : goal.by_reply-cards-preserved-then-has_answered_neighbour
+by_reply-cards-preserved-then-has_answered_neighbour t c =
+    let L = c.args.layouts.now in
+    let P = c.args.position.now in
+    let S = c.args.set in
+    let card = c.in-Some.card in
+    let kept = c.legal_layouts-kept.result in
+    let some = subst (λ (k : ℕ). 1 ≤ k) c.count.ensures (not_none c.count.result c.if-count-eq0.false) in
+    let by = c.has_answered_neighbour.ensures c.if-has_answered_neighbour.true in
+    record {
+      so = replies_more L P c.args.moves S c.requires.layouts c.cards.cards c.take_widest.new.cards card c.in-Some.ensures.taken
+          (λ choice. won_by_neighbour L P c.args.moves S c.requires.layouts c.cards.cards c.take_widest.new.cards card by.0 kept c.legal_layouts-kept.ensures some c.in-Some.ensures.taken by.1 c.cards.invariant.so choice) c.cards.invariant.so;
       budget = c.cards.invariant.budget;
       solver = c.cards.invariant.solver;
       memo = c.cards.invariant.memo;

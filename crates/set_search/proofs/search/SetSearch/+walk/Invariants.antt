@@ -1,7 +1,7 @@
-use Rattle.std.proofs.Common.{◌≡◌, ◌≤◌, ◌+◌, ◌-◌, ◌*◌, ℕ, length}
+use Rattle.std.proofs.Common.{◌≡◌, ◌≤◌, ◌+◌, ◌-◌, ◌*◌, ℕ, List, length}
 use Rattle.trick_rules.specs.Positions.{PositionValue}
 use Rattle.trick_rules.specs.Play.{cards_left}
-use Rattle.set_search.specs.Open.{own_legal}
+use Rattle.set_search.specs.LeftOut.{AreEnough}
 use Rattle.set_search.proofs.OurCards.{IsCoreSoFar}
 use Rattle.set_search.proofs.Replies.{AreWonSoFar}
 use Rattle.set_search.proofs.search.SetSearch.+walk.Given as goal
@@ -27,7 +27,7 @@ decreases-by_reply l = yet_to_do l.position.now 0
 
 abbrev pub invariant-by_card-cards : goal.invariant-by_card-cards
 invariant-by_card-cards l = record {
-  so : IsCoreSoFar l.layouts l.position (l.moves - 1) l.set (own_legal l.position) l.cards l.core;
+  so : (tried : List ℕ) × AreEnough l.position tried × IsCoreSoFar l.layouts l.position (l.moves - 1) l.set tried l.cards l.core;
   budget : l.self.budget.ghost_name ≡ l.fn.self.budget.ghost_name;
   solver : l.self.solver.ghost_name ≡ l.fn.self.solver.ghost_name;
   memo : l.self.memo.ghost_name ≡ l.fn.self.memo.ghost_name;

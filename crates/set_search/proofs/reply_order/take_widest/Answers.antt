@@ -1,7 +1,0 @@
-use Rattle.std.proofs.Common.{sym, subst}
-use Rattle.alphamu_core.specs.Kept.{IsTaken}
-use Rattle.alphamu_core.proofs.Taken.{taken_out}
-use Rattle.set_search.proofs.reply_order.take_widest.Goals as goal
-
-pub returns : goal.returns
-returns c = record { taken = subst (λ rest. IsTaken c.args.cards.now c.widest-card.result rest) (sym c.without.ensures.value) (taken_out c.args.cards.now c.widest-card.result c.last.ensures.a_set c.widest-card.ensures) }
