@@ -8,6 +8,7 @@ mod endings;
 mod files;
 mod fronts;
 mod search;
+mod sets;
 mod store;
 
 use std::alloc::Global;
@@ -20,17 +21,25 @@ enum Work {
     Fronts,
     DoubleDummy,
     Search,
+    Sets,
     Store,
 }
 
 impl Work {
-    const ALL: [Work; 4] = [Work::Fronts, Work::DoubleDummy, Work::Search, Work::Store];
+    const ALL: [Work; 5] = [
+        Work::Fronts,
+        Work::DoubleDummy,
+        Work::Search,
+        Work::Sets,
+        Work::Store,
+    ];
 
     fn of_word(word: &str) -> Option<Work> {
         match word {
             "fronts" => Some(Work::Fronts),
             "double_dummy" => Some(Work::DoubleDummy),
             "search" => Some(Work::Search),
+            "sets" => Some(Work::Sets),
             "store" => Some(Work::Store),
             _ => None,
         }
@@ -42,6 +51,7 @@ impl Work {
             Work::Fronts => fronts::run(rt, alloc, words),
             Work::DoubleDummy => endings::run(rt, alloc, words),
             Work::Search => search::run(rt, alloc, words),
+            Work::Sets => sets::run(rt, alloc, words),
             Work::Store => store::run(rt, alloc, words),
         }
     }
@@ -52,6 +62,7 @@ impl Work {
             Work::Fronts => self.run(rt, alloc, &["inserts", "8", "20"]),
             Work::DoubleDummy => self.run(rt, alloc, &["5", "0", "200"]),
             Work::Search => self.run(rt, alloc, &["k.pbn", "k.lay", "2", "plain"]),
+            Work::Sets => self.run(rt, alloc, &["k.pbn", "k.lay", "1000"]),
             Work::Store => self.run(rt, alloc, &["local", "50", "200", "hits"]),
         }
     }
@@ -75,7 +86,7 @@ fn main(rt: HostRuntime) -> anyhow::Result<()> {
         }
         [name, rest @ ..] => match Work::of_word(name) {
             Some(work) => work.run(&rt, alloc, rest),
-            None => anyhow::bail!("fronts|double_dummy|search|store"),
+            None => anyhow::bail!("fronts|double_dummy|search|sets|store"),
         },
     }
 }
