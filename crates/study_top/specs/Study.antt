@@ -28,7 +28,7 @@ use Rattle.job_lines.specs.LinesJob.{IsLinesReport}
 use Rattle.job_page.specs.PageJob.{IsPage, IsPageRefusal}
 use Rattle.card_brackets.specs.declared.table.CardTable.{CardTable}
 use Rattle.card_brackets.specs.Rows.{IsTableUpTo}
-use Rattle.job_cards.specs.Cards.{IsCardsText, IsCardsRefusal}
+use Rattle.job_cards.specs.Cards.{IsCardsText, IsCardsRefusal, IsExactText}
 use Rattle.job_review.specs.Reviews.{IsReviewText, IsReviewRefusal}
 use Rattle.job_reviews.specs.Reviews.{IsReviewsText}
 use Rattle.job_draw.specs.DrawJob.{IsDrawFile, IsDrawRefusal}
@@ -102,7 +102,7 @@ abbrev pub IsTextOf : Study → InputsValue → List ℕ → Type 0
 IsTextOf study (asks.OnLayouts deal layouts (jobs.Check report)) text = IsToldAt deal layouts (λ root. IsTextOfReport study deal root report None text)
 IsTextOf study (asks.OnLayouts deal layouts (jobs.Solve moves search)) text = IsToldAt deal layouts (λ root. IsTextOfSearch study deal root moves search text)
 IsTextOf (Cards form) (asks.OnLayouts deal layouts (jobs.Card moves search)) text = IsToldAt deal layouts (λ root. IsCardsText root moves (form_of form) text)
-IsTextOf (ExactCards form) (asks.OnLayouts deal layouts (jobs.Card moves search)) text = IsToldAt deal layouts (λ root. IsCardsText root moves (form_of form) text)
+IsTextOf (ExactCards form) (asks.OnLayouts deal layouts (jobs.Card moves search)) text = IsToldAt deal layouts (λ root. IsExactText root (form_of form) text)
 IsTextOf (Review form from) (asks.OnLayouts deal layouts (jobs.Card moves search)) text = (board : BoardValue) × (board_in deal ≡ Ok board) × IsReviewText board layouts moves from (form_of form) text
 IsTextOf (Review form from) (asks.Boards files moves search) text = IsReviewsText files (record { moves = moves; from = from; search = search }) (form_of form) text
 IsTextOf _ _ _ = ⊥
@@ -113,7 +113,7 @@ abbrev pub IsRefusalOf : Study → InputsValue → Status → Type 0
 IsRefusalOf study (asks.OnLayouts deal layouts (jobs.Check report)) status = IsRefusedAt deal layouts status (λ root. IsReportRefusal study root report None status)
 IsRefusalOf study (asks.OnLayouts deal layouts (jobs.Solve moves search)) status = IsRefusedAt deal layouts status (λ root. IsSearchRefusal study root moves search status)
 IsRefusalOf (Cards form) (asks.OnLayouts deal layouts (jobs.Card moves search)) status = IsRefusedAt deal layouts status (λ root. IsCardsRefusal root moves search status)
-IsRefusalOf (ExactCards form) (asks.OnLayouts deal layouts (jobs.Card moves search)) status = IsRefusedAt deal layouts status (λ root. IsCardsRefusal root moves search status)
+IsRefusalOf (ExactCards form) (asks.OnLayouts deal layouts (jobs.Card moves search)) status = IsRefusedAt deal layouts status (λ root. status ≡ Memory)
 IsRefusalOf (Review form from) (asks.OnLayouts deal layouts (jobs.Card moves search)) status = IsFileRefusal (board_in deal) status
     ⊎ ((board : BoardValue) × (board_in deal ≡ Ok board) × IsReviewRefusal board layouts moves from search.nodes status)
 IsRefusalOf (Review form from) (asks.Boards files moves search) status = status ≡ Memory

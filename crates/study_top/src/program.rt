@@ -30,7 +30,7 @@ use am_line::{refuse, refuse_words};
 use am_outside::{Shelf, Sink, write_whole};
 use byte_text::Text;
 use card_brackets::CardTable;
-use job_cards::{cards_of, tell_cards};
+use job_cards::{cards_of, tell_cards, tell_exact};
 use job_draw::draw_file;
 use job_lines::tell_lines;
 use job_page::tell_page;
@@ -160,9 +160,9 @@ fn text_on<R: Threads + Sync>(
             let root = read_root(alloc, deal, layouts)?;
             tell_cards(alloc, &root, *moves, search, form_of(form))
         }
-        (Study::ExactCards { form }, LayoutsJob::Card { moves, search }) => {
+        (Study::ExactCards { form }, LayoutsJob::Card { moves: _, search }) => {
             let root = read_root(alloc, deal, layouts)?;
-            tell_cards(alloc, &root, *moves, search, form_of(form))
+            tell_exact(alloc, &root, search.nodes, form_of(form))
         }
         (Study::Review { form, from }, LayoutsJob::Card { moves, search }) => {
             let asked = Asked {
