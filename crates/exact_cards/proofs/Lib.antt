@@ -1,4 +1,5 @@
 mod OwnCards
 mod FirstRows
-mod Exact
+mod SideBySide
 mod AllPlanned
+mod Exact

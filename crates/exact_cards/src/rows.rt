@@ -10,6 +10,7 @@ ghost use Rattle.exact_cards.specs.ExactRows.{moves_after, IsExactRow, IsFinalUn
 
 use alphamu_core::{Budget, Entered, SearchFault};
 use card_brackets::CardRow;
+use card_sets::Card;
 use dd_solver::Solver;
 use fusion_base::CardVector;
 use set_search::{SetMemo, SetSearch, SetValue};
@@ -72,6 +73,23 @@ fn value_after(
     }
 }
 
+// The row of a card, by how much one strategy can win after it and what sampling believes.
+fn row_of(card: Card, value: &SetValue, sampled: u32) -> CardRow
+    ensures card { result.card ≡ card }
+    ensures vector { result.vector ≡ value.now.won }
+    ensures most { result.most ≡ value.now.most }
+    ensures least { result.least ≡ value.now.least }
+    ensures sampled { result.sampled ≡ sampled }
+{
+    CardRow {
+        card,
+        vector: value.won,
+        most: value.most,
+        least: value.least,
+        sampled,
+    }
+}
+
 /// The row of a card, of which sampling believes this. The memo is one of the root's layouts: a card
 /// of declarer's side leaves each layout its number.
 ///
@@ -95,13 +113,8 @@ pub fn row_after(
     let _width = asked.node.width();
     let (child, _) = asked.node.child(asked.alloc, believed.card)?;
     let found = value_after(asked, solver, memo, &child)?;
-    let row = CardRow {
-        card: believed.card,
-        vector: found.value.won,
-        most: found.value.most,
-        least: found.value.least,
-        sampled: asked.weights.total(believed.vector),
-    };
+    let sampled = asked.weights.total(believed.vector);
+    let row = row_of(believed.card, &found.value, sampled);
     Ok(SearchedRow {
         row,
         entered: found.entered,

@@ -46,6 +46,7 @@ pub fn exact_table(
     ensures table { IfOk result (IsExactTable node.now weights.now) }
     ensures spent { IfOk result AreFinalUnlessSpent }
 {
+    let _width = node.width();
     let asked = Asked {
         alloc,
         node,

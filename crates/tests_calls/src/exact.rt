@@ -56,7 +56,12 @@ fn the_heavier_layout_is_played_for(rt: HostRuntime) -> Result<(), Fail> {
 fn a_search_that_is_cut_off(rt: HostRuntime) -> Result<(), Fail> {
     let alloc = rt.alloc();
     let found = table(&rt, alloc, 0)?;
-    assert!(rt; found.rows.iter().all(|row: &CardRow| row.least <= 3 && row.most >= 3));
+    assert!(rt;
+        found
+            .rows
+            .iter()
+            .all(|row: &CardRow| row.least <= 3 && row.most >= 3)
+    );
     assert!(rt; !found.rows.iter().all(|row: &CardRow| row.is_final()));
     let text: Text = exact_in(alloc, Form::Text, &weights(), &found)?;
     let records: Text = exact_in(alloc, Form::Csv, &weights(), &found)?;
