@@ -3,3 +3,4 @@ pub mod Held
 pub mod Nested
 pub mod OneLayout
 pub mod Histories
+pub mod MarkupTexts

@@ -13,3 +13,4 @@ pub mod Beliefs
 pub mod Layouts
 pub mod Partings
 pub mod Frames
+pub mod MarkupTexts

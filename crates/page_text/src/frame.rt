@@ -32,11 +32,7 @@ pub fn push_start(page: &mut Page, card: Card, width: u16) -> Result<(), AllocEr
 
 // Adds what a tag of the deal file says, if it is there.
 #[tactic(auto, unfolding(crate::specs::Frames::fact))]
-fn push_fact(
-    page: &mut Page,
-    front: &'static [u8],
-    value: Option<&[u8]>,
-) -> Result<(), AllocError>
+fn push_fact(page: &mut Page, front: &'static [u8], value: Option<&[u8]>) -> Result<(), AllocError>
     ensures { OnOk result (page.new ≡ page.old ++ fact front.now (option_copied value.entry)) }
 {
     let Some(bytes) = value else {

@@ -8,6 +8,7 @@
 mod beliefs;
 mod cards;
 mod frame;
+pub mod laws;
 mod layouts;
 mod lines;
 mod markup;
