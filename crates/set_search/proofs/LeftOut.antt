@@ -106,26 +106,26 @@ module _ (t : PositionValue) (ours : is_declarers (to_play t) ≡ true) where
 
 -- ---- a defender's cards
 
-pub met_whole : (set legal : Vector) → length set ≡ length legal → meet_of set legal ≡ set → Dominates legal set
-met_whole set legal same is = dominates_ones legal set (sym same) (λ k h. (meet_ones set legal k (subst (λ (v : Vector). HasOne v k) (sym is) h)).1)
-
 -- a card is won if an answered neighbour is
-pub won_by_neighbour : (layouts : List (List ℕ)) (t : PositionValue) (m : ℕ) (chosen : Vector) (are : AreLayoutsAt layouts t chosen) (rest later : List ℕ) (card other : ℕ) (kept : Vector)
-    → kept ≡ meet_of chosen (legal_at layouts t card) → 1 ≤ ones_of kept → IsTaken rest card later → IsAnsweredBy layouts t kept later card other → AreWonSoFar layouts t m chosen rest
-    → has_card (choices (node_at layouts t chosen)) card ≡ true → IsWon (child (node_at layouts t chosen) card) m
-won_by_neighbour layouts t m chosen are rest later card other kept is some taken by so choice =
+pub won_by_neighbour : (layouts : List (List ℕ)) (t : PositionValue) (m : ℕ) (chosen : Vector) (are : AreLayoutsAt layouts t chosen) (rest later : List ℕ) (card other : ℕ) (legal : List Vector)
+    → ((c : ℕ) → c < 52 → get_or legal c [] ≡ meet_of chosen (legal_at layouts t c)) → card < 52 → 1 ≤ ones_of (get_or legal card []) → IsTaken rest card later → IsAnsweredBy t legal later card other
+    → AreWonSoFar layouts t m chosen rest → has_card (choices (node_at layouts t chosen)) card ≡ true → IsWon (child (node_at layouts t chosen) card) m
+won_by_neighbour layouts t m chosen are rest later card other legal each low some taken by so choice =
     let n = node_at layouts t chosen in
+    let kept = get_or legal card [] in
+    let is = each card low in
     let there : (k : ℕ) → HasOne chosen k → HasOne (legal_at layouts t card) k → HasOne (legal_at layouts t other) k
-    = λ k h l. one_at (legal_at layouts t other) kept k by.answered.wherever (subst (λ (v : Vector). HasOne v k) (sym is) (ones_meet chosen (legal_at layouts t card) k h l)) in
+    = λ k h l. (meet_ones chosen (legal_at layouts t other) k (subst (λ (v : Vector). HasOne v k) (each other by.answered.a_card)
+    (one_at (get_or legal other []) kept k by.answered.wherever (subst (λ (v : Vector). HasOne v k) (sym is) (ones_meet chosen (legal_at layouts t card) k h l))))).1 in
     let tells : TellsNoMore n other card = record {
       near = by.near;
-      wherever = λ left among legal.
+      wherever = λ left among legal_here.
           let from = Contains-of_map (still_held t) (items_where_true chosen layouts) left among in
           let place = picked_from chosen layouts from.0 from.1 in
-          let low = one_within chosen place.0 place.1 in
+          let below = one_within chosen place.0 place.1 in
           let same : still_held t (get_or layouts place.0 []) ≡ left = ap (still_held t) (place.2 []) ∙ from.2 in
-          let at : (c : ℕ) → (get_or (legal_at layouts t c) place.0 false ≡ is_legal t c left) = λ c. legal_there layouts t c place.0 [] (omega (arith, low, are.width)) ∙ ap (λ (x : List ℕ). is_legal t c x) same in
-          sym (at other) ∙ there place.0 place.1 (at card ∙ legal);
+          let at : (c : ℕ) → (get_or (legal_at layouts t c) place.0 false ≡ is_legal t c left) = λ c. legal_there layouts t c place.0 [] (omega (arith, below, are.width)) ∙ ap (λ (x : List ℕ). is_legal t c x) same in
+          sym (at other) ∙ there place.0 place.1 (at card ∙ legal_here);
     } in
     let differ : other ≡ card → ⊥ = λ e. ⊎_elim (λ (near : AreNeighbours t card other). omega (arith, near.order, e)) (λ (near : AreNeighbours t other card). omega (arith, near.order, e)) by.near in
     let first = some_place kept some in

@@ -5,3 +5,4 @@ pub mod Replies
 pub mod Roots
 pub mod Valued
 mod LeftOut
+mod Marked

@@ -1,36 +1,20 @@
 //! The order in which cards are tried.
-ghost use Rattle.std.specs.Prelude.{◌≡◌, true, [], length, MatchOption};
+ghost use Rattle.std.specs.Prelude.{◌≡◌, true, [], MatchOption};
 ghost use Rattle.card_sets.specs.SetWords.{has_card};
 ghost use Rattle.alphamu_core.specs.Kept.{IsTaken};
 
 use card_sets::{Card, CardSet};
-use set_nodes::left_at;
-use trick_rules::Position;
 use win_vectors::WinVector;
 
-/// For each card, in how many layouts of a set it is legal.
+/// For each card, in how many layouts it is legal.
 ///
 /// No clause: no law depends on the order in which cards are tried.
-pub(crate) fn legal_counts(layouts: &[CardSet], position: &Position, set: WinVector) -> [u16; 52]
-    requires { length set ≡ length layouts.now }
-{
+pub(crate) fn counts_of(legal: &[WinVector; 52]) -> [u16; 52] {
     let mut counts = [0u16; 52];
-    for place in 0..set.width() {
-        if set.get(place) {
-            let legal = position.legal_in(left_at(layouts, position, place));
-            count_each(legal, &mut counts);
-        }
+    for place in 0..52usize {
+        counts[place] = legal[place].count();
     }
     counts
-}
-
-// One layout more for each of these cards. No clause, for the same reason.
-fn count_each(cards: CardSet, counts: &mut [u16; 52]) {
-    let mut rest = cards;
-    while let Some(card) = rest.pop_first() {
-        let place = usize::from(card.number());
-        counts[place] = counts[place].saturating_add(1);
-    }
 }
 
 // The card with the highest count, of several the highest card.

@@ -7,6 +7,7 @@
 
 mod card_order;
 mod judge;
+mod legal_sets;
 mod neighbours;
 mod open_cards;
 mod search;

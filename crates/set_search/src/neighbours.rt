@@ -1,16 +1,13 @@
 //! Cards that are left out for a neighbour, a card of their suit with no card in play between them.
-ghost use Rattle.std.specs.Prelude.{◌≡◌, ◌≤◌, ℕ, true, false, length, IsTrue, IfSome};
-ghost use Rattle.card_sets.specs.SetWords.{has_card};
-ghost use Rattle.win_vectors.specs.Fronts.{Dominates};
+ghost use Rattle.std.specs.Prelude.{◌≡◌, ◌<◌, ℕ, true, [], length, get_or, IsTrue, IfSome};
 ghost use Rattle.trick_rules.specs.Positions.{to_play};
 ghost use Rattle.trick_rules.specs.Play.{is_declarers};
-ghost use Rattle.set_nodes.specs.SetNodes.{legal_at};
 ghost use Rattle.set_nodes.specs.Neighbours.{AreNeighbours};
 ghost use Rattle.set_search.specs.LeftOut.{AreEnough, IsAnswered, IsAnsweredBy};
 
+use crate::legal_sets::of_card;
 use card_sets::{Card, CardSet};
 use double_dummy::cards_in_play;
-use set_nodes::legal_layouts;
 use trick_rules::Position;
 use win_vectors::WinVector;
 
@@ -54,40 +51,35 @@ pub(crate) fn own_cards(position: &Position) -> CardSet
     kept
 }
 
-// Whether a card isn't among those that are left, and is legal in each of these layouts.
-fn is_answered(
-    layouts: &[CardSet],
-    position: &Position,
-    set: WinVector,
-    left: CardSet,
-    card: Card,
-) -> bool
-    requires { length set ≡ length layouts.now }
-    ensures { IsTrue result → IsAnswered layouts.now position.now set left card }
+// Whether a card isn't among those that are left, and is legal in each layout of a set.
+fn is_answered(legal: &[WinVector; 52], set: WinVector, left: CardSet, card: Card) -> bool
+    requires { (c : ℕ) → c < 52 → length (get_or legal.now c []) ≡ length set }
+    ensures { IsTrue result → IsAnswered legal.now set left card }
 {
-    !left.has(card) && legal_layouts(layouts, position, set, card).equals(set)
+    !left.has(card) && of_card(legal, card).dominates(set)
 }
 
 /// Whether a neighbour of a card isn't among those that are left, and is legal in each of the layouts
-/// in which the card is.
+/// in which the card is. `legal` has the layouts in which each card is legal, by its number.
 pub(crate) fn has_answered_neighbour(
-    layouts: &[CardSet],
+    legal: &[WinVector; 52],
     position: &Position,
-    set: WinVector,
     left: CardSet,
     card: Card,
 ) -> bool
-    requires { length set ≡ length layouts.now }
+    requires { (c : ℕ) → c < 52
+        → length (get_or legal.now c []) ≡ length (get_or legal.now card []) }
     ensures { IsTrue result
-        → (other : ℕ) × IsAnsweredBy layouts.now position.now set left card other }
+        → (other : ℕ) × IsAnsweredBy position.now legal.now left card other }
 {
+    let set = of_card(legal, card);
     if let Some(high) = neighbour_above(position, card) {
-        if is_answered(layouts, position, set, left, high) {
+        if is_answered(legal, set, left, high) {
             return true;
         }
     }
     match neighbour_below(position, card) {
-        Some(low) => is_answered(layouts, position, set, left, low),
+        Some(low) => is_answered(legal, set, left, low),
         None => false,
     }
 }

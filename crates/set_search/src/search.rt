@@ -9,15 +9,16 @@ ghost use Rattle.set_search.specs.Judged.{stops_here, AreAllMade};
 ghost use Rattle.set_search.specs.Verdicts.{IsSetVerdict};
 ghost use Rattle.set_search.specs.Walks.{Pays, PaysBelow};
 
-use crate::card_order::{legal_counts, take_highest, take_widest};
+use crate::card_order::{counts_of, take_highest, take_widest};
 use crate::judge::{lost_layout, stops};
+use crate::legal_sets::{legal_sets, of_card};
 use crate::neighbours::{has_answered_neighbour, own_cards};
 use crate::open_cards::open_cards;
 use alphamu_core::{Budget, SearchFault};
 use card_sets::CardSet;
 use dd_solver::Solver;
 use set_memo::{SetMemo, Verdict};
-use set_nodes::{legal_layouts, only};
+use set_nodes::only;
 use trick_rules::{Node, Position, play};
 use win_vectors::WinVector;
 
@@ -233,15 +234,16 @@ impl SetSearch<'_> {
         ensures same_solver { self.new.solver.ghost_name ≡ self.old.solver.ghost_name }
         ensures same_memo { self.new.memo.ghost_name ≡ self.old.memo.ghost_name }
     {
-        let counts = legal_counts(layouts, position, set);
+        let legal = legal_sets(layouts, position, set);
+        let counts = counts_of(&legal);
         let first = self.memo.settling_card(position, moves);
         let mut cards = position.unseen;
         'cards: while let Some(card) = take_widest(&mut cards, &counts, first) {
-            let kept = legal_layouts(layouts, position, set, card);
+            let kept = of_card(&legal, card);
             if kept.count() == 0 {
                 continue;
             }
-            if has_answered_neighbour(layouts, position, kept, cards, card) {
+            if has_answered_neighbour(&legal, position, cards, card) {
                 continue;
             }
             if let Verdict::Core(lost) = self.search(layouts, &play(position, card), moves, kept)? {

@@ -1,6 +1,6 @@
-use Rattle.std.proofs.Common.{◌≡◌, ◌∙◌, ◌≤◌, ◌+◌, ◌-◌, ℕ, suc, List, refl, sym, ap, subst, arith}
+use Rattle.std.proofs.Common.{◌≡◌, ◌∙◌, ◌≤◌, ◌+◌, ◌-◌, ℕ, suc, List, [], get_or, refl, sym, ap, subst, arith}
 use Rattle.win_vectors.specs.Vectors.{ones_of}
-use Rattle.win_vectors.specs.Fronts.{Dominates}
+use Rattle.win_vectors.specs.Fronts.{Vector, Dominates}
 use Rattle.trick_rules.specs.Positions.{PositionValue}
 use Rattle.trick_rules.specs.Play.{after_card, cards_left}
 use Rattle.trick_rules.specs.Nodes.{NodeValue}
@@ -197,10 +197,10 @@ by_reply-cards-preserved-then-count-eq0 t c =
     let P = c.args.position.now in
     let S = c.args.set in
     let card = c.in-Some.card in
-    let kept = c.legal_layouts-kept.result in
+    let kept = c.of_card-kept.result in
     record {
       so = replies_more L P c.args.moves S c.requires.layouts c.cards.cards c.take_widest.new.cards card c.in-Some.ensures.taken
-          (λ choice. absurd (let some = choice_kept L P S c.requires.layouts card kept c.legal_layouts-kept.ensures choice in
+          (λ choice. absurd (let some = choice_kept L P S c.requires.layouts card kept (c.of_card-kept.ensures.value ∙ c.legal_sets-legal.ensures c.in-Some.card c.of_card-kept.ensures.a_card) choice in
           let none : ones_of kept ≡ 0 = sym c.count.ensures ∙ c.if-count-eq0.true in omega (arith, some, none))) c.cards.invariant.so;
       budget = c.cards.invariant.budget;
       solver = c.cards.invariant.solver;
@@ -211,7 +211,14 @@ by_reply-cards-preserved-then-count-eq0 t c =
     }
 
 pub by_reply-has_answered_neighbour-requires : goal.by_reply-has_answered_neighbour-requires
-by_reply-has_answered_neighbour-requires t c = kept_width c.args.layouts.now c.args.position.now c.args.set c.requires.layouts c.in-Some.card c.legal_layouts-kept.result c.legal_layouts-kept.ensures
+by_reply-has_answered_neighbour-requires t c = λ x low.
+    let L = c.args.layouts.now in
+    let P = c.args.position.now in
+    let S = c.args.set in
+    let legal = c.legal_sets-legal.result in
+    let card = c.in-Some.card in
+    kept_width L P S c.requires.layouts x (get_or legal x []) (c.legal_sets-legal.ensures x low)
+    ∙ sym (kept_width L P S c.requires.layouts card (get_or legal card []) (c.legal_sets-legal.ensures card c.of_card-kept.ensures.a_card))
 
 pub by_reply-cards-preserved-then-has_answered_neighbour : goal.by_reply-cards-preserved-then-has_answered_neighbour
 by_reply-cards-preserved-then-has_answered_neighbour t c =
@@ -219,12 +226,12 @@ by_reply-cards-preserved-then-has_answered_neighbour t c =
     let P = c.args.position.now in
     let S = c.args.set in
     let card = c.in-Some.card in
-    let kept = c.legal_layouts-kept.result in
     let some = subst (λ (k : ℕ). 1 ≤ k) c.count.ensures (not_none c.count.result c.if-count-eq0.false) in
     let by = c.has_answered_neighbour.ensures c.if-has_answered_neighbour.true in
     record {
       so = replies_more L P c.args.moves S c.requires.layouts c.cards.cards c.take_widest.new.cards card c.in-Some.ensures.taken
-          (λ choice. won_by_neighbour L P c.args.moves S c.requires.layouts c.cards.cards c.take_widest.new.cards card by.0 kept c.legal_layouts-kept.ensures some c.in-Some.ensures.taken by.1 c.cards.invariant.so choice) c.cards.invariant.so;
+          (λ choice. won_by_neighbour L P c.args.moves S c.requires.layouts c.cards.cards c.take_widest.new.cards card by.0 c.legal_sets-legal.result c.legal_sets-legal.ensures c.of_card-kept.ensures.a_card
+          (subst (λ (v : Vector). 1 ≤ ones_of v) c.of_card-kept.ensures.value some) c.in-Some.ensures.taken by.1 c.cards.invariant.so choice) c.cards.invariant.so;
       budget = c.cards.invariant.budget;
       solver = c.cards.invariant.solver;
       memo = c.cards.invariant.memo;
@@ -239,7 +246,7 @@ by_reply-play-requires t c =
     let P = c.args.position.now in
     let S = c.args.set in
     let some = subst (λ (k : ℕ). 1 ≤ k) c.count.ensures (not_none c.count.result c.if-count-eq0.false) in
-    can_play_theirs L P S c.requires.layouts c.in-Some.card c.legal_layouts-kept.result c.legal_layouts-kept.ensures some
+    can_play_theirs L P S c.requires.layouts c.in-Some.card c.of_card-kept.result (c.of_card-kept.ensures.value ∙ c.legal_sets-legal.ensures c.in-Some.card c.of_card-kept.ensures.a_card) some
 
 pub by_reply-search-requires : goal.by_reply-search-requires
 by_reply-search-requires t c =
@@ -247,8 +254,8 @@ by_reply-search-requires t c =
     let P = c.args.position.now in
     let S = c.args.set in
     let card = c.in-Some.card in
-    let kept = c.legal_layouts-kept.result in
-    let is = c.legal_layouts-kept.ensures in
+    let kept = c.of_card-kept.result in
+    let is = (c.of_card-kept.ensures.value ∙ c.legal_sets-legal.ensures c.in-Some.card c.of_card-kept.ensures.a_card) in
     let some = subst (λ (k : ℕ). 1 ≤ k) c.count.ensures (not_none c.count.result c.if-count-eq0.false) in
     let fewer : cards_left c.play.result + 1 ≡ cards_left P = ap (λ (t : PositionValue). cards_left t + 1) c.play.ensures.value
     ∙ a_card_leaves_one_fewer P card c.requires.layouts.node.sound (can_play_theirs L P S c.requires.layouts card kept is some) in (
@@ -265,8 +272,8 @@ by_reply-returns-in-Core-clause-verdict t c =
     let P = c.args.position.now in
     let S = c.args.set in
     let card = c.in-Some.card in
-    let kept = c.legal_layouts-kept.result in
-    let is = c.legal_layouts-kept.ensures in
+    let kept = c.of_card-kept.result in
+    let is = (c.of_card-kept.ensures.value ∙ c.legal_sets-legal.ensures c.in-Some.card c.of_card-kept.ensures.a_card) in
     let lost = c.in-Core.lost in
     let out : Dominates kept lost × IsLostAt L c.play.result c.args.moves lost
     = subst (λ (v : Verdict). IsVerdictAt L c.play.result c.args.moves kept v) c.in-Core.is c.in_ok-lost.ensures.verdict in
@@ -284,8 +291,8 @@ by_reply-cards-preserved t c =
     let P = c.args.position.now in
     let S = c.args.set in
     let card = c.in-Some.card in
-    let kept = c.legal_layouts-kept.result in
-    let is = c.legal_layouts-kept.ensures in
+    let kept = c.of_card-kept.result in
+    let is = (c.of_card-kept.ensures.value ∙ c.legal_sets-legal.ensures c.in-Some.card c.of_card-kept.ensures.a_card) in
     let there : IsWon (node_at L c.play.result kept) c.args.moves = subst (λ (v : Verdict). IsVerdictAt L c.play.result c.args.moves kept v) c.in_default-2.is c.in_ok-lost.ensures.verdict in
     let pays = c.in_ok-lost.ensures.pays in
     record {

@@ -41,7 +41,7 @@ decreases-by_card-cards l = length l.cards
 
 abbrev pub invariant-by_reply-cards : goal.invariant-by_reply-cards
 invariant-by_reply-cards l = record {
-  so : AreWonSoFar l.layouts l.position l.moves l.set l.cards;
+  so : AreWonSoFar l.layouts l.position l.moves l.fn.set l.cards;
   budget : l.self.budget.ghost_name ≡ l.fn.self.budget.ghost_name;
   solver : l.self.solver.ghost_name ≡ l.fn.self.solver.ghost_name;
   memo : l.self.memo.ghost_name ≡ l.fn.self.memo.ghost_name;
