@@ -1,15 +1,15 @@
 -- Neighbours in play, and the cards that are left out for one.
-use Rattle.std.proofs.Common.{◌≡◌, ◌≢◌, ◌∙◌, ◌<◌, ◌≤◌, ◌⊎◌, ◌&&◌, eqb, not, Bool, ℕ, zero, suc, true, false, Some, nat_lt, List, [], ◌∷◌, length, map, get_or, Contains, refl, sym, ap, subst, inl, inr, ⊎_elim, arith}
+use Rattle.std.proofs.Common.{◌≡◌, ◌≢◌, ◌∙◌, ◌<◌, ◌≤◌, ◌&&◌, eqb, not, Bool, ℕ, zero, suc, true, false, Some, nat_lt, List, [], ◌∷◌, get_or, Contains, refl, sym, ap, subst, inl, inr, ⊎_elim, arith}
 use Rattle.std.proofs.lemmas.Bool.{false≢true, lt-ltb, ltb-true, false_from_ne_true, cases_eq, cases_Bool, ne_eqb}
 use Rattle.std.specs.List.{items_where_true}
 use Rattle.card_sets.specs.Cards.{suit_of}
 use Rattle.card_sets.specs.SetWords.{has_card, cards_where, next_card}
 use Rattle.card_sets.proofs.Sets.{IsCardSet-cards_where, has_card-cards_where, find-holds, find-first}
 use Rattle.win_vectors.specs.Vectors.{ones_of, meet_of}
-use Rattle.win_vectors.specs.Fronts.{Vector, Dominates}
+use Rattle.win_vectors.specs.Fronts.{Vector}
 use Rattle.trick_rules.specs.Positions.{PositionValue, to_play}
 use Rattle.trick_rules.specs.Play.{take_out, is_declarers}
-use Rattle.trick_rules.specs.Nodes.{NodeValue, IsNode, is_legal, choices, child}
+use Rattle.trick_rules.specs.Nodes.{NodeValue, is_legal, choices, child}
 use Rattle.trick_rules.proofs.CardLists.{has_card-take_out, take_out-low}
 use Rattle.double_dummy.specs.Equals.{in_play}
 use Rattle.strategy_games.proofs.Lists.{Contains-of_map}
@@ -18,11 +18,11 @@ use Rattle.alphamu_core.specs.Kept.{IsTaken}
 use Rattle.set_nodes.specs.SetNodes.{still_held, node_at, AreLayoutsAt, legal_at}
 use Rattle.set_nodes.specs.Neighbours.{AreNeighbours, TellsNoMore}
 use Rattle.set_nodes.proofs.Neighbours.{neighbour_is_enough}
-use Rattle.set_nodes.proofs.Legal.{length-legal_at, legal_there}
-use Rattle.set_nodes.proofs.Places.{HasOne, dominates_ones, one_at, one_within, some_ones, some_place, meet_ones, ones_meet, picked_from}
+use Rattle.set_nodes.proofs.Legal.{legal_there}
+use Rattle.set_nodes.proofs.Places.{HasOne, one_at, one_within, some_ones, some_place, meet_ones, ones_meet, picked_from}
 use Rattle.set_nodes.proofs.Won.{IsWon}
 use Rattle.set_search.specs.Open.{own_legal}
-use Rattle.set_search.specs.LeftOut.{IsNoBetter, AreEnough, IsAnswered, IsAnsweredBy}
+use Rattle.set_search.specs.LeftOut.{IsNoBetter, AreEnough, IsAnsweredBy}
 use Rattle.set_search.proofs.OurCards.{own_in, choice_from_own, before, comes}
 use Rattle.set_search.proofs.Replies.{AreWonSoFar, kept_choice}
 

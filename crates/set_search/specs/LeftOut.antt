@@ -3,7 +3,7 @@ use Rattle.std.specs.Prelude.{◌≡◌, ◌<◌, ◌⊎◌, ℕ, true, false, L
 use Rattle.card_sets.specs.SetWords.{has_card}
 use Rattle.win_vectors.specs.Fronts.{Vector, Dominates}
 use Rattle.trick_rules.specs.Positions.{PositionValue}
-use Rattle.trick_rules.specs.Nodes.{NodeValue, IsNode, child}
+use Rattle.trick_rules.specs.Nodes.{IsNode, child}
 use Rattle.strategy_tree.specs.Bridge.{bridge}
 use Rattle.winnable_sets.specs.Sets.{IsWonThroughout}
 use Rattle.set_nodes.specs.Neighbours.{AreNeighbours}

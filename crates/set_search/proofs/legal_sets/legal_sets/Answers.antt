@@ -1,9 +1,9 @@
-use Rattle.std.proofs.Common.{rules, ◌≡◌, ◌<◌, ◌∙◌, ◌+◌, ℕ, true, false, [], List, length, replicate, get_or, set, sym, ap, subst, ⊎_elim, arith}
+use Rattle.std.proofs.Common.{◌≡◌, ◌<◌, ◌∙◌, ◌+◌, ℕ, true, false, [], List, length, replicate, get_or, sym, ap, subst, ⊎_elim, arith}
 use Rattle.std.proofs.lemmas.Bool.{false≢true, cases_Bool}
 use Rattle.card_sets.specs.SetWords.{has_card}
 use Rattle.win_vectors.specs.Fronts.{Vector}
 use Rattle.trick_rules.specs.Play.{legal_in}
-use Rattle.set_nodes.specs.SetNodes.{still_held, legal_at}
+use Rattle.set_nodes.specs.SetNodes.{legal_at}
 use Rattle.set_nodes.proofs.Legal.{AreLegalBefore, length-legal_at, legal_there, none_before, one_more_place, passed_over, all_found}
 use Rattle.set_nodes.proofs.Places.{HasOne}
 use Rattle.set_search.proofs.Marked.{one_of_many, got_bit}

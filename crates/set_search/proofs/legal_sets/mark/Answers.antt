@@ -1,4 +1,4 @@
-use Rattle.std.proofs.Common.{rules, ◌≡◌, ◌<◌, ◌∙◌, ℕ, true, [], List, length, get_or, set, sym, ap, subst, arith}
+use Rattle.std.proofs.Common.{rules, ◌≡◌, ◌<◌, ◌∙◌, ℕ, true, [], length, get_or, set, ap, arith}
 use Rattle.std.proofs.lemmas.List.{get_or_default}
 use Rattle.win_vectors.specs.Fronts.{Vector}
 use Rattle.set_search.proofs.Marked.{marked_more}

@@ -1,4 +1,4 @@
-use Rattle.std.proofs.Common.{rules, ◌≡◌, ◌∙◌, ℕ, Some, sym}
+use Rattle.std.proofs.Common.{rules, ◌≡◌, ◌∙◌, sym}
 use denote.Enum.Bare.{same_true}
 use Rattle.card_sets.specs.contracts.card.Suit.{the_type}
 use Rattle.set_search.proofs.LeftOut.{next_in_suit}

@@ -1,6 +1,5 @@
-use Rattle.std.proofs.Common.{◌≡◌, ◌∙◌, ℕ, List, [], ap, subst}
+use Rattle.std.proofs.Common.{◌∙◌, ℕ, List, ap, subst}
 use Rattle.trick_rules.specs.Play.{legal_in}
-use Rattle.set_search.specs.Open.{own_legal}
 use Rattle.set_search.proofs.LeftOut.{AreKept, kept_all, kept_more, kept_without, enough}
 use Rattle.set_search.proofs.neighbours.own_cards.Goals as goal
 

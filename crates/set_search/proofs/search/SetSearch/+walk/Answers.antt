@@ -5,7 +5,6 @@ use Rattle.trick_rules.specs.Positions.{PositionValue}
 use Rattle.trick_rules.specs.Play.{after_card, cards_left}
 use Rattle.trick_rules.specs.Nodes.{NodeValue}
 use Rattle.trick_rules.proofs.PlayLaws.{a_card_leaves_one_fewer}
-use Rattle.card_sets.specs.SetWords.{has_card}
 use Rattle.strategy_games.proofs.Vectors.{Dominates-trans}
 use Rattle.strategy_tree.proofs.CardLists.{has_card-from_Contains}
 use Rattle.set_nodes.specs.SetNodes.{node_at, AreLayoutsAt}
