@@ -36,6 +36,7 @@ CHECKS = """
     look.py
     cards.py
     review.py
+    draw.py
     evening.py
     proofs.py
     pages.py
