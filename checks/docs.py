@@ -138,9 +138,8 @@ class Repository:
     def options(self):
         """The options of the program."""
         text = self.text("crates/job_words/src/options.rt")
-        block = re.search(r"\[\s*((?:\"[a-z-]+\",?\s*)+)\]", text)
-        flags = re.findall(r"flag_option\(alloc, \"([a-z-]+)\"\)", text)
-        return {f"--{name}" for name in re.findall(r"\"([a-z-]+)\"", block[1]) + flags}
+        blocks = re.findall(r"\[\s*((?:\"[a-z-]+\",?\s*)+)\]", text)
+        return {f"--{name}" for block in blocks for name in re.findall(r"\"([a-z-]+)\"", block)}
 
     def jobs(self):
         return set(re.findall(r"\"(\w+)\" => Some\(Job::", self.text("crates/job_words/src/values.rt")))
