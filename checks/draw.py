@@ -134,7 +134,10 @@ def about_drawn(fitting, amount, seed, found):
         return f"status {status}, {line}, and the first line is {text[:90]}, of {count} that fit"
     if layouts is not None and count <= amount:
         return None if text == drawing.file_text(board, layouts, count, seed) else "the file isn't that of all that fit"
-    drawn = reading.layouts_of(text, board)
+    try:
+        drawn = reading.layouts_of(text, board)
+    except reading.Refusal as refusal:
+        return f"the file is refused: {refusal.answer[2]}"
     if len(drawn.layouts) != min(amount, count) or drawn.dropped:
         return f"{len(drawn.layouts)} layouts are kept, {len(drawn.dropped)} dropped"
     if not all(fitting.fits(*map(drawing.Hand, it)) for it in drawn.layouts):
