@@ -26,8 +26,7 @@ sys.dont_write_bytecode = True
 import assured
 import playing
 import reading
-from cases import STUDY, TOP, bytes_of, expected, is_ready, names_of_cases, parser_of, run, words_of
-from jobs import REFUSED, USAGE
+from cases import STUDY, TOP, bytes_of, expected, is_ready, misunderstood, names_of_cases, parser_of, run, words_of
 from options import ONE_WORKER, choices_for, job_of
 
 MOST_CARDS, MOST_LAYOUTS, MOST_MOVES, NODES, LEAST = 3, 6, 4, 20000, 70
@@ -145,10 +144,12 @@ def judge_forms(case, words, seconds, text):
 
 def judge_words(case, words, seconds):
     """Words with a form that can't be right, and a job that has no forms."""
-    refused = (b"", f"alphamu: {USAGE}\n".encode(), REFUSED)
-    more = ([b"--form"], [b"--form", b"xml"], [b"--form", b"CSV"], [b"--form", b""], [b"--form="], [b"--form=CSV"], [b"--form=csv", b"--form", b"csv"])
-    wrong = [words + it for it in more] + [asked(case, b"words", None) + [b"--report", b"none", b"--form", b"text"]]
-    return [f"{case}: taken with {b' '.join(it[-4:]).decode()}" for it in wrong if run(STUDY, case, seconds, words=it) != refused]
+    no_form, again = b"--form doesn't take this value", b"word %d isn't understood: --form" % (len(words) + 2)
+    wrong = [(words + [b"--form"], b"the last option has no value"), (words + [b"--form=csv", b"--form", b"csv"], again),
+             (asked(case, b"words", None) + [b"--report", b"none", b"--form", b"text"], b"the job doesn't take --form")]
+    wrong += [(words + it, no_form) for it in ([b"--form", b"xml"], [b"--form", b"CSV"], [b"--form", b""], [b"--form="], [b"--form=CSV"])]
+    return [f"{case}: not refused as it must be, with {b' '.join(it[-4:]).decode()}" for it, line in wrong
+            if run(STUDY, case, seconds, words=it) != misunderstood(line)]
 
 
 def judge_others(program, case, seconds, text):

@@ -17,6 +17,7 @@ import tempfile
 from concurrent.futures import ThreadPoolExecutor
 
 sys.dont_write_bytecode = True
+import jobs
 import unproved
 
 TOP = os.path.dirname(os.path.dirname(os.path.abspath(__file__)))
@@ -129,6 +130,11 @@ def run(program, case, seconds, env=None, more=(), words=None, files=None):
 def expected(case):
     """What the case expects, as `run` returns it."""
     return bytes_of(case, "stdout"), bytes_of(case, "stderr"), int(bytes_of(case, "status") or 0)
+
+
+def misunderstood(line):
+    """What a run of alphamu_study gives whose words aren't understood, if this is the line that says why."""
+    return b"", b"alphamu: %s\n" % line, jobs.REFUSED
 
 
 def differences(found, wanted):

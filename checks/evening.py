@@ -20,8 +20,7 @@ from concurrent.futures import ThreadPoolExecutor
 
 sys.dont_write_bytecode = True
 import review
-from cases import STUDY, TOP
-from jobs import REFUSED, USAGE
+from cases import STUDY, TOP, misunderstood
 
 MAKE = os.path.join(TOP, "examples", "evening", "make.py")
 FIRST, MOVES, FEW, WORKERS, LEAST = 5, 2, 30, (1, 4), 20
@@ -38,9 +37,8 @@ def ask(given, room, deal, layouts, *more):
 
 def judge_words(given, room):
     """Words that ask for all games in a way that can't be right."""
-    refused = (b"", f"alphamu: {USAGE}\n".encode(), REFUSED)
-    return [f"taken with --games and {more}" for more in ("--games", "--games=1", "--game")
-            if ask(given, room, "evening.pbn", "evening.lay", "--games", more) != refused]
+    return [f"not refused as it must be, with --games and {more}" for more in ("--games", "--games=1", "--game")
+            if ask(given, room, "evening.pbn", "evening.lay", "--games", more) != misunderstood(b"word 12 isn't understood: %s" % more.encode())]
 
 
 def cut(whole):

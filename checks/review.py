@@ -22,8 +22,7 @@ from concurrent.futures import ProcessPoolExecutor
 sys.dont_write_bytecode = True
 import playing
 import reading
-from cases import CASES, STUDY, TOP, bytes_of, expected, is_ready, names_of_cases, parser_of, run, words_of
-from jobs import REFUSED, USAGE
+from cases import CASES, STUDY, TOP, bytes_of, expected, is_ready, misunderstood, names_of_cases, parser_of, run, words_of
 from options import job_of
 
 MOVES, NODES, MOST_CARDS, LEAST, SPENT = 2, 20000, 5, 70, 7
@@ -148,11 +147,17 @@ def judge_forms(case, words, seconds, files, text):
 
 def judge_words(case, words, seconds):
     """Words with a trick or a form that can't be right, and a job that begins with no trick."""
-    refused = (b"", f"alphamu: {USAGE}\n".encode(), REFUSED)
-    more = ([b"--from"], [b"--from", b"0"], [b"--from", b"14"], [b"--from", b"01"], [b"--from", b""], [b"--from="], [b"--from=14"],
-            [b"--from=1", b"--from", b"1"], [b"--form=xml"], [b"--form=csv", b"--form", b"csv"], [b"--job=review"])
-    wrong = [words + it for it in more] + [[b"cards" if it == b"review" else it for it in words] + [b"--from", b"1"]]
-    return [f"{case}: taken with {b' '.join(it[-4:]).decode()}" for it in wrong if run(STUDY, case, seconds, words=it) != refused]
+    def at(place, word):
+        return b"word %d isn't understood: %s" % (len(words) + place, word)
+    no_trick = b"--from doesn't take this value"
+    more = [([b"--from"], b"the last option has no value"), ([b"--from=1", b"--from", b"1"], at(2, b"--from")),
+            ([b"--form=xml"], b"--form doesn't take this value"), ([b"--form=csv", b"--form", b"csv"], at(2, b"--form")),
+            ([b"--job=review"], at(1, b"--job=review"))]
+    more += [(it, no_trick) for it in ([b"--from", b"0"], [b"--from", b"14"], [b"--from", b"01"], [b"--from", b""], [b"--from="], [b"--from=14"])]
+    wrong = [(words + it, line) for it, line in more]
+    wrong.append(([b"cards" if it == b"review" else it for it in words] + [b"--from", b"1"], b"the job doesn't take --from"))
+    return [f"{case}: not refused as it must be, with {b' '.join(it[-4:]).decode()}" for it, line in wrong
+            if run(STUDY, case, seconds, words=it) != misunderstood(line)]
 
 
 def judge_file(program, case, seconds, whole, layouts):
