@@ -38,7 +38,7 @@ IN_DEBIAN = "python3,gcc,libc6-dev,pkgconf"
 # Where a package puts what stays, and what a Debian keeps there for itself.
 PLACES, OWN = ("etc", "opt", "usr", "var"), ("var/lib/dpkg", "var/log", "var/cache")
 # The jobs of the second program, and what no man page may say: marks of Markdown, the source's launchers, and what has no place there.
-STUDY_JOBS = ("page", "words", "lines", "cards", "review")
+STUDY_JOBS = ("page", "words", "lines", "cards", "review", "draw")
 OUT_OF_PLACE = ("![", "](", "./study", "./alphamu", "last three rows", "last four rows", "you can't", "the picture", "tables above", "see below", "see above")
 faults, left_out = [], []
 
@@ -157,7 +157,8 @@ def try_links(prefix):
 
 def try_man_pages(prefix):
     wanted = {"alphamu": (*jobs.JOBS, *(f"--{it}" for it in jobs.OPTIONS)),
-              "alphamu_study": (*(f"alphamu_study --job {it}" for it in STUDY_JOBS), "--report", "--form", "--from", "--games")}
+              "alphamu_study": (*(f"alphamu_study --job {it}" for it in STUDY_JOBS), "--report", "--form", "--from", "--games",
+                                "--draw", "--seed", "--north", "--east", "--south", "--west")}
     for page, names in wanted.items():
         text = gzip.decompress((prefix / f"share/man/man1/{page}.1.gz").read_bytes()).decode().replace("\\-", "-")
         bold = set(re.findall(r"\\fB(.*?)\\fR", text))

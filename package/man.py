@@ -1,5 +1,5 @@
 """The man pages of alphamu and alphamu_study, made from the pages for users: what alphamu is and its jobs from README.md, options,
-refusals and statuses from docs/REFUSALS.md, the first question and the jobs of alphamu_study from docs/USING.md. So each thing is
+refusals and statuses from docs/REFUSALS.md, the layout file and the jobs of alphamu_study from docs/USING.md. So each thing is
 said in one place. The page of alphamu_study leaves what both programs share to that of alphamu."""
 import re
 
@@ -12,6 +12,10 @@ BULLET = "\\(bu"
 REPEATED = ("Required", "Allowed", "Default", "How to mend it")
 # The jobs of alphamu_study, each with a job of alphamu whose words it reads.
 STUDY_JOBS = [*((job, read) for job in ("page", "words", "lines") for read in ("solve", "check")), ("cards", "card"), ("review", "card")]
+# Those that may draw their layouts instead, and what a draw takes in addition.
+DRAWN_JOBS = ("page", "words", "lines", "cards")
+DRAW, DRAW_OPTIONS = "\\fB\\-\\-draw\\fR \\fIN\\fR", "[\\fIDRAW OPTIONS\\fR]"
+SEATS = ("north", "east", "south", "west")
 # What such a job takes in addition.
 FORM = "[\\fB\\-\\-form\\fR \\fBtext\\fR|\\fBcsv\\fR|\\fBjson\\fR]"
 OWN_OPTIONS = {"cards": [FORM], "review": ["[\\fB\\-\\-from\\fR \\fIN\\fR]", "[\\fB\\-\\-games\\fR]", FORM]}
@@ -125,10 +129,24 @@ def usage(jobs, program, job, read):
     needed, allowed = jobs.JOBS[read]
     words = [f"\\fB{program} \\-\\-job {job}\\fR"]
     words += [f"\\fB\\-\\-{it}\\fR \\fI{'FILE' if it in jobs.FILES else 'N'}\\fR" for it in needed]
+    words = [f"[{it}]" if job == "cards" and "\\-moves" in it else it for it in words]
     words += [f"[\\fB\\-\\-{it}\\fR \\fIN\\fR]" for it in allowed if it not in jobs.SEARCH or set(jobs.SEARCH) - set(allowed)]
     if set(jobs.SEARCH) <= set(allowed):
         words.append("[\\fISEARCH OPTIONS\\fR]")
     return " ".join(words + OWN_OPTIONS.get(job, []))
+
+
+def usage_of_drawn(jobs, job):
+    """The line of a job that draws its layouts in place of reading them."""
+    read = dict((name, read) for name, read in reversed(STUDY_JOBS))[job]
+    line = usage(jobs, "alphamu_study", job, read)
+    return line.replace("\\fB\\-\\-layouts\\fR \\fIFILE\\fR", f"{DRAW} {DRAW_OPTIONS}")
+
+
+def draw_options():
+    """What a draw takes in addition."""
+    conditions = [f"[\\fB\\-\\-{seat}\\fR \\fICONDITION\\fR] .." for seat in SEATS]
+    return [".PP", "The draw options are [\\fB\\-\\-seed\\fR \\fIN\\fR] " + " ".join(conditions)]
 
 
 def synopsis(jobs, lines):
@@ -153,7 +171,6 @@ def page(readme, refusals, using, jobs, version):
         ".SH DESCRIPTION", *converted(readme[:readme.index("## ")]),
         ".SH JOBS", *converted(section(readme, "What it does")),
         *converted(refusals[refusals.index("\n## "):]),
-        ".SH EXAMPLE", *converted(section(using, "An answer on your own board")),
         ".SH THE LAYOUT FILE", *converted(section(using, "The layout file")),
         *see_also("alphamu_study"),
     ]
@@ -162,6 +179,8 @@ def page(readme, refusals, using, jobs, version):
 
 # The sections of the second page, with the parts of docs/USING.md that they are made of.
 STUDY_PARTS = {
+    "AN ANSWER ON YOUR OWN BOARD": "An answer on your own board",
+    "DRAWN LAYOUTS AND CONDITIONS": "Drawn layouts and conditions: `draw`",
     "A PAGE TO LOOK AT": "A page to look at: `page`",
     "EVERY CARD SIDE BY SIDE": "Every card side by side: `cards`",
     "WHAT EACH CARD COST": "What each card cost: `review`",
@@ -174,10 +193,12 @@ STUDY_PARTS = {
 def study_page(using, jobs, version):
     """The man page of alphamu_study as text."""
     using = as_installed(using)
+    lines = [usage(jobs, "alphamu_study", job, read) for job, read in STUDY_JOBS]
+    lines += [*(usage_of_drawn(jobs, job) for job in DRAWN_JOBS), f"\\fBalphamu_study \\-\\-job draw\\fR \\fB\\-\\-deal\\fR \\fIFILE\\fR {DRAW} {DRAW_OPTIONS}"]
     out = [
         f'.TH ALPHAMU_STUDY 1 "" "alphamu {version}" "alphamu"',
-        ".SH NAME", "alphamu_study \\- shows lines of play at bridge, every card side by side, and what each card of a board cost",
-        ".SH SYNOPSIS", *synopsis(jobs, [usage(jobs, "alphamu_study", job, read) for job, read in STUDY_JOBS]),
+        ".SH NAME", "alphamu_study \\- draws layouts, shows lines of play at bridge and every card side by side, and what each card of a board cost",
+        ".SH SYNOPSIS", *synopsis(jobs, lines), *draw_options(),
         ".SH DESCRIPTION", *converted("The files, the options and their limits, the refusals and the statuses are those of `alphamu`(1)."),
         *(line for title, part in STUDY_PARTS.items() for line in (f".SH {title}", *converted(section(using, part)))),
         *see_also("alphamu"),
