@@ -187,7 +187,7 @@ def listed(given, number):
 
 
 def told(given, number):
-    """What is told of layouts drawn, against what is told of the file drawn."""
+    """The texts from a draw, against those from the file of the draw."""
     program, _, seconds = given
     rng = random.Random(f"told {number}")
     deal = Deal(rng, 35, is_ours=True)
