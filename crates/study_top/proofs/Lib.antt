@@ -1,3 +1,4 @@
 pub mod RootBoard
 pub mod RootWeights
 pub mod SolvedTold
+pub mod Asked

@@ -20,8 +20,8 @@ use Rattle.am_answer.specs.declared.status.FileWord.{FileWord}
 use Rattle.am_answer.specs.declared.status.Status.{Status}
 use Rattle.am_answer.specs.declared.status.Status.TheVariants.{BadWords, Memory}
 use Rattle.am_answer.specs.Answers.{board_in, root_in, task_at}
-use Rattle.am_answer.specs.declared.status.FileWord.TheVariants.{Layouts}
-use Rattle.am_answer.specs.Files.{InputsValue, IsNameOf, named_read, within_limit}
+use Rattle.am_answer.specs.declared.status.FileWord.TheVariants.{Deal, Layouts}
+use Rattle.am_answer.specs.Files.{InputsValue, IsNameOf, file_read, named_read, within_limit}
 use Rattle.am_answer.specs.Stages.{IsReadRefusal, IsFileRefusal}
 use Rattle.job_told.specs.ToldJob.{IsToldReport}
 use Rattle.job_lines.specs.LinesJob.{IsLinesReport}
@@ -151,48 +151,57 @@ reads_of (OfFiles study reads) = reads
 reads_of (OfDrawn study deal draw moves search) = asks.List deal
 reads_of (ask.Draw deal draw) = asks.List deal
 
--- what is told of what was read
-abbrev pub IsAnswerTo : StudyAskValue → InputsValue → List ℕ → Type 0
-IsAnswerTo (OfFiles study reads) inputs text = IsTextOf study inputs text
-IsAnswerTo (OfDrawn study name draw moves search) (asks.List deal) text = IsTextOfDrawn study deal draw (drawn_job study moves search) text
-IsAnswerTo (ask.Draw name draw) (asks.List deal) text = IsDrawFile deal draw text
-IsAnswerTo _ _ text = ⊥
+-- what is told of the files that are named
+abbrev pub IsAnswerFrom : Files → StudyAskValue → List ℕ → Type 0
+IsAnswerFrom files (OfFiles study reads) text = (inputs : InputsValue) × (named_read files reads ≡ Ok inputs) × IsTextOf study inputs text
+IsAnswerFrom files (OfDrawn study name draw moves search) text =
+    (deal : List ℕ) × (file_read files Deal name ≡ Ok deal) × IsTextOfDrawn study deal draw (drawn_job study moves search) text
+IsAnswerFrom files (ask.Draw name draw) text = (deal : List ℕ) × (file_read files Deal name ≡ Ok deal) × IsDrawFile deal draw text
 
--- why nothing is told of it
-abbrev pub IsNoAnswerTo : StudyAskValue → InputsValue → Refusal → Type 0
-IsNoAnswerTo (OfFiles study reads) inputs refusal = (status : Status) × IsRefusalOf study inputs status × (refusal ≡ refusal_of_status status)
-IsNoAnswerTo (OfDrawn study name draw moves search) (asks.List deal) refusal = IsRefusalOfDrawn study deal draw (drawn_job study moves search) refusal
-IsNoAnswerTo (ask.Draw name draw) (asks.List deal) refusal = (why : DrawRefusal) × IsDrawRefusal deal draw why × (refusal ≡ refusal_of_draw why)
-IsNoAnswerTo _ _ refusal = ⊥
+-- a file can't be read
+abbrev pub IsUnreadable : {A : Type 0} → Result A Status → Refusal → Type 0
+IsUnreadable expected refusal = (status : Status) × IsReadRefusal expected status × (refusal ≡ refusal_of_status status)
 
--- the words ask for this, and this is read for it from the files
-pub record IsAsked (words : List (List ℕ)) (files : Files) (asked : StudyAskValue) (inputs : InputsValue) : Type 0 where
-  pub understood : study_read words ≡ Ok asked
-  pub read : named_read files (reads_of asked) ≡ Ok inputs
+-- nothing is told of what was read
+abbrev pub IsNoTextOf : Study → InputsValue → Refusal → Type 0
+IsNoTextOf study inputs refusal = (status : Status) × IsRefusalOf study inputs status × (refusal ≡ refusal_of_status status)
+
+-- no layouts are drawn
+abbrev pub IsNoDraw : List ℕ → Draw → Refusal → Type 0
+IsNoDraw deal draw refusal = (why : DrawRefusal) × IsDrawRefusal deal draw why × (refusal ≡ refusal_of_draw why)
+
+-- why nothing is told of the files that are named
+abbrev pub IsNoAnswerFrom : Files → StudyAskValue → Refusal → Type 0
+IsNoAnswerFrom files (OfFiles study reads) refusal =
+    IsUnreadable (named_read files reads) refusal
+    ⊎ ((inputs : InputsValue) × (named_read files reads ≡ Ok inputs) × IsNoTextOf study inputs refusal)
+IsNoAnswerFrom files (OfDrawn study name draw moves search) refusal =
+    IsUnreadable (file_read files Deal name) refusal
+    ⊎ ((deal : List ℕ) × (file_read files Deal name ≡ Ok deal) × IsRefusalOfDrawn study deal draw (drawn_job study moves search) refusal)
+IsNoAnswerFrom files (ask.Draw name draw) refusal =
+    IsUnreadable (file_read files Deal name) refusal
+    ⊎ ((deal : List ℕ) × (file_read files Deal name ≡ Ok deal) × IsNoDraw deal draw refusal)
 
 -- the text of a study: what it tells of what its words ask for
 pub record IsStudyText (words : List (List ℕ)) (files : Files) (text : List ℕ) : Type 0 where
   pub asked : StudyAskValue
-  pub inputs : InputsValue
-  pub is_asked : IsAsked words files asked inputs
-  pub told : IsAnswerTo asked inputs text
+  pub understood : study_read words ≡ Ok asked
+  pub told : IsAnswerFrom files asked text
 
 -- the words aren't understood, and this is the first fault in them; or an allocation failed
 abbrev pub IsUnasked : List (List ℕ) → Refusal → Type 0
 IsUnasked words (Words bad) = study_read words ≡ Err bad
 IsUnasked words (Ended status) = status ≡ Memory
 
--- the files that the words name can't be read
-abbrev pub IsUnreadable : List (List ℕ) → Files → Refusal → Type 0
-IsUnreadable words files refusal = (asked : StudyAskValue) × (status : Status) × (study_read words ≡ Ok asked)
-    × IsReadRefusal (named_read files (reads_of asked)) status × (refusal ≡ refusal_of_status status)
-
--- why there is no text: the words aren't understood, the files can't be read, or nothing is told of them
+-- why there is no text: the words aren't understood, or nothing is told of what they ask for
 abbrev pub IsStudyRefusal : List (List ℕ) → Files → Refusal → Type 0
-IsStudyRefusal words files refusal = IsUnasked words refusal ⊎ IsUnreadable words files refusal
-    ⊎ ((asked : StudyAskValue) × (inputs : InputsValue) × IsAsked words files asked inputs × IsNoAnswerTo asked inputs refusal)
+IsStudyRefusal words files refusal =
+    IsUnasked words refusal ⊎ ((asked : StudyAskValue) × (study_read words ≡ Ok asked) × IsNoAnswerFrom files asked refusal)
 
--- the words name the file, and the count of faults at a name of it rose
+-- a request names the file, and the count of faults at a name of it rose
+abbrev pub IsUnreadOf : Option Files → StudyAskValue → (List ℕ → ℕ) → (List ℕ → ℕ) → FileWord → Type 0
+IsUnreadOf told asked before now file = (name : List ℕ) × IsNameOf told (reads_of asked) file name × Rose (before name) (now name)
+
+-- the words ask for something that names the file so
 abbrev pub IsStudyUnread : Option Files → List (List ℕ) → (List ℕ → ℕ) → (List ℕ → ℕ) → FileWord → Type 0
-IsStudyUnread told words before now file = (asked : StudyAskValue) × (name : List ℕ)
-    × (study_read words ≡ Ok asked) × IsNameOf told (reads_of asked) file name × Rose (before name) (now name)
+IsStudyUnread told words before now file = (asked : StudyAskValue) × (study_read words ≡ Ok asked) × IsUnreadOf told asked before now file

@@ -5,7 +5,9 @@ ghost use Rattle.std.specs.Io.KnownBytes.{append_known};
 ghost use Rattle.am_outside.specs.Faults.{Rose};
 ghost use Rattle.am_outside.specs.Sink.{AppendsPart};
 ghost use Rattle.win_vectors.specs.Weights.{IsWeight};
-ghost use Rattle.job_words.specs.Asks.{texts_of, IsMoves, IsSearchWithinLimits};
+ghost use Rattle.job_words.specs.Asks.{ask_of, texts_of, IsMoves, IsSearchWithinLimits};
+ghost use Rattle.job_words.specs.Asks.{IsWithinLimits};
+ghost use Rattle.job_words.specs.declared.study.StudyAsk.TheVariants.{OfFiles};
 ghost use Rattle.job_words.specs.declared.asks.Ask.TheVariants.{OnLayouts};
 ghost use Rattle.am_answer.specs.declared.status.FileWord.TheVariants.{Deal};
 ghost use Rattle.am_answer.specs.Answers.{IsRoot, board_in};
@@ -17,7 +19,8 @@ ghost use Rattle.study_top.specs.Study.{IsTextOf, IsRefusalOf, IsStudyText, IsSt
 ghost use Rattle.study_top.specs.Study.{IsStudyRefusal, IsTextOfReport, IsReportRefusal};
 ghost use Rattle.study_top.specs.Study.{AreCardsFor, AreCardsRefused, table_moves as moves_of};
 ghost use Rattle.study_top.specs.Study.{IsTextOfSearch, IsSearchRefusal, IsTextOfDrawn};
-ghost use Rattle.study_top.specs.Study.{IsRefusalOfDrawn, drawn_job};
+ghost use Rattle.study_top.specs.Study.{IsRefusalOfDrawn, drawn_job, IsAnswerFrom};
+ghost use Rattle.study_top.specs.Study.{IsNoAnswerFrom, IsUnreadOf};
 ghost use Rattle.study_top.specs.declared.refusal.Refusal.TheVariants.{Ended};
 
 use crate::form::form_of;
@@ -37,7 +40,7 @@ use job_page::tell_page;
 use job_review::{Asked, tell_review};
 use job_reviews::tell_reviews;
 use job_told::tell_report;
-use job_words::{Ask, Draw, LayoutsJob, Search, Study, StudyAsk};
+use job_words::{Ask, Draw, LayoutsJob, NamedAsk, Search, Study, StudyAsk};
 use std::alloc::Global;
 use std::thread::Threads;
 
@@ -245,6 +248,30 @@ fn text_of_drawn<R: Threads + Sync>(
     Ok(text_on(rt, alloc, study, deal, &layouts, job)?)
 }
 
+// What is told of files.
+fn text_of_files<R: Threads + Sync, S: Shelf>(
+    rt: &R,
+    alloc: Global,
+    shelf: &mut S,
+    study: Study,
+    reads: NamedAsk<'_>,
+) -> Result<Text, Refusal>
+    requires { IsWithinLimits (ask_of reads) }
+    ensures text { IfSome (S.told shelf.old) (λ files.
+        IfOk result (IsAnswerFrom files (OfFiles study (ask_of reads.entry)))) }
+    ensures refused { IfSome (S.told shelf.old) (λ files.
+        IfErr result (IsNoAnswerFrom files (OfFiles study (ask_of reads.entry)))) }
+    ensures not_done { IfErr result IsRefused }
+    ensures unread { (file : FileWord) → IsErrOf result (Ended (Status.Unread file))
+        → IsUnreadOf (S.told shelf.old) (OfFiles study (ask_of reads.entry))
+        (S.faults shelf.old) (S.faults shelf.new) file }
+    ensures same_files { S.told shelf.new ≡ S.told shelf.old }
+{
+    let inputs = read_named(alloc, shelf, reads)?;
+    let text = text_in(rt, alloc, study, &inputs)?;
+    Ok(text)
+}
+
 // What is told of what the words ask for, or why there is nothing.
 fn text_for<R: Threads + Sync, S: Shelf>(
     rt: &R,
@@ -262,11 +289,9 @@ fn text_for<R: Threads + Sync, S: Shelf>(
         (S.faults shelf.old) (S.faults shelf.new) file }
     ensures same_files { S.told shelf.new ≡ S.told shelf.old }
 {
-    match read_ask(alloc, words)? {
-        StudyAsk::OfFiles { study, reads } => {
-            let inputs = read_named(alloc, shelf, reads)?;
-            Ok(text_in(rt, alloc, study, &inputs)?)
-        }
+    let asked = read_ask(alloc, words)?;
+    match asked {
+        StudyAsk::OfFiles { study, reads } => text_of_files(rt, alloc, shelf, study, reads),
         StudyAsk::OfDrawn {
             study,
             deal,
@@ -280,7 +305,8 @@ fn text_for<R: Threads + Sync, S: Shelf>(
         }
         StudyAsk::Draw { deal, draw } => {
             let deal = read_file(alloc, shelf, FileWord::Deal, deal)?;
-            Ok(draw_file(alloc, &deal, draw)?)
+            let text = draw_file(alloc, &deal, draw)?;
+            Ok(text)
         }
     }
 }

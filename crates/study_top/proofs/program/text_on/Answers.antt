@@ -1,7 +1,7 @@
 use Rattle.std.proofs.Common.{inr, subst}
 use Rattle.std.proofs.lemmas.Result.{IfOk-weaker, IfErr-weaker}
 use Rattle.text_forms.specs.declared.form.Form.{Form}
-use Rattle.job_cards.specs.Cards.{IsCardsText}
+use Rattle.job_cards.specs.Cards.{IsCardsText, IsExactText}
 use Rattle.study_top.proofs.RootBoard.{board_of_root}
 use Rattle.study_top.proofs.RootWeights.{weights_of_root}
 use Rattle.study_top.proofs.program.text_on.Goals as goal
@@ -28,3 +28,10 @@ returns-in_ok-root-in-Cards-Card-clause-text g c =
     rw (c.in-Cards-Card.is-0) (rw (c.in-Cards-Card.is-1) (IfOk-weaker c.tell_cards.result _ _
     (λ text told. (root, c.in_ok-root-in-Cards-Card.ensures.root, subst (λ (form : Form). IsCardsText root c.in-Cards-Card.moves form text) c.form_of.ensures told))
     c.tell_cards.ensures.text))
+
+pub returns-in_ok-root-in-ExactCards-Card-clause-text : goal.returns-in_ok-root-in-ExactCards-Card-clause-text
+returns-in_ok-root-in-ExactCards-Card-clause-text g c =
+    let root = c.in_ok-root-in-ExactCards-Card.root in
+    rw (c.in-ExactCards-Card.is-0) (rw (c.in-ExactCards-Card.is-1) (IfOk-weaker c.tell_exact.result _ _
+    (λ text told. (root, c.in_ok-root-in-ExactCards-Card.ensures.root, subst (λ (form : Form). IsExactText root form text) c.form_of-in-ExactCards-Card.ensures told))
+    c.tell_exact.ensures.text))
