@@ -3,8 +3,8 @@
 tricks, and the seconds of the processor and the peak memory for a whole deal before the first card, which has 10,400,600 divisions. Without
 conditions, and with some of each kind. What is drawn must say as many layouts as a second program counts (checks/drawing.py).
 
-Usage: bench/draw.py [--late] [PROGRAM]. PROGRAM is the proved one if you name none: ./build makes it. With --late the whole deal is left out.
-It needs valgrind, whose callgrind counts."""
+Usage: bench/draw.py [--seconds] [PROGRAM]. PROGRAM is the proved one if you name none: ./build makes it. The instructions are counted by
+valgrind's callgrind. With --seconds they are left out: the unproved program, which checks itself as it runs, doesn't run under valgrind."""
 import os
 import pathlib
 import re
@@ -25,7 +25,6 @@ LATE = DEAL + b'[Play "W"]\nCJ C2 C6 CA\nD2 D8 D6 DQ\nC8 C3 C7 CK\n*\n'
 CONDITIONS = {
     "none": [],
     "points of one hand": [("--west", "2-6 hcp")],
-    "shapes of both hands": [("--west", "balanced"), ("--east", "5+ spades, 0-2 hearts")],
     "two for each hand": [("--west", "2-6 hcp, balanced, lacks SK"), ("--west", "4+ hearts"), ("--east", "5+ spades"), ("--east", "holds SK, 7+ hcp")],
 }
 
@@ -65,16 +64,13 @@ def instructions(program, deal, pairs):
 
 
 def main():
-    given = [word for word in sys.argv[1:] if word != "--late"]
+    given = [word for word in sys.argv[1:] if word != "--seconds"]
     program = given[0] if given else PROGRAM
     print("%-21s %12s %14s %9s %8s" % ("conditions", "that fit", "instr/division", "seconds", "MiB"))
     for name, pairs in CONDITIONS.items():
-        whole = "%9s %8s" % ("", "")
-        if "--late" not in sys.argv:
-            seconds, memory = draw([program], DEAL, pairs)
-            whole = "%9.2f %8.1f" % (seconds, memory / 1024)
-        each = instructions(program, LATE, pairs) / count_of(LATE, pairs)[1]
-        print("%-21s %12d %14.0f %s" % (name, count_of(DEAL, pairs)[0], each, whole), flush=True)
+        seconds, memory = draw([program], DEAL, pairs)
+        each = "left out" if "--seconds" in sys.argv else round(instructions(program, LATE, pairs) / count_of(LATE, pairs)[1])
+        print("%-21s %12d %14s %9.2f %8.1f" % (name, count_of(DEAL, pairs)[0], each, seconds, memory / 1024), flush=True)
 
 
 if __name__ == "__main__":
