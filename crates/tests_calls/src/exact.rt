@@ -27,12 +27,17 @@ fn weights() -> Weights {
 
 // Every card of the ending if one trick is needed and a search may enter this many nodes.
 fn table(rt: &impl Abort, alloc: Global, nodes: u64) -> Result<ExactTable, AllocError> {
-    let layouts = [spades(LEFT), spades(OTHER)];
     let position = ending(rt, 1);
-    assert!(rt; position.fits(spades(LEFT)));
-    assert!(rt; position.fits(spades(OTHER)));
-    let node = Node::new(alloc, position, layouts.as_slice())?;
-    exact_table(alloc, &node, &weights(), nodes)
+    let queen = spades(LEFT);
+    let ace = spades(OTHER);
+    assert!(rt; position.fits(queen));
+    assert!(rt; position.fits(ace));
+    let node = Node::new(alloc, position, [queen, ace].as_slice())?;
+    let weights = weights();
+    assert!(rt; node.is_ours());
+    assert!(rt; !node.position().over());
+    assert!(rt; weights.width() == node.width());
+    exact_table(alloc, &node, &weights, nodes)
 }
 
 // After the seven, which Right plays in both layouts, declarer's king wins if Left has the queen, and
