@@ -26,7 +26,7 @@ sys.dont_write_bytecode = True
 import assured
 import playing
 import reading
-from cases import STUDY, TOP, bytes_of, expected, is_ready, misunderstood, names_of_cases, parser_of, run, words_of
+from cases import STUDY, TOP, bytes_of, expected, is_ready, is_refused_alike, misunderstood, names_of_cases, parser_of, run, words_of
 from options import ONE_WORKER, choices_for, job_of
 
 MOST_CARDS, MOST_LAYOUTS, MOST_MOVES, NODES, LEAST = 3, 6, 4, 20000, 70
@@ -186,7 +186,7 @@ def judge(program, case, place, seconds):
         return [], 0
     if status:
         words = [b"cards" if it == b"card" else it for it in words_of(case)]
-        if job == "solve" or status == SPENT or run(STUDY, case, seconds, words=words) == (text, line, status):
+        if job == "solve" or status == SPENT or is_refused_alike(run(STUDY, case, seconds, words=words), (text, line, status)):
             return [], 0
         return [f"{case}: not refused as by card"], 0
     limit = min(MOST_MOVES, int(reading.ask_of([word.decode() for word in words_of(case)])[1]["moves"]))

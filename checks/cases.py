@@ -132,6 +132,12 @@ def expected(case):
     return bytes_of(case, "stdout"), bytes_of(case, "stderr"), int(bytes_of(case, "status") or 0)
 
 
+def is_refused_alike(found, wanted):
+    """Whether a study refuses as alphamu does. It says what is wrong with words, for which alphamu has one line."""
+    text, line, status = found
+    return found == wanted or (text, status) == (wanted[0], wanted[2]) == (b"", 2) and line.startswith(b"alphamu: ") and b"usage" not in line
+
+
 def misunderstood(line):
     """What a run of alphamu_study gives whose words aren't understood, if this is the line that says why."""
     return b"", b"alphamu: %s\n" % line, jobs.REFUSED

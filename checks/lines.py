@@ -15,7 +15,7 @@ from concurrent.futures import ProcessPoolExecutor
 
 sys.dont_write_bytecode = True
 import reading
-from cases import STUDY, TOP, bytes_of, expected, is_ready, names_of_cases, parser_of, run, words_of
+from cases import STUDY, TOP, bytes_of, expected, is_ready, is_refused_alike, names_of_cases, parser_of, run, words_of
 from options import job_of, with_job
 from playing import after, legal, makes, name_of, winner_of
 
@@ -138,7 +138,7 @@ def judge_refusals(program, seconds):
         text, line, status = expected(case)
         if job_of(words_of(case)) == "check" and status and not bytes_of(case, "fill"):
             words = [b"lines" if it == b"check" else it for it in words_of(case)]
-            if run(STUDY, case, seconds, words=words) != (text, line, status):
+            if not is_refused_alike(run(STUDY, case, seconds, words=words), (text, line, status)):
                 wrong.append(f"{case}: not refused as by check")
             number += 1
     return wrong, number

@@ -40,7 +40,7 @@ from html.parser import HTMLParser
 sys.dont_write_bytecode = True
 import playing
 import reading
-from cases import STUDY, TOP, bytes_of, expected, is_ready, names_of_cases, names_of_study_cases, parser_of, run, words_of
+from cases import STUDY, TOP, bytes_of, expected, is_ready, is_refused_alike, names_of_cases, names_of_study_cases, parser_of, run, words_of
 from options import job_of, with_job
 from playing import card_named, name_of
 
@@ -600,7 +600,8 @@ def refusals(seconds):
     wrong, number = [], 0
     for case in names_of_cases():
         if job_of(words_of(case)) == "check" and expected(case)[2] and not bytes_of(case, "fill"):
-            if run(STUDY, case, seconds, words=[b"page" if it == b"check" else it for it in words_of(case)]) != expected(case):
+            words = [b"page" if it == b"check" else it for it in words_of(case)]
+            if not is_refused_alike(run(STUDY, case, seconds, words=words), expected(case)):
                 wrong.append(f"{case}: not refused as by check")
             number += 1
     return wrong, number
