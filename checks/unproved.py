@@ -29,7 +29,7 @@ import jobs
 # The programs by what the launchers are called, with words that make each read its deal file.
 CALLED = {"alphamu": "alphamu", "alphamu_study": "study"}
 READS = {"alphamu": ("--job", "list"), "alphamu_study": ("--job", "cards", "--layouts", "none", "--moves", "1")}
-BEGINNING = "the program isn't proved yet, so it is compiled once, unproved: about two minutes, more on a busy machine"
+BEGINNING = "the program isn't proved yet, so it is compiled once, unproved: about a minute, more on a busy machine"
 WAITING = "waiting for another launcher, which compiles the programs"
 PROGRESS = "compiling: {stage}, {seconds} s so far"
 NOTICE = "not proved: this answer comes from the same source, compiled unproved. {top}/build makes the proved one, in half an hour or more"
