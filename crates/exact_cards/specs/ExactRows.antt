@@ -39,10 +39,11 @@ pub record IsExactTable (n : NodeValue) (weights : List ℕ) (table : ExactTable
   pub rows : AreExactRows n weights table.rows.items
   pub named : IsSafestCard table.rows.items table.named
 
--- a search that leaves a row which isn't final has entered all nodes that its budget allowed
-abbrev pub IsFinalUnlessSpent : CardRow → Entered → Type 0
-IsFinalUnlessSpent row entered = is_final row ≡ false → entered.count ≡ entered.nodes
+-- a search with a budget of this many nodes, which has entered all of them if its row isn't final
+pub record IsFinalUnlessSpent (nodes : ℕ) (row : CardRow) (entered : Entered) : Type 0 where
+  pub budget : entered.nodes ≡ nodes
+  pub unless_spent : is_final row ≡ false → entered.count ≡ nodes
 
--- the search of each row
-abbrev pub AreFinalUnlessSpent : ExactTable → Type 0
-AreFinalUnlessSpent table = AllZip IsFinalUnlessSpent table.rows.items table.entered.items
+-- the search of each row has such a budget
+abbrev pub AreFinalUnlessSpent : ℕ → ExactTable → Type 0
+AreFinalUnlessSpent nodes table = AllZip (IsFinalUnlessSpent nodes) table.rows.items table.entered.items

@@ -13,7 +13,7 @@ use card_brackets::CardRow;
 use card_sets::Card;
 use dd_solver::Solver;
 use fusion_base::CardVector;
-use set_search::{SetMemo, SetSearch, SetValue};
+use set_search::{Order, SetMemo, SetQuestion, SetSearch, SetValue};
 use std::alloc::{AllocError, Global};
 use trick_rules::{MOST_MOVES, Node};
 use win_vectors::Weights;
@@ -54,16 +54,23 @@ fn value_after(
     ensures bracket { IfOk result (λ found. IsBracket child.now moves_after
         asked.now.weights.now found.value.won found.value.least found.value.most) }
     ensures spent { IfOk result (λ found. (found.value.least ≡ found.value.most)
-        ⊎ (found.entered.count ≡ found.entered.nodes)) }
+        ⊎ (found.entered.count ≡ asked.now.nodes)) }
+    ensures budget { IfOk result (λ found. found.entered.nodes ≡ asked.now.nodes) }
     ensures memo { memo.new ≡ memo.old }
 {
+    let question = SetQuestion {
+        node: child,
+        moves: MOST_MOVES - 1,
+        weights: asked.weights,
+        order: Order::Weight,
+    };
     let mut budget = Budget::new(asked.nodes);
     let mut search = SetSearch {
         solver,
         budget: &mut budget,
         memo,
     };
-    match search.value(asked.alloc, child, MOST_MOVES - 1, asked.weights) {
+    match search.value(asked.alloc, &question) {
         Ok(value) => Ok(SearchedValue {
             value,
             entered: budget.entered(),
@@ -107,7 +114,8 @@ pub fn row_after(
     requires memo { memo.old ≡ asked.now.node.now.lefts }
     ensures row { IfOk result (λ found. IsExactRow asked.now.node.now asked.now.weights.now
         believed.now.card found.row) }
-    ensures spent { IfOk result (λ found. IsFinalUnlessSpent found.row found.entered) }
+    ensures spent { IfOk result (λ found.
+        IsFinalUnlessSpent asked.now.nodes found.row found.entered) }
     ensures memo { memo.new ≡ memo.old }
 {
     let _width = asked.node.width();

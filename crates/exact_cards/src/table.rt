@@ -44,7 +44,7 @@ pub fn exact_table(
     requires goes_on { is_over node.now.position ≡ false }
     requires weights { length weights.now ≡ length node.now.lefts }
     ensures table { IfOk result (IsExactTable node.now weights.now) }
-    ensures spent { IfOk result AreFinalUnlessSpent }
+    ensures spent { IfOk result (AreFinalUnlessSpent nodes) }
 {
     let _width = node.width();
     let asked = Asked {

@@ -13,6 +13,7 @@ mod open_cards;
 mod search;
 mod value;
 
+pub use free_sets::Order;
 pub use search::SetSearch;
 pub use set_memo::{SetMemo, Verdict};
-pub use value::SetValue;
+pub use value::{SetQuestion, SetValue};

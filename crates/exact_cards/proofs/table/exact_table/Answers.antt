@@ -33,9 +33,9 @@ loop-entry-preserved c =
           (rows_more n weights place entry.card found.row rows (within n believed place entry is c.loop-entry-test.true c.entry-item.is)
           (entry_card n believed place entry is c.loop-entry-test.true c.entry-item.is) c.in_ok-found.ensures.row c.loop-entry.invariant.rows);
       entered =
-          subst (λ (later : List Entered). AllZip IsFinalUnlessSpent c.push.new.self.items later) (sym c.in_ok-push-2.ensures.items)
-          (subst (λ (later : List CardRow). AllZip IsFinalUnlessSpent later (entered ++ found.entered ∷ [])) (sym c.in_ok-push.ensures.items)
-          (zip_more IsFinalUnlessSpent rows entered found.row found.entered c.loop-entry.invariant.entered c.in_ok-found.ensures.spent));
+          subst (λ (later : List Entered). AllZip (IsFinalUnlessSpent c.args.nodes) c.push.new.self.items later) (sym c.in_ok-push-2.ensures.items)
+          (subst (λ (later : List CardRow). AllZip (IsFinalUnlessSpent c.args.nodes) later (entered ++ found.entered ∷ [])) (sym c.in_ok-push.ensures.items)
+          (zip_more (IsFinalUnlessSpent c.args.nodes) rows entered found.row found.entered c.loop-entry.invariant.entered c.in_ok-found.ensures.spent));
       memo = c.row_after.ensures.memo ∙ c.loop-entry.invariant.memo;
     }
 

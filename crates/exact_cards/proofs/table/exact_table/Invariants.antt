@@ -7,6 +7,6 @@ use Rattle.exact_cards.proofs.table.exact_table.Given as goal
 abbrev pub invariant-loop-entry : goal.invariant-loop-entry
 invariant-loop-entry l = record {
   rows : AreFirstRows l.node l.weights l.entry-index l.rows.items;
-  entered : AllZip IsFinalUnlessSpent l.rows.items l.entered.items;
+  entered : AllZip (IsFinalUnlessSpent l.nodes) l.rows.items l.entered.items;
   memo : l.memo ≡ l.node.lefts;
 }
