@@ -4,3 +4,5 @@ pub mod Leading
 pub mod Tables
 pub mod Bounded
 pub mod HeavyVectors
+pub mod OneTable
+pub mod Fitting

@@ -1,17 +1,9 @@
 -- The least number of moves with which each row is final.
-use Rattle.std.proofs.Common.{◌≡◌, ◌+◌, ◌-◌, ◌<◌, ◌≤◌, ℕ, true, List, Contains, inl, inr, ⊎_elim, sym, subst, arith}
+use Rattle.std.proofs.Common.{◌≡◌, ◌+◌, ◌<◌, ◌≤◌, ℕ, true, List, inl, inr, ⊎_elim, sym, subst, arith}
 use Rattle.std.proofs.lemmas.Bool.{cases_lt}
-use Rattle.trick_rules.specs.Nodes.{NodeValue, choices, child}
-use Rattle.strategy_games.specs.Plans.{tree_size}
-use Rattle.strategy_tree.specs.Bridge.{bridge}
-use Rattle.strategy_tree.specs.RootTrees.{IsSpentAt}
+use Rattle.trick_rules.specs.Nodes.{NodeValue}
 use Rattle.card_brackets.specs.declared.table.CardTable.{CardTable}
-use Rattle.card_brackets.specs.Rows.{are_final, IsTableWith, IsOpenWith, IsTableUpTo}
-
--- the tree below the node after a card
-pub spent_after : (n kept : NodeValue) (moves nodes card other : ℕ) → Contains (choices n) card → kept ≡ child n card → nodes < tree_size bridge kept (moves - 1) → other ≡ card → IsSpentAt n moves nodes other
-spent_after n kept moves nodes card other choice is large same =
-    subst (λ c. IsSpentAt n moves nodes c) (sym same) (choice, subst (λ (k : NodeValue). nodes < tree_size bridge k (moves - 1)) is large)
+use Rattle.card_brackets.specs.Rows.{are_final, IsTableWith, IsOpenWith, IsTableUpTo, IsRoundUpTo}
 
 module _ (n : NodeValue) (ws : List ℕ) where
   -- with each number of moves below this one some row isn't final
@@ -40,3 +32,6 @@ module _ (n : NodeValue) (ws : List ℕ) where
         enough = λ less. final (omega arith);
         needed = subst (λ m. AreOpenBelow m) (sym same) below;
       }
+
+  pub round_up_to : (limit moves : ℕ) → 1 ≤ moves → moves ≤ limit → AreOpenBelow moves → IsRoundUpTo n ws limit moves
+  round_up_to limit moves some few below = record { some = some; few = few; needed = below }

@@ -7,6 +7,7 @@ use Rattle.trick_rules.specs.Nodes.{NodeValue, IsNode, choices, child}
 use Rattle.strategy_games.specs.Plans.{IsFront}
 use Rattle.strategy_games.specs.Choosing.{IsBestWeight, IsNamedByWeight}
 use Rattle.strategy_tree.specs.Bridge.{bridge}
+use Rattle.strategy_tree.specs.RootTrees.{IsSpentAt, IsFirstSpentAt}
 use Rattle.assured_games.specs.Assured.{IsLeastBy}
 use Rattle.sure_nodes.specs.SureNodes.{is_sure_node}
 use Rattle.fusion_base.specs.Sampling.{made_after}
@@ -61,9 +62,29 @@ pub record IsTableUpTo (n : NodeValue) (weights : List ℕ) (limit : ℕ) (table
   pub enough : table.moves < limit → are_final table.rows.items ≡ true
   pub needed : (fewer : ℕ) → 1 ≤ fewer → fewer < table.moves → IsOpenWith n weights fewer
 
+-- the round with this many moves, up to a limit, is begun: with each smaller number the row of some card isn't final
+pub record IsRoundUpTo (n : NodeValue) (weights : List ℕ) (limit moves : ℕ) : Type 0 where
+  pub some : 1 ≤ moves
+  pub few : moves ≤ limit
+  pub needed : (fewer : ℕ) → 1 ≤ fewer → fewer < moves → IsOpenWith n weights fewer
+
+-- in such a round a root card's tree has more nodes than a search may enter
+abbrev pub IsSpentUpTo : NodeValue → List ℕ → ℕ → ℕ → ℕ → Type 0
+IsSpentUpTo n weights limit nodes card = (moves : ℕ) × IsRoundUpTo n weights limit moves × IsSpentAt n moves nodes card
+
+-- it is the first such card of the round
+abbrev pub IsFirstSpentUpTo : NodeValue → List ℕ → ℕ → ℕ → ℕ → Type 0
+IsFirstSpentUpTo n weights limit nodes card = (moves : ℕ) × IsRoundUpTo n weights limit moves × IsFirstSpentAt n moves nodes card
+
 -- with every greater number of moves the weight of the card lies between the bounds of a row
 abbrev pub RowsBracket : Type 0
 RowsBracket = (n : NodeValue) (weights : List ℕ) (moves extra card : ℕ) (row : CardRow) (best : ℕ)
     → IsNode n → Contains (choices n) card → IsRow n weights moves card row
     → IsBestWeight bridge weights (child n card) ((moves - 1) + extra) best
     → (row.least ≤ best) × (best ≤ row.most)
+
+-- a limit of moves has one table
+abbrev pub HasOneTable : Type 0
+HasOneTable = (n : NodeValue) (weights : List ℕ) (limit : ℕ) (table other : CardTable)
+    → IsTableUpTo n weights limit table → IsTableUpTo n weights limit other
+    → (table.moves ≡ other.moves) × (table.rows.items ≡ other.rows.items) × (table.named ≡ other.named)

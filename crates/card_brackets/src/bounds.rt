@@ -1,16 +1,19 @@
 //! The two bounds of what is won after a card.
-ghost use Rattle.std.specs.Prelude.{◌≡◌, ◌<◌, ◌-◌, length, IfOk, IsErrOf};
+ghost use Rattle.std.specs.Prelude.{◌≡◌, ◌<◌, ◌≤◌, ◌-◌, true, false, length, IfOk, IsErrOf};
 ghost use Rattle.win_vectors.specs.Weights.{weight_of};
 ghost use Rattle.strategy_games.specs.Plans.{tree_size};
 ghost use Rattle.strategy_tree.specs.Bridge.{bridge};
+ghost use Rattle.cut_rules.specs.Rules.{no_cuts};
 ghost use Rattle.front_table.specs.Proven.{IsFrontAt};
+ghost use Rattle.alphamu_core.specs.Costs.{IsWithin};
 ghost use Rattle.assured_games.specs.Assured.{IsLeastBy};
 ghost use Rattle.sure_nodes.specs.SureNodes.{is_sure_node};
 ghost use Rattle.shared_table.specs.Passes.{IsPassOf};
+ghost use Rattle.root_workers.specs.Plain.{IsPlain};
 ghost use Rattle.root_workers.specs.Questions.{IsQuestion};
 
 use crate::heaviest::heaviest;
-use alphamu_core::{Budget, Found, SearchFault, search};
+use alphamu_core::{Budget, Entered, Found, SearchFault, search};
 use assured_fronts::{assured_front, assured_replies, waits};
 use cut_rules::{CutRules, Stop, greatest_weight};
 use dd_solver::Solver;
@@ -25,10 +28,30 @@ use trick_rules::Node;
 pub struct Bounds {
     pub front: Front,
     pub least: u32,
+    /// What the search for the front entered.
+    pub entered: Entered,
+    /// What the search for what is assured entered.
+    pub assured: Entered,
+}
+
+// A front, and what its search entered.
+#[derive(Drop)]
+struct WholeFront {
+    front: Front,
+    entered: Entered,
+}
+
+// The greatest weight that is assured, and what its search entered.
+#[derive(Clone, Copy)]
+struct LeastWeight {
+    weight: u32,
+    entered: Entered,
 }
 
 // The rules by which a node is searched to its end.
-fn rules_of(options: &Options) -> CutRules {
+fn rules_of(options: &Options) -> CutRules
+    ensures { options.now.cuts ≡ false → result ≡ no_cuts }
+{
     if options.cuts {
         CutRules::all(Stop::Never)
     } else {
@@ -43,9 +66,14 @@ fn whole_front<S: FrontStore>(
     store: &mut S,
     solver: &mut Solver,
     child: &Node,
-) -> Result<Front, SearchFault>
+) -> Result<WholeFront, SearchFault>
     requires question { IsQuestion question.now }
-    ensures front { IfOk result (IsFrontAt child.now (question.now.moves - 1)) }
+    ensures front { IfOk result
+        (λ found. IsFrontAt child.now (question.now.moves - 1) found.front) }
+    ensures within { IfOk result (λ found.
+        IsWithin question.now.options.now.nodes found.entered) }
+    ensures fits { question.now.options.now.cuts ≡ false → S.blind ≡ true → IfOk result (λ _.
+        tree_size bridge child.now (question.now.moves - 1) ≤ question.now.options.now.nodes) }
     ensures spent { IsErrOf result SearchFault.Spent → question.now.options.now.nodes
         < tree_size bridge child.now (question.now.moves - 1) }
     ensures grown { S.grown store.old store.new }
@@ -63,7 +91,10 @@ fn whole_front<S: FrontStore>(
         rules_of(question.options),
     );
     match found {
-        Ok(Found::Exact(front)) => Ok(front),
+        Ok(Found::Exact(front)) => Ok(WholeFront {
+            front,
+            entered: budget.entered(),
+        }),
         Ok(Found::Below) => unreachable!(),
         Err(fault) => Err(fault),
     }
@@ -75,10 +106,15 @@ fn front_after(
     pass: &mut Pass,
     solver: &mut Solver,
     child: &Node,
-) -> Result<Front, SearchFault>
+) -> Result<WholeFront, SearchFault>
     requires question { IsQuestion question.now }
     requires pass { IsPassOf question.now.table.now pass.old }
-    ensures front { IfOk result (IsFrontAt child.now (question.now.moves - 1)) }
+    ensures front { IfOk result
+        (λ found. IsFrontAt child.now (question.now.moves - 1) found.front) }
+    ensures within { IfOk result (λ found.
+        IsWithin question.now.options.now.nodes found.entered) }
+    ensures fits { IsPlain question.now.options.now → IfOk result (λ _.
+        tree_size bridge child.now (question.now.moves - 1) ≤ question.now.options.now.nodes) }
     ensures spent { IsErrOf result SearchFault.Spent → question.now.options.now.nodes
         < tree_size bridge child.now (question.now.moves - 1) }
     ensures pass { IsPassOf question.now.table.now pass.new }
@@ -93,11 +129,17 @@ fn front_after(
 
 // The greatest weight that is assured after a root card. `child` is the node after it. If a
 // defender is to play there, what is assured after each of its cards is enough.
-fn least_after(question: &Question, solver: &mut Solver, child: &Node) -> Result<u32, SearchFault>
+fn least_after(
+    question: &Question,
+    solver: &mut Solver,
+    child: &Node,
+) -> Result<LeastWeight, SearchFault>
     requires question { IsQuestion question.now }
     requires width { length question.now.weights.now ≡ length child.now.lefts }
-    ensures least { IfOk result (IsLeastBy bridge is_sure_node
-        (weight_of question.now.weights.now) child.now (question.now.moves - 1)) }
+    ensures least { IfOk result (λ found. IsLeastBy bridge is_sure_node
+        (weight_of question.now.weights.now) child.now (question.now.moves - 1) found.weight) }
+    ensures allowed { IfOk result (λ found.
+        found.entered.nodes ≡ question.now.options.now.nodes) }
     ensures spent { IsErrOf result SearchFault.Spent → question.now.options.now.nodes
         < tree_size bridge child.now (question.now.moves - 1) }
 {
@@ -107,11 +149,18 @@ fn least_after(question: &Question, solver: &mut Solver, child: &Node) -> Result
     let mut budget = Budget::new(question.options.nodes);
     if waits(child, moves) {
         let replies = assured_replies(alloc, solver, &mut budget, child, moves)?;
-        return Ok(heaviest(alloc, child, moves, question.weights, &replies)?);
+        let weight = heaviest(alloc, child, moves, question.weights, &replies)?;
+        return Ok(LeastWeight {
+            weight,
+            entered: budget.entered(),
+        });
     }
     let front = assured_front(alloc, solver, &mut budget, child, moves)?;
     match greatest_weight(&front, question.weights) {
-        Some(weight) => Ok(weight),
+        Some(weight) => Ok(LeastWeight {
+            weight,
+            entered: budget.entered(),
+        }),
         None => unreachable!(),
     }
 }
@@ -131,11 +180,22 @@ pub fn bounds_after(
         (λ found. IsFrontAt child.now (question.now.moves - 1) found.front) }
     ensures least { IfOk result (λ found. IsLeastBy bridge is_sure_node
         (weight_of question.now.weights.now) child.now (question.now.moves - 1) found.least) }
+    ensures within { IfOk result (λ found.
+        IsWithin question.now.options.now.nodes found.entered) }
+    ensures allowed { IfOk result (λ found.
+        found.assured.nodes ≡ question.now.options.now.nodes) }
+    ensures fits { IsPlain question.now.options.now → IfOk result (λ _.
+        tree_size bridge child.now (question.now.moves - 1) ≤ question.now.options.now.nodes) }
     ensures spent { IsErrOf result SearchFault.Spent → question.now.options.now.nodes
         < tree_size bridge child.now (question.now.moves - 1) }
     ensures pass { IsPassOf question.now.table.now pass.new }
 {
-    let front = front_after(question, pass, solver, child)?;
+    let most = front_after(question, pass, solver, child)?;
     let least = least_after(question, solver, child)?;
-    Ok(Bounds { front, least })
+    Ok(Bounds {
+        front: most.front,
+        least: least.weight,
+        entered: most.entered,
+        assured: least.entered,
+    })
 }

@@ -1,10 +1,14 @@
 //! The rows of all cards with a number of moves.
-ghost use Rattle.std.specs.Prelude.{◌≡◌, true, IfOk, ◌&&◌, not};
+ghost use Rattle.std.specs.Prelude.{◌≡◌, ◌≤◌, ◌-◌, ℕ, true, IfOk, IfSome, IsErrOf, ◌&&◌, not};
 ghost use Rattle.card_sets.specs.SetWords.{has_card};
-ghost use Rattle.trick_rules.specs.Nodes.{choices};
+ghost use Rattle.trick_rules.specs.Nodes.{choices, child};
+ghost use Rattle.strategy_games.specs.Plans.{tree_size};
+ghost use Rattle.strategy_tree.specs.Bridge.{bridge};
+ghost use Rattle.strategy_tree.specs.RootTrees.{IsTooLarge, AllFit};
 ghost use Rattle.fusion_base.specs.Sampling.{made_after, card_vectors};
 ghost use Rattle.shared_table.specs.Passes.{IsPassOf};
-ghost use Rattle.root_workers.specs.Questions.{IsQuestion, NamesSpent};
+ghost use Rattle.root_workers.specs.Plain.{IsPlain};
+ghost use Rattle.root_workers.specs.Questions.{IsQuestion, NamesSpent, NamesFirstSpent};
 ghost use Rattle.root_workers.specs.Leaders.{leader};
 ghost use Rattle.card_brackets.specs.Rows.{IsRow, IsRoundWith, is_final};
 
@@ -32,7 +36,12 @@ fn row_after(
     requires pass { IsPassOf question.now.table.now pass.old }
     ensures row { IfOk result (IsRow question.now.node.now question.now.weights.now
         question.now.moves believed.now.card) }
-    ensures spent { NamesSpent question.now result }
+    ensures spent { (card : ℕ) → IsErrOf result (RootFault.Spent card)
+        → (card ≡ believed.now.card) × IsTooLarge question.now.node.now question.now.moves
+        question.now.options.now.nodes believed.now.card }
+    ensures fits { IsPlain question.now.options.now → IfOk result (λ _.
+        tree_size bridge (child question.now.node.now believed.now.card) (question.now.moves - 1)
+        ≤ question.now.options.now.nodes) }
     ensures pass { IsPassOf question.now.table.now pass.new }
 {
     let card = believed.card;
@@ -77,6 +86,9 @@ pub fn round_table(
     ensures end { IfOk result (IsRoundWith question.now.node.now question.now.weights.now
         question.now.moves only_final) }
     ensures spent { NamesSpent question.now result }
+    ensures first { NamesFirstSpent question.now result }
+    ensures fits { IsPlain question.now.options.now → IfOk result (λ found. IfSome found (λ _.
+        AllFit question.now.node.now question.now.moves question.now.options.now.nodes)) }
     ensures pass { IsPassOf question.now.table.now pass.new }
 {
     let _width = question.node.width();

@@ -1,9 +1,11 @@
 //! The rows of all cards, with as many moves as make each of them final.
-ghost use Rattle.std.specs.Prelude.{◌≡◌, ◌<◌, ◌≤◌, IfOk};
+ghost use Rattle.std.specs.Prelude.{◌≡◌, ◌<◌, ◌≤◌, ℕ, IfOk, IfSome, IsErrOf};
+ghost use Rattle.strategy_tree.specs.RootTrees.{IsSpentAt, IsFirstSpentAt, AllFit};
 ghost use Rattle.fusion_base.specs.Sampling.{card_vectors};
 ghost use Rattle.shared_table.specs.Passes.{IsPassOf};
-ghost use Rattle.root_workers.specs.Questions.{IsQuestion, NamesSpent};
-ghost use Rattle.card_brackets.specs.Rows.{IsRoundWith, IsTableUpTo};
+ghost use Rattle.root_workers.specs.Plain.{IsPlain};
+ghost use Rattle.root_workers.specs.Questions.{IsQuestion};
+ghost use Rattle.card_brackets.specs.Rows.{IsRoundWith, IsTableUpTo, IsSpentUpTo, IsFirstSpentUpTo};
 
 use crate::rounds::round_table;
 use crate::rows::CardRow;
@@ -40,7 +42,13 @@ fn table_with(
     requires pass { IsPassOf question.now.table.now pass.old }
     ensures end { IfOk result (IsRoundWith question.now.node.now question.now.weights.now
         moves only_final) }
-    ensures spent { NamesSpent question.now result }
+    ensures spent { (card : ℕ) → IsErrOf result (RootFault.Spent card)
+        → IsSpentAt question.now.node.now moves question.now.options.now.nodes card }
+    ensures first { IsPlain question.now.options.now → (card : ℕ)
+        → IsErrOf result (RootFault.Spent card)
+        → IsFirstSpentAt question.now.node.now moves question.now.options.now.nodes card }
+    ensures fits { IsPlain question.now.options.now → IfOk result (λ found. IfSome found (λ _.
+        AllFit question.now.node.now moves question.now.options.now.nodes)) }
     ensures pass { IsPassOf question.now.table.now pass.new }
 {
     let round = Question {
@@ -58,13 +66,23 @@ fn table_with(
 /// question, with which each row is final; or else with the moves of the question. The table and
 /// the cuts change nothing of them, and one worker finds them.
 ///
-/// Errors: `Spent` at a root card whose tree has more nodes than a search may enter; `Memory`.
+/// Errors: `Spent` at a root card whose tree, with a number of moves that would have been told, has
+/// more nodes than a search may enter, without the table and the cuts at the first such card, and
+/// then always if there is one; `Memory`.
 pub fn card_table(question: &Question, pass: &mut Pass) -> Result<CardTable, RootFault>
     requires question { IsQuestion question.now }
     requires pass { IsPassOf question.now.table.now pass.old }
     ensures table { IfOk result (IsTableUpTo question.now.node.now question.now.weights.now
         question.now.moves) }
-    ensures spent { NamesSpent question.now result }
+    ensures spent { (card : ℕ) → IsErrOf result (RootFault.Spent card)
+        → IsSpentUpTo question.now.node.now question.now.weights.now question.now.moves
+        question.now.options.now.nodes card }
+    ensures first { IsPlain question.now.options.now → (card : ℕ)
+        → IsErrOf result (RootFault.Spent card)
+        → IsFirstSpentUpTo question.now.node.now question.now.weights.now question.now.moves
+        question.now.options.now.nodes card }
+    ensures fits { IsPlain question.now.options.now → IfOk result (λ table.
+        AllFit question.now.node.now table.moves question.now.options.now.nodes) }
     ensures pass { IsPassOf question.now.table.now pass.new }
 {
     let believed = per_card_alone(question.alloc, question.node)?;

@@ -1,2 +1,3 @@
 pub mod Ascii
+mod Chain
 pub mod Whole

@@ -1,5 +1,6 @@
 pub mod Planned
 pub mod Plain
 pub mod Records
+pub mod Equals
 pub mod Objects
 pub mod Forms

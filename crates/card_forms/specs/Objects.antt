@@ -9,22 +9,29 @@ use Rattle.card_brackets.specs.declared.rows.CardRow.{CardRow}
 use Rattle.card_brackets.specs.Rows.{is_final}
 use Rattle.card_forms.specs.declared.planned.Planned.{Planned}
 use Rattle.card_forms.specs.Planned.{planned_data}
+use Rattle.trick_rules.specs.Nodes.{NodeValue}
+use Rattle.card_forms.specs.Equals.{others_in_play, equal_rows}
 
--- what is known of a card
-unfoldable pub card_data : CardRow → Data
-card_data row = object
-    (member (codes "card") (string (letters_of row.card))
+-- the name of a row's card
+abbrev pub row_name : CardRow → Data
+row_name row = string (letters_of row.card)
+
+-- what is known of a card, with the cards that are equal to it
+unfoldable pub card_data : List ℕ → List CardRow → CardRow → Data
+card_data others rows row = object
+    (member (codes "card") (row_name row)
+    (member (codes "equals") (array (items_of (map row_name (equal_rows others rows row.card))))
     (member (codes "final") (boolean (is_final row))
     (member (codes "least") (number (unsigned row.least))
     (member (codes "most") (number (unsigned row.most))
     (member (codes "sampled") (number (unsigned row.sampled))
     (member (codes "vector") (string (map bit_letter row.vector))
-    no_members))))))
+    no_members)))))))
 
 -- all cards, how many layouts there are, the number of moves, the card that is named, and the weight of all layouts
-unfoldable pub cards_data : List ℕ → Planned → List CardRow → ℕ → Data
-cards_data weights planned rows named = object
-    (member (codes "cards") (array (items_of (map card_data rows)))
+unfoldable pub cards_data : NodeValue → List ℕ → Planned → List CardRow → ℕ → Data
+cards_data node weights planned rows named = object
+    (member (codes "cards") (array (items_of (map (card_data (others_in_play node) rows) rows)))
     (member (codes "layouts") (number (unsigned (length weights)))
     (member (codes "moves") (planned_data planned)
     (member (codes "named") (string (letters_of named))
@@ -32,5 +39,5 @@ cards_data weights planned rows named = object
     no_members)))))
 
 -- its text without blanks, as a line
-unfoldable pub cards_json : List ℕ → Planned → List CardRow → ℕ → List ℕ
-cards_json weights planned rows named = json_line (cards_data weights planned rows named)
+unfoldable pub cards_json : NodeValue → List ℕ → Planned → List CardRow → ℕ → List ℕ
+cards_json node weights planned rows named = json_line (cards_data node weights planned rows named)

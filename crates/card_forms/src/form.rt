@@ -13,24 +13,26 @@ use card_sets::Card;
 use exact_cards::ExactTable;
 use std::alloc::{AllocError, Global};
 use text_forms::Form;
+use trick_rules::Node;
 use win_vectors::Weights;
 
-// Rows and the named card, in a form.
+// Rows of a node and the named card, in a form.
 fn rows_in(
     alloc: Global,
     form: Form,
+    node: &Node,
     weights: &Weights,
     planned: Planned,
     rows: &Vec<CardRow>,
     named: Card,
 ) -> Result<Text, AllocError>
     ensures { IfOk result
-        (λ text. text ≡ rows_in form weights.now planned rows.now.items named) }
+        (λ text. text ≡ rows_in form node.now weights.now planned rows.now.items named) }
 {
     match form {
         Form::Text => cards_text(alloc, weights, planned, rows, named),
         Form::Csv => cards_csv(alloc, weights, planned, rows, named),
-        Form::Json => cards_json(alloc, weights, planned, rows, named),
+        Form::Json => cards_json(alloc, node, weights, planned, rows, named),
     }
 }
 
@@ -41,19 +43,29 @@ fn are_final(rows: &Vec<CardRow>) -> bool
     rows.iter().all(|row: &CardRow| row.is_final())
 }
 
-/// The cards of a root side by side, in a form. The weights are those of the layouts.
+/// The cards of a root side by side, in a form. The node is the root's, and the weights are those of
+/// its layouts.
 ///
 /// Errors: an allocation fails.
 pub fn cards_in(
     alloc: Global,
     form: Form,
+    node: &Node,
     weights: &Weights,
     table: &CardTable,
 ) -> Result<Text, AllocError>
-    ensures { IfOk result (λ text. text ≡ cards_in form weights.now table.now) }
+    ensures { IfOk result (λ text. text ≡ cards_in form node.now weights.now table.now) }
 {
     let planned = Planned::Moves(table.moves);
-    rows_in(alloc, form, weights, planned, &table.rows, table.named)
+    rows_in(
+        alloc,
+        form,
+        node,
+        weights,
+        planned,
+        &table.rows,
+        table.named,
+    )
 }
 
 /// The same with all moves planned. In the text for people the last line says that nodes are spent,
@@ -63,13 +75,14 @@ pub fn cards_in(
 pub fn exact_in(
     alloc: Global,
     form: Form,
+    node: &Node,
     weights: &Weights,
     table: &ExactTable,
 ) -> Result<Text, AllocError>
-    ensures { IfOk result (λ text. text ≡ exact_in form weights.now table.now) }
+    ensures { IfOk result (λ text. text ≡ exact_in form node.now weights.now table.now) }
 {
     let rows = &table.rows;
-    let mut text = rows_in(alloc, form, weights, Planned::All, rows, table.named)?;
+    let mut text = rows_in(alloc, form, node, weights, Planned::All, rows, table.named)?;
     if form == Form::Text && !are_final(rows) {
         text.push(b"nodes spent\n")?;
     }

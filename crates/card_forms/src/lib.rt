@@ -3,7 +3,9 @@
 //! Its contract promises the text of each form by its definition.
 #![tactic(auto)]
 
+mod equals;
 mod form;
+pub mod laws;
 mod objects;
 mod plain;
 mod planned;

@@ -4,15 +4,17 @@ ghost use Rattle.serde_json.specs.View.{view};
 ghost use Rattle.bit_letters.specs.Bits.{bit_letter};
 ghost use Rattle.card_forms.specs.Objects.{card_data, cards_data, cards_json};
 
+use crate::equals::{equal_names, others_in_play};
 use crate::planned::{Planned, planned_value};
 use crate::weight::weight_of_all;
 use bit_letters::push_bits;
 use byte_text::Text;
 use card_brackets::CardRow;
-use card_sets::Card;
+use card_sets::{Card, CardSet};
 use serde_json::{Value, json};
 use std::alloc::{AllocError, Global};
 use text_forms::{card_string, json_line};
+use trick_rules::Node;
 use win_vectors::{Weights, WinVector};
 
 // The bits of a vector as a string.
@@ -24,15 +26,22 @@ fn vector_string(alloc: Global, vector: WinVector) -> Result<String, AllocError>
     String::from_utf8_lossy(alloc, bits.bytes())
 }
 
-// What is known of a card.
+// What is known of a card, with the cards that are equal to it.
 #[tactic(auto, unfolding(crate::specs::Objects::card_data))]
-fn card_value(alloc: Global, row: &CardRow) -> Result<Value, AllocError>
-    ensures { IfOk result (λ value. view value ≡ card_data row.now) }
+fn card_value(
+    alloc: Global,
+    others: CardSet,
+    rows: &Vec<CardRow>,
+    row: &CardRow,
+) -> Result<Value, AllocError>
+    ensures { IfOk result (λ value. view value ≡ card_data others rows.now.items row.now) }
 {
     let card = card_string(alloc, row.card)?;
+    let equals = equal_names(alloc, others, rows, row.card)?;
     let vector = vector_string(alloc, row.vector)?;
     json!(in alloc; {
         "card": card,
+        "equals": equals,
         "final": row.is_final(),
         "least": row.least,
         "most": row.most,
@@ -42,12 +51,17 @@ fn card_value(alloc: Global, row: &CardRow) -> Result<Value, AllocError>
 }
 
 // What is known of each card.
-fn card_values(alloc: Global, rows: &Vec<CardRow>) -> Result<Vec<Value>, AllocError>
-    ensures { IfOk result (λ values. map view values.items ≡ map card_data rows.now.items) }
+fn card_values(
+    alloc: Global,
+    others: CardSet,
+    rows: &Vec<CardRow>,
+) -> Result<Vec<Value>, AllocError>
+    ensures { IfOk result (λ values.
+        map view values.items ≡ map (card_data others rows.now.items) rows.now.items) }
 {
     let mut values = Vec::new(alloc);
     for row in rows {
-        values.push(card_value(alloc, row)?)?;
+        values.push(card_value(alloc, others, rows, row)?)?;
     }
     Ok(values)
 }
@@ -56,15 +70,16 @@ fn card_values(alloc: Global, rows: &Vec<CardRow>) -> Result<Vec<Value>, AllocEr
 #[tactic(auto, unfolding(crate::specs::Objects::cards_data))]
 fn cards_value(
     alloc: Global,
+    node: &Node,
     weights: &Weights,
     planned: Planned,
     rows: &Vec<CardRow>,
     named: Card,
 ) -> Result<Value, AllocError>
     ensures { IfOk result
-        (λ value. view value ≡ cards_data weights.now planned rows.now.items named) }
+        (λ value. view value ≡ cards_data node.now weights.now planned rows.now.items named) }
 {
-    let cards = card_values(alloc, rows)?;
+    let cards = card_values(alloc, others_in_play(node), rows)?;
     let moves = planned_value(alloc, planned)?;
     let named = card_string(alloc, named)?;
     json!(in alloc; {
@@ -83,12 +98,16 @@ fn cards_value(
 /// Errors: an allocation fails.
 pub fn cards_json(
     alloc: Global,
+    node: &Node,
     weights: &Weights,
     planned: Planned,
     rows: &Vec<CardRow>,
     named: Card,
 ) -> Result<Text, AllocError>
-    ensures { IfOk result (λ text. text ≡ cards_json weights.now planned rows.now.items named) }
+    ensures { IfOk result (λ text. text ≡ cards_json node.now weights.now planned rows.now.items named) }
 {
-    json_line(alloc, &cards_value(alloc, weights, planned, rows, named)?)
+    json_line(
+        alloc,
+        &cards_value(alloc, node, weights, planned, rows, named)?,
+    )
 }

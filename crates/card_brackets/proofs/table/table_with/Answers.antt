@@ -1,5 +1,4 @@
 use Rattle.std.proofs.Common.{◌≤◌, arith}
-use Rattle.root_workers.proofs.Stops.{spent_more}
 use Rattle.card_brackets.proofs.table.table_with.Goals as goal
 
 pub round_table-requires-clause-question : goal.round_table-requires-clause-question
@@ -12,8 +11,3 @@ round_table-requires-clause-question c =
       few_moves = omega (arith, asked.few_moves, c.requires.few);
       weights = asked.weights;
     }
-
-pub returns-clause-spent : goal.returns-clause-spent
-returns-clause-spent c =
-    let q = c.args.question.now in
-    λ card is. spent_more q.node.now c.args.moves q.moves q.options.now.nodes card c.requires.few (c.round_table.ensures.spent card is)

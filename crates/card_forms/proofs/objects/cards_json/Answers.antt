@@ -7,4 +7,4 @@ pub returns : goal.returns
 unfolding cards_json
 returns c =
     let line = rw c.in_ok-cards_value.ensures at c.json_line.ensures in
-    IfOk-weaker c.json_line.result _ _ (λ text is. is (table_is_whole c.args.weights.now c.args.planned c.args.rows.now.items c.args.named)) line
+    IfOk-weaker c.json_line.result _ _ (λ text is. is (table_is_whole c.args.node.now c.args.weights.now c.args.planned c.args.rows.now.items c.args.named)) line
