@@ -2,7 +2,7 @@
 -- large.
 use Rattle.std.proofs.Common.{◌≡◌, ◌<◌, ℕ, List, [], ◌∷◌, length, Contains, ⊎_elim, refl, subst, arith}
 use Rattle.std.specs.List.{AllZip}
-use Rattle.strategy_tree.specs.RootTrees.{IsSpentAt}
+use Rattle.card_brackets.specs.Rows.{IsSpentUpTo}
 use Rattle.pbn_deal.specs.Boards.{BoardValue}
 use Rattle.layout_list.specs.declared.fault.LayoutFault.{LayoutFault}
 use Rattle.layout_list.specs.declared.fault.LayoutFault.TheVariants as faults
@@ -38,7 +38,7 @@ module _ (board : BoardValue) (layouts : List ℕ) (limit from : ℕ) where
   refusal_of nodes faults.Memory is = tt
 
   spent_at : (nodes : ℕ) (decisions : List Decision) (decision : Decision) → AreDecisions board layouts from decisions → Contains decisions decision
-      → (fault : RootFault) → ((card : ℕ) → fault ≡ Spent card → IsSpentAt decision.kept.node limit nodes card) → IsReviewRefusal board layouts limit from nodes (root_status fault)
+      → (fault : RootFault) → ((card : ℕ) → fault ≡ Spent card → IsSpentUpTo decision.kept.node decision.kept.weights limit nodes card) → IsReviewRefusal board layouts limit from nodes (root_status fault)
   spent_at nodes decisions decision are among (Spent card) spent = record {
     decisions = decisions;
     decision = decision;
@@ -50,9 +50,9 @@ module _ (board : BoardValue) (layouts : List ℕ) (limit from : ℕ) where
 
   -- the same decision, once as it is and once as it is opened; and the number of nodes as a search is given it
   pub spent_of : (opened decision : Decision) → opened ≡ decision → (given nodes : ℕ) → given ≡ nodes → (decisions : List Decision) → AreDecisions board layouts from decisions
-      → Contains decisions decision → (fault : RootFault) → ((card : ℕ) → fault ≡ Spent card → IsSpentAt opened.kept.node limit given card)
+      → Contains decisions decision → (fault : RootFault) → ((card : ℕ) → fault ≡ Spent card → IsSpentUpTo opened.kept.node opened.kept.weights limit given card)
       → IsReviewRefusal board layouts limit from nodes (root_status fault)
   spent_of opened decision same given nodes as_many decisions are among fault spent =
       spent_at nodes decisions decision are among fault (λ card is.
-      subst (λ (d : Decision). IsSpentAt d.kept.node limit nodes card) same
-      (subst (λ number. IsSpentAt opened.kept.node limit number card) as_many (spent card is)))
+      subst (λ (d : Decision). IsSpentUpTo d.kept.node d.kept.weights limit nodes card) same
+      (subst (λ number. IsSpentUpTo opened.kept.node opened.kept.weights limit number card) as_many (spent card is)))

@@ -1,8 +1,7 @@
 -- Every decision of a played board, and what each card cost.
-use Rattle.std.specs.Prelude.{◌≡◌, ⊤, ℕ, ◌+◌, List, [], ◌∷◌, length, sum, Contains, Err}
+use Rattle.std.specs.Prelude.{◌≡◌, ⊤, ℕ, ◌+◌, List, [], ◌∷◌, length, max, sum, Contains, Err}
 use Rattle.std.specs.List.{AllZip}
 use Rattle.trick_rules.specs.Nodes.{NodeValue}
-use Rattle.strategy_tree.specs.RootTrees.{IsSpentAt}
 use Rattle.pbn_deal.specs.declared.board.Played.{Played}
 use Rattle.pbn_deal.specs.Boards.{BoardValue, compass_of}
 use Rattle.layout_list.specs.declared.fault.LayoutFault.{LayoutFault}
@@ -12,7 +11,7 @@ use Rattle.board_decisions.specs.declared.list.Decision.{Decision}
 use Rattle.board_decisions.specs.Decisions.{trick_of, kept_before, IsTurn, AreDecisions}
 use Rattle.card_brackets.specs.declared.rows.CardRow.{CardRow}
 use Rattle.card_brackets.specs.declared.table.CardTable.{CardTable}
-use Rattle.card_brackets.specs.Rows.{IsTableUpTo}
+use Rattle.card_brackets.specs.Rows.{IsTableUpTo, IsSpentUpTo}
 use Rattle.review_text.specs.declared.reviewed.Reviewed.{Reviewed}
 use Rattle.text_forms.specs.declared.form.Form.{Form}
 use Rattle.review_forms.specs.Forms.{review_in}
@@ -24,8 +23,13 @@ pub record IsRowOf (table : CardTable) (card : ℕ) (row : CardRow) : Type 0 whe
   pub among : Contains table.rows.items row
   pub card_is : row.card ≡ card
 
--- the bounds of the card played and the upper bound of the card named, in the table of the cards side by side; how many layouts the
--- play allows, and what they weigh
+-- the greatest weight that some card of a table is sure to win
+abbrev pub greatest_sure : List CardRow → ℕ
+greatest_sure [] = 0
+greatest_sure (first ∷ later) = max first.least (greatest_sure later)
+
+-- the bounds of the card played and of the card named, in the table of the cards side by side, and the greatest weight that some card
+-- is sure to win; how many layouts the play allows, and what they weigh
 pub record IsToldAt (n : NodeValue) (weights : List ℕ) (limit : ℕ) (told : Reviewed) : Type 0 where
   pub table : CardTable
   pub played : CardRow
@@ -37,6 +41,8 @@ pub record IsToldAt (n : NodeValue) (weights : List ℕ) (limit : ℕ) (told : R
   pub is_named : IsRowOf table table.named named
   pub named_card : told.named ≡ table.named
   pub named_most : told.named_most ≡ named.most
+  pub named_least : told.named_least ≡ named.least
+  pub sure : told.sure ≡ greatest_sure table.rows.items
   pub layouts : told.layouts ≡ length weights
   pub weight : told.weight ≡ sum weights
 
@@ -70,7 +76,7 @@ pub record IsSpentBefore (board : BoardValue) (layouts : List ℕ) (limit from n
   pub decision : Decision
   pub are_decisions : AreDecisions board layouts from decisions
   pub among : Contains decisions decision
-  pub spent : IsSpentAt decision.kept.node limit nodes card
+  pub spent : IsSpentUpTo decision.kept.node decision.kept.weights limit nodes card
 
 -- the layout file is refused just before some card of declarer's side
 abbrev pub IsRefusedBefore : BoardValue → List ℕ → ℕ → LayoutFault → Type 0

@@ -1,11 +1,12 @@
 //! The facts of a decision, by the rows of the card played and of the card named.
-ghost use Rattle.std.specs.Prelude.{◌≡◌, ◌<◌, true, length, IfOk};
+ghost use Rattle.std.specs.Prelude.{◌≡◌, ◌<◌, ℕ, true, length, IfOk, IsErrOf};
 ghost use Rattle.shared_table.specs.Passes.{IsPassOf};
-ghost use Rattle.root_workers.specs.Questions.{NamesSpent, IsQuestion};
+ghost use Rattle.root_workers.specs.Questions.{IsQuestion};
 ghost use Rattle.card_sets.specs.SetWords.{has_card};
 ghost use Rattle.trick_rules.specs.Nodes.{choices};
+ghost use Rattle.card_brackets.specs.Rows.{IsSpentUpTo};
 ghost use Rattle.card_brackets.specs.declared.rows.CardRow.{CardRow};
-ghost use Rattle.job_review.specs.Reviews.{IsRowOf, IsToldOf};
+ghost use Rattle.job_review.specs.Reviews.{IsRowOf, IsToldOf, greatest_sure};
 
 use board_decisions::{Decision, trick_of};
 use card_brackets::{CardRow, CardTable, card_table};
@@ -30,6 +31,17 @@ fn row_of(table: &CardTable, card: Card) -> CardRow
     unreachable!()
 }
 
+// The greatest weight that some card of a table is sure to win.
+fn greatest_sure(rows: &[CardRow]) -> u32
+    ensures { result ≡ greatest_sure rows.now }
+{
+    let mut greatest = 0;
+    for row in rows {
+        greatest = row.least.max(greatest);
+    }
+    greatest
+}
+
 /// The facts of a decision of a board. The question is about its node and its weights.
 pub fn told_of(
     question: &Question,
@@ -44,7 +56,9 @@ pub fn told_of(
     requires played { decision.now.place < length board.now.plays }
     requires pass { IsPassOf question.now.table.now pass.old }
     ensures told { IfOk result (IsToldOf board.now question.now.moves decision.now) }
-    ensures spent { NamesSpent question.now result }
+    ensures spent { (card : ℕ) → IsErrOf result (RootFault.Spent card)
+        → IsSpentUpTo question.now.node.now question.now.weights.now question.now.moves
+        question.now.options.now.nodes card }
     ensures pass { IsPassOf question.now.table.now pass.new }
 {
     let _plays = board.plays();
@@ -60,6 +74,8 @@ pub fn told_of(
         least: row.least,
         named: table.named,
         named_most: named.most,
+        named_least: named.least,
+        sure: greatest_sure(&table.rows),
         layouts: question.weights.width(),
         weight: weight_of_all(question.weights),
     })

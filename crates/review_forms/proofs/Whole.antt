@@ -6,10 +6,10 @@ use Rattle.serde_json.specs.Written.{has_float, items_have_float}
 use Rattle.review_text.specs.declared.reviewed.Reviewed.{Reviewed}
 use Rattle.review_text.specs.declared.game.GameReview.{GameReview}
 use Rattle.review_text.specs.declared.game.GameReview.TheVariants.{Told, Refused}
-use Rattle.review_forms.specs.Objects.{decision_data, review_data, told_data, refused_data, outcome_data, game_data, reviews_data}
+use Rattle.review_forms.specs.Objects.{cost_data, named_data, decision_data, review_data, told_data, refused_data, outcome_data, game_data, reviews_data}
 
 decisions_are_whole : (told : List Reviewed) → items_have_float (items_of (map decision_data told)) ≡ false
-unfolding decision_data
+unfolding decision_data cost_data named_data
 decisions_are_whole [] = refl
 decisions_are_whole (first ∷ later) = decisions_are_whole later
 

@@ -7,7 +7,7 @@ use Rattle.text_forms.specs.Records.{record_text}
 use Rattle.review_text.specs.declared.reviewed.Reviewed.{Reviewed}
 use Rattle.review_text.specs.declared.game.GameReview.{GameReview}
 use Rattle.review_text.specs.declared.game.GameReview.TheVariants.{Told, Refused}
-use Rattle.review_text.specs.Texts.{cost_of}
+use Rattle.review_text.specs.Texts.{cost_of, cost_up_to, final_word}
 
 -- ---- one board
 
@@ -15,17 +15,18 @@ use Rattle.review_text.specs.Texts.{cost_of}
 abbrev pub decision_names : List (List ℕ)
 decision_names =
     codes "number" ∷ codes "trick" ∷ codes "seat" ∷ codes "played" ∷ codes "most" ∷ codes "least" ∷ codes "named"
-    ∷ codes "named_most" ∷ codes "layouts" ∷ codes "weight" ∷ codes "cost" ∷ codes "moves" ∷ []
+    ∷ codes "named_most" ∷ codes "named_least" ∷ codes "layouts" ∷ codes "weight" ∷ codes "cost" ∷ codes "cost_up_to" ∷ codes "final" ∷ codes "moves" ∷ []
 
 -- which card of the play it was, in which trick, who played it, and its bounds
 unfoldable pub card_fields : Reviewed → List (List ℕ)
 card_fields told =
     decimal told.number ∷ decimal told.trick ∷ (compass_letter told.seat ∷ []) ∷ letters_of told.played ∷ decimal told.most ∷ decimal told.least ∷ []
 
--- the card named with its upper bound, the layouts, and what the card cost
+-- the card named with its bounds, the layouts, and what the card cost, at least and at most
 unfoldable pub cost_fields : Reviewed → List (List ℕ)
 cost_fields told =
-    letters_of told.named ∷ decimal told.named_most ∷ decimal told.layouts ∷ decimal told.weight ∷ decimal (cost_of told) ∷ []
+    letters_of told.named ∷ decimal told.named_most ∷ decimal told.named_least ∷ decimal told.layouts ∷ decimal told.weight
+    ∷ decimal (cost_of told) ∷ decimal (cost_up_to told) ∷ final_word told ∷ []
 
 -- the fields of a decision: all that is told of it, and the greatest number of moves, which is the same in each record
 unfoldable pub decision_fields : ℕ → Reviewed → List (List ℕ)

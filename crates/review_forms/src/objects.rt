@@ -2,31 +2,58 @@
 ghost use Rattle.std.specs.Prelude.{◌≡◌, IfOk, map};
 ghost use Rattle.std.specs.List.{enumerate_from};
 ghost use Rattle.serde_json.specs.View.{view};
-ghost use Rattle.review_forms.specs.Objects.{decision_data, review_data, review_json};
+ghost use Rattle.review_forms.specs.Objects.{cost_data, decision_data, named_data, review_data, review_json};
 ghost use Rattle.review_forms.specs.Objects.{told_data, refused_data, outcome_data, game_data};
 ghost use Rattle.review_forms.specs.Objects.{reviews_data, reviews_json};
 
 use byte_text::Text;
-use review_text::{GameReview, Reviewed, all_told, costly_among, greatest_cost};
+use review_text::{
+    GameReview, Reviewed, all_told, costly_among, greatest_cost, greatest_up_to, maybe_costly_among,
+};
 use serde_json::{Value, json};
 use std::alloc::{AllocError, Global};
 use text_forms::{card_string, compass_string, json_line};
+
+// What the card cost.
+#[tactic(auto, unfolding(crate::specs::Objects::cost_data))]
+fn cost_value(alloc: Global, told: &Reviewed) -> Result<Value, AllocError>
+    ensures { IfOk result (λ value. view value ≡ cost_data told.now) }
+{
+    json!(in alloc; {
+        "final": told.is_final(),
+        "least": told.cost(),
+        "most": told.cost_up_to(),
+    })
+}
+
+// The card named with its bounds.
+#[tactic(auto, unfolding(crate::specs::Objects::named_data))]
+fn named_value(alloc: Global, told: &Reviewed) -> Result<Value, AllocError>
+    ensures { IfOk result (λ value. view value ≡ named_data told.now) }
+{
+    let card = card_string(alloc, told.named)?;
+    json!(in alloc; {
+        "card": card,
+        "least": told.named_least,
+        "most": told.named_most,
+    })
+}
 
 // What was told of a decision.
 #[tactic(auto, unfolding(crate::specs::Objects::decision_data))]
 fn decision_value(alloc: Global, told: &Reviewed) -> Result<Value, AllocError>
     ensures { IfOk result (λ value. view value ≡ decision_data told.now) }
 {
-    let named = card_string(alloc, told.named)?;
+    let cost = cost_value(alloc, told)?;
+    let named = named_value(alloc, told)?;
     let played = card_string(alloc, told.played)?;
     let seat = compass_string(alloc, told.seat)?;
     json!(in alloc; {
-        "cost": told.cost(),
+        "cost": cost,
         "layouts": told.layouts,
         "least": told.least,
         "most": told.most,
         "named": named,
-        "named_most": told.named_most,
         "number": told.number,
         "played": played,
         "seat": seat,
@@ -54,14 +81,16 @@ fn review_value(alloc: Global, moves: u8, told: &[Reviewed]) -> Result<Value, Al
     let decisions = decision_values(alloc, told)?;
     json!(in alloc; {
         "costly": costly_among(told) as u64,
+        "costly_up_to": maybe_costly_among(told) as u64,
         "decisions": decisions,
         "greatest": greatest_cost(told),
+        "greatest_up_to": greatest_up_to(told),
         "moves": moves,
     })
 }
 
 /// One object with how many decisions cost something, a list of the decisions, the greatest cost,
-/// and the greatest number of moves. The members of each object are in the order of their keys. No
+/// and the greatest number of moves; of costs what is certain and what may be. The members of each object are in the order of their keys. No
 /// blanks stand between them, and a line feed at the end.
 ///
 /// Errors: an allocation fails.
@@ -120,14 +149,16 @@ fn reviews_value(alloc: Global, moves: u8, games: &[GameReview]) -> Result<Value
     let values = game_values(alloc, moves, games)?;
     json!(in alloc; {
         "costly": costly_among(&told) as u64,
+        "costly_up_to": maybe_costly_among(&told) as u64,
         "games": values,
         "greatest": greatest_cost(&told),
+        "greatest_up_to": greatest_up_to(&told),
         "moves": moves,
     })
 }
 
 /// One object with how many decisions of all games cost something, a list of the games in order,
-/// the greatest cost, and the greatest number of moves. A game has its number, counted from 1, and
+/// the greatest cost, and the greatest number of moves; of costs what is certain and what may be. A game has its number, counted from 1, and
 /// either its review, which is the object of one board, or the reason why it was refused. The
 /// members of each object are in the order of their keys. No blanks stand between them, and a line
 /// feed at the end.

@@ -14,7 +14,7 @@ use std::alloc::{AllocError, Global};
 use text_forms::{Record, push_fields};
 
 // The names of the fields of a decision.
-fn decision_names() -> [&'static [u8]; 12]
+fn decision_names() -> [&'static [u8]; 15]
     ensures { map (λ name. name.now) result ≡ decision_names }
 {
     [
@@ -26,9 +26,12 @@ fn decision_names() -> [&'static [u8]; 12]
         b"least",
         b"named",
         b"named_most",
+        b"named_least",
         b"layouts",
         b"weight",
         b"cost",
+        b"cost_up_to",
+        b"final",
         b"moves",
     ]
 }
@@ -46,16 +49,19 @@ fn push_card(fields: &mut Record, told: &Reviewed) -> Result<(), AllocError>
     fields.push_number(u64::from(told.least))
 }
 
-// Adds the card named, the layouts, and what the card cost.
+// Adds the card named, the layouts, and what the card cost, at least and at most.
 #[tactic(auto, unfolding(crate::specs::Records::cost_fields))]
 fn push_cost(fields: &mut Record, told: &Reviewed) -> Result<(), AllocError>
     ensures { OnOk result (fields.new ≡ fields.old ++ cost_fields told.now) }
 {
     fields.push(&letters_of(told.named))?;
     fields.push_number(u64::from(told.named_most))?;
+    fields.push_number(u64::from(told.named_least))?;
     fields.push_number(u64::from(told.layouts))?;
     fields.push_number(u64::from(told.weight))?;
-    fields.push_number(u64::from(told.cost()))
+    fields.push_number(u64::from(told.cost()))?;
+    fields.push_number(u64::from(told.cost_up_to()))?;
+    fields.push(told.final_word())
 }
 
 // Adds the fields of a decision.
@@ -69,8 +75,9 @@ fn push_decision(fields: &mut Record, moves: u8, told: &Reviewed) -> Result<(), 
 }
 
 /// A record with the names of the fields, and then one for each decision: which card of the play it
-/// was, its trick, who played it, the card with its bounds, the card named with its upper bound,
-/// the layouts with their weight, what the card cost, and the greatest number of moves.
+/// was, its trick, who played it, the card with its bounds, the card named with its bounds, the
+/// layouts with their weight, what the card cost at least and at most, whether both are equal, and
+/// the greatest number of moves.
 ///
 /// Errors: an allocation fails.
 #[tactic(auto, unfolding(crate::specs::Records::review_csv))]

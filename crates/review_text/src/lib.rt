@@ -9,4 +9,4 @@ mod text;
 
 pub use game::{GameReview, all_told, reviews_text};
 pub use reviewed::Reviewed;
-pub use text::{costly_among, greatest_cost, review_text};
+pub use text::{costly_among, greatest_cost, greatest_up_to, maybe_costly_among, review_text};

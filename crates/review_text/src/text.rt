@@ -1,6 +1,7 @@
 //! The lines of a review.
 ghost use Rattle.std.specs.Prelude.{◌≡◌, ◌++◌, IfOk, OnOk, flat_map};
 ghost use Rattle.review_text.specs.Texts.{costly_among, greatest_cost, turn_text, cards_text};
+ghost use Rattle.review_text.specs.Texts.{greatest_up_to, maybe_costly_among};
 ghost use Rattle.review_text.specs.Texts.{cost_text, decision_line, last_line, decisions_text, head_text, review_text};
 
 use crate::reviewed::Reviewed;
@@ -31,17 +32,21 @@ fn push_cards(text: &mut Text, alloc: Global, told: &Reviewed) -> Result<(), All
     push_number(text, alloc, b" least ", u64::from(told.least))?;
     text.push(b" named ")?;
     text.push(&letters_of(told.named))?;
-    push_number(text, alloc, b" most ", u64::from(told.named_most))
+    push_number(text, alloc, b" most ", u64::from(told.named_most))?;
+    push_number(text, alloc, b" least ", u64::from(told.named_least))
 }
 
-// Appends the layouts, and what the card cost.
+// Appends the layouts, and what the card cost, at least and at most.
 #[tactic(auto, unfolding(crate::specs::Texts::cost_text))]
 fn push_cost(text: &mut Text, alloc: Global, told: &Reviewed) -> Result<(), AllocError>
     ensures { OnOk result (text.new ≡ text.old ++ cost_text told.now) }
 {
     push_number(text, alloc, b" layouts ", u64::from(told.layouts))?;
     push_number(text, alloc, b" weight ", u64::from(told.weight))?;
-    push_number(text, alloc, b" cost ", u64::from(told.cost()))
+    push_number(text, alloc, b" cost ", u64::from(told.cost()))?;
+    push_number(text, alloc, b" to ", u64::from(told.cost_up_to()))?;
+    text.push(b" final ")?;
+    text.push(told.final_word())
 }
 
 // Appends the line of a decision.
@@ -65,14 +70,34 @@ fn push_lines(text: &mut Text, alloc: Global, told: &[Reviewed]) -> Result<(), A
     Ok(())
 }
 
-/// How many decisions cost something.
+/// How many decisions may have cost something.
+pub fn maybe_costly_among(told: &[Reviewed]) -> usize
+    ensures { result ≡ maybe_costly_among told.now }
+{
+    told.iter()
+        .filter(|decision| decision.cost_up_to() > 0)
+        .count()
+}
+
+/// The greatest cost that a decision may have; 0 if there is none.
+pub fn greatest_up_to(told: &[Reviewed]) -> u32
+    ensures { result ≡ greatest_up_to told.now }
+{
+    let mut greatest = 0;
+    for decision in told {
+        greatest = decision.cost_up_to().max(greatest);
+    }
+    greatest
+}
+
+/// How many decisions are certain to have cost something.
 pub fn costly_among(told: &[Reviewed]) -> usize
     ensures { result ≡ costly_among told.now }
 {
     told.iter().filter(|decision| decision.cost() > 0).count()
 }
 
-/// The greatest cost of a decision; 0 if there is none.
+/// The greatest cost that is certain; 0 if there is none.
 pub fn greatest_cost(told: &[Reviewed]) -> u32
     ensures { result ≡ greatest_cost told.now }
 {
@@ -90,7 +115,9 @@ pub(crate) fn push_last(text: &mut Text, alloc: Global, told: &[Reviewed]) -> Re
 {
     push_number(text, alloc, b"decisions ", told.len() as u64)?;
     push_number(text, alloc, b" costly ", costly_among(told) as u64)?;
+    push_number(text, alloc, b" to ", maybe_costly_among(told) as u64)?;
     push_number(text, alloc, b" greatest ", u64::from(greatest_cost(told)))?;
+    push_number(text, alloc, b" to ", u64::from(greatest_up_to(told)))?;
     text.push(b"\n")
 }
 
@@ -118,9 +145,10 @@ pub(crate) fn head_of(alloc: Global, title: &[u8], moves: u8) -> Result<Text, Al
     Ok(text)
 }
 
-/// A line for each decision, with the card played, the card named and what the card cost. Before
-/// them stands the greatest number of moves, and behind them how many decisions there are, how many
-/// of them cost something, and the greatest cost.
+/// A line for each decision, with the card played, the card named and what the card cost, at least
+/// and at most. Before them stands the greatest number of moves, and behind them how many decisions
+/// there are, how many of them cost something, and the greatest cost: first what is certain, then
+/// what may be.
 ///
 /// Errors: an allocation fails.
 #[tactic(auto, unfolding(crate::specs::Texts::review_text))]

@@ -37,6 +37,8 @@ returns-clause-told c =
         is_named = c.row_of-named.ensures;
         named_card = refl;
         named_most = refl;
+        named_least = refl;
+        sure = search rules;
         layouts = search rules;
         weight = search rules;
       };
