@@ -6,4 +6,4 @@
 
 mod job;
 
-pub use job::{cards_of, tell_cards, tell_exact};
+pub use job::{cards_of, exact_cards_of, tell_cards, tell_exact};

@@ -59,11 +59,11 @@ module _ (root : Root) (moves : ℕ) (search : Search) where
         unsolved_memory status (only_memory (task_at root (jobs.Check report)) _ good.1 status refused)
 
     -- a page shows the cards that are known after a search, and doesn't judge the report's
-    of_page : (known : Option CardTable) (status : Status) → AreCardsFor Page root moves known → IsPageRefusal root report known status → IsSearchRefusal Page root moves search status
+    of_page : (known : Option CardTable) (status : Status) → AreCardsFor Page root moves search known → IsPageRefusal root report known status → IsSearchRefusal Page root moves search status
     of_page known status cards (inl refused) = inl (good_or_memory status refused)
-    of_page known status cards (inr foreign) = absurd (subst (AreCardsFor Page root moves) foreign.is_unknown cards)
+    of_page known status cards (inr foreign) = absurd (subst (AreCardsFor Page root moves search) foreign.is_unknown cards)
 
-    pub never_refused : (study : Study) (known : Option CardTable) → AreCardsFor study root moves known
+    pub never_refused : (study : Study) (known : Option CardTable) → AreCardsFor study root moves search known
         → (status : Status) → IsReportRefusal study root report known status → IsSearchRefusal study root moves search status
     never_refused Words known cards status refused = inl (good_or_memory status refused)
     never_refused Lines known cards status refused = inl (good_or_memory status refused)

@@ -1,5 +1,5 @@
 -- What a study is asked, and what comes of it.
-use Rattle.std.specs.Prelude.{◌≡◌, ◌⊎◌, ℕ, List, Result, Ok, Err, Option, None, Some, length, nat_le, if◌then◌else◌}
+use Rattle.std.specs.Prelude.{◌≡◌, ◌⊎◌, ℕ, Bool, true, false, List, Result, Ok, Err, Option, None, Some, length, nat_le, if◌then◌else◌}
 use Rattle.pbn_deal.specs.Boards.{BoardValue}
 use Rattle.am_outside.specs.Faults.{Rose}
 use Rattle.am_outside.specs.Shelf.{Files}
@@ -7,6 +7,7 @@ use Rattle.job_words.specs.declared.asks.Ask.TheVariants as asks
 use Rattle.job_words.specs.declared.asks.LayoutsJob.TheVariants as jobs
 use Rattle.job_words.specs.declared.asks.Search.{Search}
 use Rattle.job_words.specs.declared.draw.Draw.{Draw}
+use Rattle.job_words.specs.declared.study.FormName.{FormName}
 use Rattle.job_words.specs.declared.study.Study.{Study}
 use Rattle.job_words.specs.declared.study.Study.TheVariants.{Lines, Page, Cards, ExactCards, Review}
 use Rattle.job_words.specs.declared.study.Study.TheVariants as studies
@@ -28,7 +29,8 @@ use Rattle.job_lines.specs.LinesJob.{IsLinesReport}
 use Rattle.job_page.specs.PageJob.{IsPage, IsPageRefusal}
 use Rattle.card_brackets.specs.declared.table.CardTable.{CardTable}
 use Rattle.card_brackets.specs.Rows.{IsTableUpTo}
-use Rattle.job_cards.specs.Cards.{IsCardsText, IsCardsRefusal, IsExactText}
+use Rattle.page_text.specs.Verdicts.{plans_all}
+use Rattle.job_cards.specs.Cards.{IsCardsText, IsCardsRefusal, IsExactText, IsPlannedTable}
 use Rattle.job_review.specs.Reviews.{IsReviewText, IsReviewRefusal}
 use Rattle.job_reviews.specs.Reviews.{IsReviewsText}
 use Rattle.job_draw.specs.DrawJob.{IsDrawFile, IsDrawRefusal}
@@ -71,25 +73,35 @@ IsReportRefusal Lines root report known status = IsFileRefusal (task_at root (jo
 IsReportRefusal Page root report known status = IsPageRefusal root report known status
 IsReportRefusal study root report known status = TakesNoReport study status
 
--- how many moves a page plans to judge each card: at most four, and one if there are more than 40 layouts
+-- how many moves a page plans to judge each card, if it doesn't plan all: at most four, and one if there are more than 40 layouts
 abbrev pub table_moves : Root → ℕ → ℕ
 table_moves root moves = if nat_le (length root.kept.node.lefts) 40 then (if nat_le moves 4 then moves else 4) else 1
 
--- what a job shows beside a report that is searched for: a page every legal card, for at most as many moves
-abbrev pub AreCardsFor : Study → Root → ℕ → Option CardTable → Type 0
-AreCardsFor Page root moves (Some table) = IsTableUpTo root.kept.node root.kept.weights (table_moves root moves) table
-AreCardsFor Page root moves None = ⊥
-AreCardsFor study root moves known = known ≡ None
+-- every legal card as a page shows it: with what one strategy wins after it if all is planned, or else for at most as many moves
+abbrev pub IsPageTable : Bool → Root → ℕ → Search → CardTable → Type 0
+IsPageTable true root moves search table = IsPlannedTable root search.nodes moves table
+IsPageTable false root moves search table = IsTableUpTo root.kept.node root.kept.weights (table_moves root moves) table
+
+-- why there is none
+abbrev pub IsPageTableRefusal : Bool → Root → ℕ → Search → Status → Type 0
+IsPageTableRefusal true root moves search status = status ≡ Memory
+IsPageTableRefusal false root moves search status = IsCardsRefusal root (table_moves root moves) search status
+
+-- what a job shows beside a report that is searched for: a page every legal card
+abbrev pub AreCardsFor : Study → Root → ℕ → Search → Option CardTable → Type 0
+AreCardsFor Page root moves search (Some table) = IsPageTable (plans_all root.kept.node.position moves) root moves search table
+AreCardsFor Page root moves search None = ⊥
+AreCardsFor study root moves search known = known ≡ None
 
 -- why it doesn't
 abbrev pub AreCardsRefused : Study → Root → ℕ → Search → Status → Type 0
-AreCardsRefused Page root moves search status = IsCardsRefusal root (table_moves root moves) search status
+AreCardsRefused Page root moves search status = IsPageTableRefusal (plans_all root.kept.node.position moves) root moves search status
 AreCardsRefused study root moves search status = ⊥
 
 -- what a job tells of the report that `solve` gives
 abbrev pub IsTextOfSearch : Study → List ℕ → Root → ℕ → Search → List ℕ → Type 0
 IsTextOfSearch study deal root moves search text = (report : List ℕ) × (known : Option CardTable)
-    × IsSolvedReport root moves search report × AreCardsFor study root moves known × IsTextOfReport study deal root report known text
+    × IsSolvedReport root moves search report × AreCardsFor study root moves search known × IsTextOfReport study deal root report known text
 
 -- why it tells nothing of it: there is none, or the tree of a card is too large; any other job takes none. What `solve` gives,
 -- `check` never refuses
@@ -102,10 +114,15 @@ abbrev pub IsTextOf : Study → InputsValue → List ℕ → Type 0
 IsTextOf study (asks.OnLayouts deal layouts (jobs.Check report)) text = IsToldAt deal layouts (λ root. IsTextOfReport study deal root report None text)
 IsTextOf study (asks.OnLayouts deal layouts (jobs.Solve moves search)) text = IsToldAt deal layouts (λ root. IsTextOfSearch study deal root moves search text)
 IsTextOf (Cards form) (asks.OnLayouts deal layouts (jobs.Card moves search)) text = IsToldAt deal layouts (λ root. IsCardsText root moves (form_of form) text)
-IsTextOf (ExactCards form) (asks.OnLayouts deal layouts (jobs.Card moves search)) text = IsToldAt deal layouts (λ root. IsExactText root (form_of form) text)
+IsTextOf (ExactCards form) (asks.OnLayouts deal layouts (jobs.Card moves search)) text = IsToldAt deal layouts (λ root. IsExactText root search.nodes (form_of form) text)
 IsTextOf (Review form from) (asks.OnLayouts deal layouts (jobs.Card moves search)) text = (board : BoardValue) × (board_in deal ≡ Ok board) × IsReviewText board layouts moves from (form_of form) text
 IsTextOf (Review form from) (asks.Boards files moves search) text = IsReviewsText files (record { moves = moves; from = from; search = search }) (form_of form) text
 IsTextOf _ _ _ = ⊥
+
+-- a deal file, a layout file, a number of moves and a form have one text of the cards side by side
+abbrev pub HasOneText : Type 0
+HasOneText = (deal layouts : List ℕ) (moves : ℕ) (search other : Search) (form : FormName) (text more : List ℕ)
+    → IsTextOf (Cards form) (asks.OnLayouts deal layouts (jobs.Card moves search)) text → IsTextOf (Cards form) (asks.OnLayouts deal layouts (jobs.Card moves other)) more → text ≡ more
 
 -- why it tells nothing of it: the report or the search is refused, the tree of a card is too large, or a board isn't reviewed;
 -- for all games only an allocation that fails

@@ -4,6 +4,8 @@
 #![tactic(auto)]
 
 mod form;
+pub mod laws;
+mod page_cards;
 mod program;
 mod refusal;
 mod solved;

@@ -17,13 +17,13 @@ ghost use Rattle.am_line.specs.Said.{IsSaid};
 ghost use Rattle.study_top.specs.Refusals.{IsRefused, refusal_line, status_of};
 ghost use Rattle.study_top.specs.Study.{IsTextOf, IsRefusalOf, IsStudyText, IsStudyUnread};
 ghost use Rattle.study_top.specs.Study.{IsStudyRefusal, IsTextOfReport, IsReportRefusal};
-ghost use Rattle.study_top.specs.Study.{AreCardsFor, AreCardsRefused, table_moves as moves_of};
 ghost use Rattle.study_top.specs.Study.{IsTextOfSearch, IsSearchRefusal, IsTextOfDrawn};
 ghost use Rattle.study_top.specs.Study.{IsRefusalOfDrawn, drawn_job, IsAnswerFrom};
 ghost use Rattle.study_top.specs.Study.{IsNoAnswerFrom, IsUnreadOf};
 ghost use Rattle.study_top.specs.declared.refusal.Refusal.TheVariants.{Ended};
 
 use crate::form::form_of;
+use crate::page_cards::cards_for;
 use crate::refusal::Refusal;
 use crate::solved::solved_report;
 use crate::study::read_ask;
@@ -33,7 +33,7 @@ use am_line::{refuse, refuse_words};
 use am_outside::{Shelf, Sink, write_whole};
 use byte_text::Text;
 use card_brackets::CardTable;
-use job_cards::{cards_of, tell_cards, tell_exact};
+use job_cards::{tell_cards, tell_exact};
 use job_draw::draw_file;
 use job_lines::tell_lines;
 use job_page::tell_page;
@@ -46,45 +46,6 @@ use std::thread::Threads;
 
 // The most bytes that a layout file may have.
 const MOST_BYTES: usize = 1_048_576;
-
-// How many moves a page plans to judge each card. With many layouts the bounds of a card take
-// minutes, and a page is not worth so long a wait.
-fn table_moves(root: &Root, moves: u8) -> u8
-    requires { IsMoves moves }
-    ensures value { result ≡ moves_of root.now moves }
-    ensures moves { IsMoves result }
-{
-    if root.kept.node.width() > 40 {
-        1
-    } else if moves <= 4 {
-        moves
-    } else {
-        4
-    }
-}
-
-// Every legal card of a root, if the job shows them.
-fn cards_for(
-    alloc: Global,
-    study: Study,
-    root: &Root,
-    moves: u8,
-    search: &Search,
-) -> Result<Option<CardTable>, Status>
-    requires root { IsRoot root.now }
-    requires moves { IsMoves moves }
-    requires limits { IsSearchWithinLimits search.now }
-    ensures cards { IfOk result (AreCardsFor study root.now moves) }
-    ensures refused { IfErr result (AreCardsRefused study root.now moves search.now) }
-{
-    match study {
-        Study::Page => {
-            let table = cards_of(alloc, root, table_moves(root, moves), search)?;
-            Ok(Some(table))
-        }
-        _ => Ok(None),
-    }
-}
 
 // What a job tells of a report at the root of a deal, or why there is nothing.
 fn text_of(

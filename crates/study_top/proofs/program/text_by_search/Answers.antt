@@ -16,5 +16,5 @@ pub returns-clause-refused : goal.returns-clause-refused
 returns-clause-refused g c =
     IfErr-weaker c.text_of.result _ _
     (never_refused c.args.root.now c.args.moves c.args.search.now (subst (λ (root : Root). IsNode root.kept.node) c.root.view_is c.width.ensures.a_node) c.requires.root c.requires.weights c.requires.moves c.in_ok-report.report c.in_ok-report.ensures.text c.args.study _
-    (subst (AreCardsFor c.args.study c.args.root.now c.args.moves) (sym c.as_ref.ensures.value) c.in_ok-cards.ensures.cards))
+    (subst (AreCardsFor c.args.study c.args.root.now c.args.moves c.args.search.now) (sym c.as_ref.ensures.value) c.in_ok-cards.ensures.cards))
     c.text_of.ensures.refused

@@ -33,5 +33,5 @@ pub returns-in_ok-root-in-ExactCards-Card-clause-text : goal.returns-in_ok-root-
 returns-in_ok-root-in-ExactCards-Card-clause-text g c =
     let root = c.in_ok-root-in-ExactCards-Card.root in
     rw (c.in-ExactCards-Card.is-0) (rw (c.in-ExactCards-Card.is-1) (IfOk-weaker c.tell_exact.result _ _
-    (λ text told. (root, c.in_ok-root-in-ExactCards-Card.ensures.root, subst (λ (form : Form). IsExactText root form text) c.form_of-in-ExactCards-Card.ensures told))
+    (λ text told. (root, c.in_ok-root-in-ExactCards-Card.ensures.root, subst (λ (form : Form). IsExactText root c.in-ExactCards-Card.search.nodes form text) c.form_of-in-ExactCards-Card.ensures told))
     c.tell_exact.ensures.text))
