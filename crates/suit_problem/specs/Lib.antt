@@ -1,0 +1,3 @@
+pub mod Written
+pub mod Endings
+pub mod SuitTexts
