@@ -18,26 +18,35 @@ const RECORDS: &[u8] =
     b"card,most,least,sampled,final,vector,named,moves,layouts,weight\nS2,3,3,4,yes,10,yes,all,2,4\nS3,3,3,4,yes,10,no,all,2,4\n";
 
 const OBJECT: &[u8] =
-    b"{\"cards\":[{\"card\":\"S2\",\"final\":true,\"least\":3,\"most\":3,\"sampled\":4,\"vector\":\"10\"},{\"card\":\"S3\",\"final\":true,\"least\":3,\"most\":3,\"sampled\":4,\"vector\":\"10\"}],\"layouts\":2,\"moves\":\"all\",\"named\":\"S2\",\"weight\":4}\n";
+    b"{\"cards\":[{\"card\":\"S2\",\"equals\":[\"S3\"],\"final\":true,\"least\":3,\"most\":3,\"sampled\":4,\"vector\":\"10\"},{\"card\":\"S3\",\"equals\":[\"S2\"],\"final\":true,\"least\":3,\"most\":3,\"sampled\":4,\"vector\":\"10\"}],\"layouts\":2,\"moves\":\"all\",\"named\":\"S2\",\"weight\":4}\n";
 
 // The layout in which Left has the queen weighs 3, the other one 1.
 fn weights() -> Weights {
     Weights::equal(2).set(0, 3)
 }
 
-// Every card of the ending if one trick is needed and a search may enter this many nodes.
-fn table(rt: &impl Abort, alloc: Global, nodes: u64) -> Result<ExactTable, AllocError> {
+// The ending if one trick is needed.
+fn root(rt: &impl Abort, alloc: Global) -> Result<Node, AllocError> {
     let position = ending(rt, 1);
     let queen = spades(LEFT);
     let ace = spades(OTHER);
     assert!(rt; position.fits(queen));
     assert!(rt; position.fits(ace));
-    let node = Node::new(alloc, position, [queen, ace].as_slice())?;
+    Node::new(alloc, position, [queen, ace].as_slice())
+}
+
+// Every card of it if a search may enter this many nodes.
+fn table(
+    rt: &impl Abort,
+    alloc: Global,
+    node: &Node,
+    nodes: u64,
+) -> Result<ExactTable, AllocError> {
     let weights = weights();
     assert!(rt; node.is_ours());
     assert!(rt; !node.position().over());
     assert!(rt; weights.width() == node.width());
-    exact_table(alloc, &node, &weights, nodes)
+    exact_table(alloc, node, &weights, nodes)
 }
 
 // After the seven, which Right plays in both layouts, declarer's king wins if Left has the queen, and
@@ -46,10 +55,11 @@ fn table(rt: &impl Abort, alloc: Global, nodes: u64) -> Result<ExactTable, Alloc
 #[test]
 fn the_heavier_layout_is_played_for(rt: HostRuntime) -> Result<(), Fail> {
     let alloc = rt.alloc();
-    let found = table(&rt, alloc, 1_000)?;
-    let text = exact_in(alloc, Form::Text, &weights(), &found)?;
-    let records = exact_in(alloc, Form::Csv, &weights(), &found)?;
-    let object = exact_in(alloc, Form::Json, &weights(), &found)?;
+    let node = root(&rt, alloc)?;
+    let found = table(&rt, alloc, &node, 1_000)?;
+    let text = exact_in(alloc, Form::Text, &node, &weights(), &found)?;
+    let records = exact_in(alloc, Form::Csv, &node, &weights(), &found)?;
+    let object = exact_in(alloc, Form::Json, &node, &weights(), &found)?;
     assert!(rt; text.bytes() == TEXT);
     assert!(rt; records.bytes() == RECORDS);
     assert!(rt; object.bytes() == OBJECT);
@@ -60,7 +70,8 @@ fn the_heavier_layout_is_played_for(rt: HostRuntime) -> Result<(), Fail> {
 #[test]
 fn a_search_that_is_cut_off(rt: HostRuntime) -> Result<(), Fail> {
     let alloc = rt.alloc();
-    let found = table(&rt, alloc, 0)?;
+    let node = root(&rt, alloc)?;
+    let found = table(&rt, alloc, &node, 0)?;
     assert!(rt;
         found
             .rows
@@ -68,8 +79,8 @@ fn a_search_that_is_cut_off(rt: HostRuntime) -> Result<(), Fail> {
             .all(|row: &CardRow| row.least <= 3 && row.most >= 3)
     );
     assert!(rt; !found.rows.iter().all(|row: &CardRow| row.is_final()));
-    let text: Text = exact_in(alloc, Form::Text, &weights(), &found)?;
-    let records: Text = exact_in(alloc, Form::Csv, &weights(), &found)?;
+    let text: Text = exact_in(alloc, Form::Text, &node, &weights(), &found)?;
+    let records: Text = exact_in(alloc, Form::Csv, &node, &weights(), &found)?;
     assert!(rt; text.bytes().ends_with(b"\nnodes spent\n"));
     assert!(rt; records.bytes().ends_with(b",all,2,4\n"));
     Ok(())

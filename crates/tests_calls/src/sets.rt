@@ -2,7 +2,7 @@
 use crate::endings::{LEFT, OTHER, ending, spades};
 use alphamu_core::Budget;
 use dd_solver::Solver;
-use set_search::{SetMemo, SetSearch, Verdict};
+use set_search::{Order, SetMemo, SetQuestion, SetSearch, Verdict};
 use std::alloc::{AllocError, Global};
 use std::test::Fail;
 use trick_rules::Node;
@@ -58,7 +58,13 @@ fn is_told(
         budget: &mut budget,
         memo: &mut memo,
     };
-    match search.value(alloc, node, 26, weights) {
+    let question = SetQuestion {
+        node,
+        moves: 26,
+        weights,
+        order: Order::Report,
+    };
+    match search.value(alloc, &question) {
         Ok(found) => Ok(found.least == found.most && found.won.equals(set)),
         Err(_) => Ok(false),
     }

@@ -1,7 +1,7 @@
 //! What one strategy wins.
 use alphamu_core::{Budget, SearchFault};
 use dd_solver::Solver;
-use set_search::{SetMemo, SetSearch, SetValue};
+use set_search::{Order, SetMemo, SetQuestion, SetSearch, SetValue};
 use std::alloc::Global;
 use trick_rules::Node;
 use win_vectors::Weights;
@@ -22,6 +22,13 @@ pub fn value_of(alloc: Global, node: &Node, most: u64) -> Result<(SetValue, u64)
         budget: &mut budget,
         memo: &mut memo,
     };
-    let value = search.value(alloc, node, 26, &Weights::equal(node.width()))?;
+    let weights = Weights::equal(node.width());
+    let question = SetQuestion {
+        node,
+        moves: 26,
+        weights: &weights,
+        order: Order::Weight,
+    };
+    let value = search.value(alloc, &question)?;
     Ok((value, search.budget.entered().count()))
 }
