@@ -6,7 +6,8 @@ NODES nodes. In endings of at most MOST_CARDS cards a hand, with at most MOST_LA
 reading of the definitions (playing.py, assured.py), byte for byte. In every case with an answer PROGRAM, which is that of cases.py if
 you name none, must agree: `card` with the moves that the text says names the same card, whose weight is its `most`, and `fusion`
 believes in the same weights. Each is asked again with three choices of the options for the search, which may change no byte. Each
-answer in the forms `csv` and `json` must be what Python's modules of these names write for the values of the text. A case that
+answer in the forms `csv` and `json` must be what Python's modules of these names write for the values of the text, `json` with the
+equal cards of each, which are found here. A case that
 `card` refuses must be refused with the same line and status. Nodes may be spent only if the tree after some card, walked here, has
 more than NODES. Words with a `--form` that can't be right must be refused. The exit status is 0 only if nothing differs, and if at
 least LEAST texts were told.
@@ -128,15 +129,25 @@ def csv_of(shared, rows):
     return written.getvalue().encode()
 
 
-def json_of(shared, rows):
-    return json.dumps({"cards": rows, **shared}, sort_keys=True, separators=(",", ":")).encode() + b"\n"
+def equals_of(states, name):
+    """The choices that are equal to one: every card of its suit in play between them is a choice, too."""
+    hands, trick, _, _ = states[0]
+    in_play, ours, card = {it for hand in hands for it in hand} | {it for _, it in trick}, playing.choices(states), playing.card_named(name.encode())
+    return [playing.name_of(it).decode() for it in ours if it != card and it // 13 == card // 13
+            and not any(min(it, card) < other < max(it, card) for other in in_play - set(ours))]
+
+
+def json_of(states, shared, rows):
+    """The object that Python's writer makes of the values, with the equal cards of each."""
+    cards = [{**row, "equals": equals_of(states, row["card"])} for row in rows]
+    return json.dumps({"cards": cards, **shared}, sort_keys=True, separators=(",", ":")).encode() + b"\n"
 
 
 def judge_forms(case, words, seconds, text):
     """What the other forms of a text say otherwise."""
     shared, rows = values_of(text)
     wrong = []
-    for form, wanted in ((b"csv", csv_of(shared, rows)), (b"json", json_of(shared, rows)), (b"text", text)):
+    for form, wanted in ((b"csv", csv_of(shared, rows)), (b"json", json_of(root_of(case)[0], shared, rows)), (b"text", text)):
         if run(STUDY, case, seconds, words=words + ([b"--form=json"] if form == b"json" else [b"--form", form])) != (wanted, b"", 0):
             wrong.append(f"{case}: the form {form.decode()} differs")
     return wrong

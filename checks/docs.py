@@ -33,7 +33,7 @@ TOP = pathlib.Path(__file__).resolve().parent.parent
 PAGES = ("README.md", "CHANGELOG.md", "CONTRIBUTING.md", "docs/**/*.md", "examples/**/README.md", "crates/*/README.md",
          "cases/README.md", "bindings/**/README.md")
 FOR_USERS = ("docs/USING.md", "docs/REFUSALS.md")
-SCRIPTS = ("alphamu", "build", "package/*", ".ci/run", "bench/*.py", "checks/*", "checks/library/*", "bindings/**/*.h", "bindings/**/*.py",
+SCRIPTS = ("alphamu", "build", "alphamu_desk/*.py", "package/*", ".ci/run", "bench/*.py", "checks/*", "checks/library/*", "bindings/**/*.h", "bindings/**/*.py",
            "bindings/**/*.rs", "examples/library/*.c", "examples/library/*.rs", "examples/**/*.py", "examples/**/*.sbatch")
 SOURCES = ("crates/*/src/**/*.rt", "crates/*/specs/**/*.antt", "crates/*/proofs/**/*.antt")
 # Options of other programs that the pages name: of rt, GNU parallel, Slurm, git and valgrind.

@@ -50,13 +50,12 @@ def cut(whole):
 
 
 def told(given, room, number, nodes):
-    """What all games must say of one, by what `review` says of it alone; and how many decisions there are, how many are costly, and the
-    greatest cost."""
+    """What all games must say of one, by what `review` says of it alone; and the numbers of its last line."""
     text, line, status = ask(given, room, f"{number}.pbn", f"evening.lay.{number}", *nodes)
     if status:
-        return b"refused " + line.removeprefix(b"alphamu: "), 0, 0, 0
+        return b"refused " + line.removeprefix(b"alphamu: "), 0, 0, 0, 0, 0
     lines = text.splitlines(True)[2:]
-    sums = re.fullmatch(rb"decisions (\d+) costly (\d+) greatest (\d+)\n", lines[-1])
+    sums = re.fullmatch(rb"decisions (\d+) costly (\d+) to (\d+) greatest (\d+) to (\d+)\n", lines[-1])
     return b"".join(lines), *map(int, sums.groups())
 
 
@@ -70,7 +69,7 @@ def csv_of(texts):
     return b"".join(b",".join(row) + b"\n" for row in rows)
 
 
-def json_of(texts, costly, greatest):
+def json_of(texts, sums):
     """The JSON that has them."""
     games = []
     for number, text in enumerate(texts, 1):
@@ -78,7 +77,7 @@ def json_of(texts, costly, greatest):
             games.append({"game": number, "refused": text.removeprefix(b"refused ").rstrip(b"\n").decode()})
         else:
             games.append({"game": number, "review": json.loads(review.json_of(text)) | {"moves": MOVES}})
-    said = {"costly": costly, "games": games, "greatest": greatest, "moves": MOVES}
+    said = {"games": games, "moves": MOVES, **dict(zip(review.SUMS, sums))}
     return json.dumps(said, sort_keys=True, separators=(",", ":")).encode() + b"\n"
 
 
@@ -86,16 +85,17 @@ def judge(given, room, games, nodes):
     """What is wrong with the reviews of all games, and what the text said of each."""
     with ThreadPoolExecutor(given.jobs) as pool:
         each = list(pool.map(lambda number: told(given, room, number, nodes), range(1, games + 1)))
-    texts, decisions, costly, greatest = zip(*each)
+    texts, decisions, costly, costly_up_to, greatest, greatest_up_to = zip(*each)
+    sums = sum(costly), sum(costly_up_to), max(greatest), max(greatest_up_to)
     wanted = b"alphamu reviews 1\nmoves %d\n" % MOVES
     wanted += b"".join(b"game %d\n%s" % (number, text) for number, text in enumerate(texts, 1))
-    wanted += b"games %d decisions %d costly %d greatest %d\n" % (games, sum(decisions), sum(costly), max(greatest))
+    wanted += b"games %d decisions %d costly %d to %d greatest %d to %d\n" % (games, sum(decisions), *sums)
     wrong = []
     for workers in WORKERS:
         found = ask(given, room, "evening.pbn", "evening.lay", "--games", "--workers", str(workers), *nodes)
         if found != (wanted, b"", 0):
             wrong.append(f"{workers} workers, {nodes or 'nodes enough'}: {found}, and not {wanted}")
-    for form, content in ("csv", csv_of(texts)), ("json", json_of(texts, sum(costly), max(greatest))):
+    for form, content in ("csv", csv_of(texts)), ("json", json_of(texts, sums)):
         if ask(given, room, "evening.pbn", "evening.lay", "--games", f"--form={form}", *nodes) != (content, b"", 0):
             wrong.append(f"another {form}, {nodes or 'nodes enough'}")
     return wrong, texts

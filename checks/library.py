@@ -12,7 +12,7 @@ Makes libalphamu.a and libalphamu.so of what `rt ci` or ./build library proved, 
               with a byte less
     bits      the same cases by bits: card, weight, front and worths against the case, and against `card` and `fusion` of the program if
               it is there
-    examples  the programs of examples/library in C, Python and Rust print what the front page shows
+    examples  the programs of examples/library in C, Python and Rust print what examples/suits/README.md shows
     page      the Python of docs/PROGRAMS.md gives what the page says of its ending
     threads   8 threads with a stack of 512 KiB ask 2,000 questions each, in less than 60 seconds of the processor; and one asks deep
               questions
@@ -248,14 +248,10 @@ def by_bits(trial):
 
 
 def shown():
-    """What the front page shows of its suit combination: for each card what a simulation believes, and the true card and weight."""
-    text = (TOP / "README.md").read_text(encoding="utf-8")
-    block = re.search(r"```\n(alphamu cards 1\n.*?)```", text, re.S)[1]
-    [total] = re.findall(r"^layouts \d+ weight (\d+)$", block, re.M)
-    [card] = re.findall(r"^named (\w\w)$", block, re.M)
-    rows = re.findall(r"^card (\w\w) most \d+ least (\d+) sampled (\d+) ", block, re.M)
-    [weight] = [least for name, least, _ in rows if name == card]
-    return [(name, sampled) for name, _, sampled in rows], card, weight, total
+    """What examples/suits/README.md shows of its first suit: for each card what a simulation believes, and the true card and weight."""
+    text = (TOP / "examples/suits/README.md").read_text(encoding="utf-8")
+    found = re.search(r"^card (\w\w) weight (\d+) of (\d+)$", text, re.M)
+    return re.findall(r"^card (\w\w) vector \d+ weight (\d+)$", text, re.M), *found.groups()
 
 
 def strategy_shown(trial, suit):
@@ -266,7 +262,7 @@ def strategy_shown(trial, suit):
 
 
 def judge_example(trial, name, words, **given):
-    """Runs an example by bits and by text, and compares it with the front page and with a report."""
+    """Runs an example by bits and by text, and compares it with the page of the suits and with a report."""
     believed, card, weight, total = shown()
     suit = trial.room / "suit"
     trial.run([TOP / "examples/suits/make.py", "K10x", "AQ9xx", suit])

@@ -27,7 +27,10 @@ import cases
 import jobs
 import unproved
 
-LAUNCHER = ("alphamu", "study", "build", "checks/launch", "checks/program_state", "checks/unproved.py", "checks/jobs.py")
+# The jobs in the order of the help.
+JOBS = "card, solve, boards, fusion, list, match, check, prove, audit, made"
+LAUNCHER = ("alphamu", "study", "build", "checks/launch", "checks/program_state", "checks/unproved.py", "checks/jobs.py",
+            "package/words.sh", "package/help.txt", "package/more.awk")
 SOURCES = ("crates.txt", "HANDLES", "crates/alphamu/src/main.rt", "crates/alphamu/src/deep/er/most.rt", "crates/alphamu_study/src/main.rt")
 CASE = "queen-two-ways"
 # Users without processes, one for each trial.
@@ -422,8 +425,8 @@ def all_of(terminal):
     return said
 
 
-def pointed_to_readme(asked, is_pointed):
-    """With a proved program the line on README.md is for a terminal, so that a program reads what alphamu says alone."""
+def told_more(asked, more):
+    """At a terminal the launcher's line follows the program's own, which a program that reads it gets alone."""
     def trial(place):
         place.add_program()
         main, terminal = pty.openpty()
@@ -431,22 +434,26 @@ def pointed_to_readme(asked, is_pointed):
         said = all_of(main).replace(b"\r\n", b"\n")
         os.close(main)
         os.close(terminal)
-        wanted = (place.line(unproved.POINTER) if is_pointed else b"") + place.line(jobs.USAGE)
-        return differs((out, said, status), (b"", wanted, jobs.REFUSED)) or differs(
+        return differs((out, said, status), (b"", place.line(jobs.USAGE) + place.line(more), jobs.REFUSED)) or differs(
             place.run(asked), (b"", place.line(jobs.USAGE), jobs.REFUSED))
     return trial
 
 
+def helped(place):
+    """Help is there before any program, and without another command."""
+    out, err, status = place.run([b"--help"], path=path_of(place))
+    return None if (err, status) == (b"", 0) and b"./alphamu --help JOB" in out else f"{out!r} {err!r} {status}"
+
+
 def refusals():
     yield "no words", refused()
-    yield "--help", refused(b"--help")
+    yield "--help", helped
     yield "a pipe for an option that isn't taken", refused(b"--job", b"list", b"--deal", b"deal.pbn", b"--layouts", b"pipe")
     yield "a pipe, and then no moves", refused(b"--job", b"solve", b"--deal", b"pipe", b"--layouts", b"layouts.lay")
     yield "a terminal for an option that isn't taken", refused(b"--job=list", b"--deal=deal.pbn", b"--report=TERMINAL")
     yield "a word that isn't text", refused(b"--job", b"list", b"--deal", b"\xff", status=unproved.NO_WORDS)
-    yield "no words at a terminal, proved", pointed_to_readme([], True)
-    yield "--help at a terminal, proved", pointed_to_readme(["--help"], True)
-    yield "other words at a terminal, proved", pointed_to_readme(["--job", "list"], False)
+    yield "no words at a terminal, proved", told_more([], f"--job is missing: it takes one of {JOBS}")
+    yield "other words at a terminal, proved", told_more(["--job", "list"], "--job list needs --deal: the name of a file")
 
 
 # What is there of the program.

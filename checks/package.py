@@ -5,7 +5,7 @@ Makes the packages by ./build package and tries them: in a folder into which the
 which dpkg installs the Debian package. In both the front page's first question is answered without the toolchain on the path, the
 strategies of docs/USING.md are told in words, the library's example is linked as pkg-config says and gives the same in C and Python,
 the checksums of BUILD agree, and the man pages are well formed, have each job, option and status, and none of what is only right on a
-page or in the source; nor have the pages. A closed pipe is a failed write.
+page or in the source; nor have the pages. Help, version and the line more about a refusal are there too. A closed pipe is a failed write.
 From the .tar.gz the example gives the same in Rust, and with the module that pip installs from the wheel and from the prefix. lintian
 finds no error in the Debian package, and nothing that its programs load and Depends doesn't have. After dpkg has removed the package nothing is left.
 
@@ -27,7 +27,9 @@ import tarfile
 import tempfile
 
 sys.dont_write_bytecode = True
+import desk_safety
 import jobs
+import messages
 import pages
 
 TOP = pages.TOP
@@ -39,7 +41,7 @@ IN_DEBIAN = "python3,gcc,libc6-dev,pkgconf"
 PLACES, OWN = ("etc", "opt", "usr", "var"), ("var/lib/dpkg", "var/log", "var/cache")
 # The jobs of the second program, and what no man page may say: marks of Markdown, the source's launchers, and what has no place there.
 STUDY_JOBS = ("page", "words", "lines", "cards", "review", "draw")
-OUT_OF_PLACE = ("![", "](", "./study", "./alphamu", "last three rows", "last four rows", "you can't", "the picture", "tables above", "see below", "see above")
+OUT_OF_PLACE = ("![", "](", "./study", "./alphamu", "./desk", "last three rows", "last four rows", "you can't", "the picture", "tables above", "see below", "see above")
 faults, left_out = [], []
 
 
@@ -73,6 +75,14 @@ def try_answer(prefix):
     expect(f"{prefix}: a closed pipe: {found}", (found.returncode, found.stderr) == (8, b"alphamu: cannot write\n"))
 
 
+def try_desk(prefix):
+    """The desk, which is asked for its page and for an answer."""
+    desk = desk_safety.Desk([str(prefix / DOCS / "examples/slam/deal.pbn")], str(prefix / "bin/alphamu_desk"))
+    page, told = desk.ask(""), desk.ask("think", {"file": "1", "game": 1, "at": 32})
+    expect(f"{prefix}: the desk: {page[0]} {told[1][-300:]}", page[0] == told[0] == 200 and told[1].endswith('{"end": "settled"}\n'))
+    expect(f"{prefix}: the desk ends otherwise", desk.end() == [])
+
+
 def try_words(prefix):
     """Strategies in words, by the second program as docs/USING.md shows it."""
     found = pages.commands((TOP / "docs/USING.md").read_text(encoding="utf-8"))
@@ -80,6 +90,18 @@ def try_words(prefix):
     env = {"PATH": f"{prefix}/bin:/usr/bin:/bin"}
     told = run(["sh", "-c", words.replace("./study", "alphamu_study")], cwd=prefix / DOCS, env=env)
     expect(f"{prefix}: the strategies in words: {told.stdout!r}", told.returncode == 0 and told.stdout.splitlines() == answer)
+
+
+def try_help(prefix):
+    """Both programs say what their jobs take, and their version; at a terminal a second line says more about a refusal."""
+    version = (TOP / "VERSION").read_text(encoding="utf-8").strip()
+    for program, job in (("alphamu", "card"), ("alphamu_study", "cards")):
+        found = run([prefix / "bin" / program, "--help", job])
+        expect(f"{prefix}: help: {found.stdout!r}", found.returncode == 0 and f"    {program} --job {job} --deal examples/" in found.stdout)
+        found = run([prefix / "bin" / program, "--version"])
+        expect(f"{prefix}: version: {found.stdout!r}", (found.returncode, found.stdout) == (0, f"{program} {version}\n"))
+        status, out, told = messages.at_terminal([prefix / "bin" / program, "--job", job + "x"])
+        expect(f"{prefix}: wrong words: {told!r}", (status, out) == (2, b"") and f"{program}: \"{job}x\" is no job" in told)
 
 
 def example_env(prefix):
@@ -158,7 +180,8 @@ def try_links(prefix):
 def try_man_pages(prefix):
     wanted = {"alphamu": (*jobs.JOBS, *(f"--{it}" for it in jobs.OPTIONS)),
               "alphamu_study": (*(f"alphamu_study --job {it}" for it in STUDY_JOBS), "--report", "--form", "--from", "--games",
-                                "--draw", "--seed", "--north", "--east", "--south", "--west")}
+                                "--draw", "--seed", "--north", "--east", "--south", "--west"),
+              "alphamu_desk": ("--board BOARD", "--at CARD", "--no-browser", "--study PROGRAM")}
     for page, names in wanted.items():
         text = gzip.decompress((prefix / f"share/man/man1/{page}.1.gz").read_bytes()).decode().replace("\\-", "-")
         bold = set(re.findall(r"\\fB(.*?)\\fR", text))
@@ -182,7 +205,7 @@ def try_man_pages(prefix):
 def try_pages(prefix):
     """No page of the package calls the launchers of the source."""
     for page in (prefix / DOCS).rglob("*.md"):
-        for wrong in ("./alphamu ", "./alphamu`", "./study"):
+        for wrong in ("./alphamu ", "./alphamu`", "./study", "./desk"):
             expect(f"{page} says {wrong}", wrong not in page.read_text(encoding="utf-8"))
 
 
@@ -197,7 +220,7 @@ def try_tar(folder, made, wheel):
         tar.extractall(folder, filter="data")
     prefix = next(folder.iterdir())
     try_pip(prefix, wheel)
-    for it in (try_answer, try_words, try_library, try_rust, try_sums, try_links, try_pages, try_copyright, try_man_pages):
+    for it in (try_answer, try_desk, try_words, try_help, try_library, try_rust, try_sums, try_links, try_pages, try_copyright, try_man_pages):
         it(prefix)
 
 
@@ -265,6 +288,8 @@ def try_inside(inside):
     expect(f"in Debian: the first question: {found.stdout!r}", found.returncode == 0 and found.stdout.splitlines() == answer)
     using = pages.commands((TOP / "docs/USING.md").read_text(encoding="utf-8"))
     command, answer = next((it, lines) for _, it, lines in using if it.startswith("./study --job words"))
+    found = inside("alphamu --help card && alphamu_study --version")
+    expect(f"in Debian: help: {found.stdout!r}", found.returncode == 0 and "--moves" in found.stdout)
     found = inside(command.replace("./study", "alphamu_study"))
     expect(f"in Debian: the strategies in words: {found.stdout!r}", found.returncode == 0 and found.stdout.splitlines() == answer)
     found = inside("alphamu_study --job page --deal examples/queen.pbn --layouts examples/queen.lay --moves 2")

@@ -412,12 +412,17 @@ def faults_of(text, deal, report, words, fusion, games):
     return wrong + faults_of_promise(text.decode(), deal, report)
 
 
+def plans_all(deal, moves):
+    """Whether as many moves plan every card that declarer's side has left."""
+    hands = reading.moment_after(reading.board_of(reading.games_of(deal)[0])).hands
+    return len(hands[0]) + len(hands[2]) <= moves
+
+
 def promise_of(deal, report, least=None):
     """What a page must promise of the card that a report names, and how far it must say the lines are planned: by the least that the
     card is known to win, if the report was searched for."""
     _, moves, entries = reading.report_of(report)
-    hands = reading.moment_after(reading.board_of(reading.games_of(deal)[0])).hands
-    is_whole = len(hands[0]) + len(hands[2]) <= moves
+    is_whole = plans_all(deal, moves)
     card = card_named(re.search(rb"^card (..) ", report, re.M)[1])
     kept = max((weight for _, weight, plan in entries if plan is None or plan[0] == card), default=0)
     is_sure = is_whole or least == kept
@@ -450,7 +455,7 @@ def faults_of_search(searched, page, cards, deal, report):
     parts = re.findall(r"<section id='cards'>.*?</section>\n", searched, re.S)
     if [without_promise(page)] != [without_promise(searched).replace(it, "") for it in parts]:
         return ["the page of a report that is searched for differs"]
-    moves = re.search(r"^moves (\d+)$", cards, re.M)[1]
+    moves = re.search(r"^moves (\d+|all)$", cards, re.M)[1].replace("all", str(reading.report_of(report)[1]))
     named = re.search(rb"^card (..) ", report, re.M)[1].decode()
     rows = re.findall(r"^card (..) most (\d+) least (\d+) sampled (\d+) final (yes|no) ", cards, re.M)
     wanted = [[f"{card} to play" if card == named else card, *others] for card, *others in rows]
@@ -464,13 +469,13 @@ def faults_of_search(searched, page, cards, deal, report):
 
 
 def with_fewer(words, most):
-    """The words with no more moves than these."""
+    """The words with no more moves than these, or without any if there are none to be."""
     at = next(place for place, word in enumerate(words) if word.startswith(b"--moves"))
     joined = words[at].startswith(b"--moves=")
     value = words[at].split(b"=")[1] if joined else words[at + 1]
-    if not value.isdigit() or int(value) <= most:
+    if most and (not value.isdigit() or int(value) <= most):
         return words
-    fewer = [b"--moves=%d" % most] if joined else [b"--moves", b"%d" % most]
+    fewer = [] if not most else [b"--moves=%d" % most] if joined else [b"--moves", b"%d" % most]
     return [*words[:at], *fewer, *words[at + 2 - joined:]]
 
 
@@ -479,6 +484,7 @@ def judge_search(case, page, deal, report, seconds):
     searched = run(STUDY, case, seconds, words=with_job(words_of(case), b"page"))
     kept = re.search(rb"^kept (.*)$", expected(case)[0], re.M)
     most = MOST_PLANNED if not kept or len(kept[1].split()) <= FEW_LAYOUTS else 1
+    most = None if plans_all(deal, reading.report_of(report)[1]) else most
     cards = run(STUDY, case, seconds, words=with_fewer(with_job(words_of(case), b"cards"), most))
     if searched[2] or cards[2]:
         return [] if searched == cards else [f"the search for a page ends with {searched[1:]}"]

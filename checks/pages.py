@@ -6,7 +6,8 @@ A command is a line of README.md, of USING, REFUSALS, PROGRAMS or FORMS in docs/
 If its program isn't installed, it is counted as left out. If a block in fences follows, before the next command and before the
 next heading, the command must print the lines of the block, standard output and then standard error; a last line `..` means any
 further lines. If no block follows, the command must end with status 0. The commands of one page run in order, since some write
-files in /tmp for later ones. README.md and USING may show no other command, except `./build`, which runs this check.
+files in /tmp for later ones. README.md and USING may show no other command, except `./build`, which runs this check, and
+`./desk`, which only Ctrl-C ends.
 
 If the proved programs aren't there, the launchers answer by the unproved ones, whose line on standard error is left out."""
 import pathlib
@@ -51,7 +52,7 @@ def unknown(text):
     """The lines of a page, outside of its fenced blocks, that begin with four blanks and are no command that is run here."""
     prose = re.sub(r"^```.*?^```", lambda it: "\n" * it[0].count("\n"), text, flags=re.DOTALL | re.MULTILINE)
     return [(number, line.strip()) for number, line in enumerate(prose.splitlines(), 1)
-            if line.startswith("    ") and not COMMAND.match(line) and not line.startswith("    ./build")]
+            if line.startswith("    ") and not COMMAND.match(line) and not line.startswith(("    ./build", "    ./desk"))]
 
 
 def is_there(program):

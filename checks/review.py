@@ -26,10 +26,11 @@ from cases import CASES, STUDY, TOP, bytes_of, expected, is_ready, misunderstood
 from options import job_of
 
 MOVES, NODES, MOST_CARDS, LEAST, SPENT = 2, 20000, 5, 70, 7
-LINE = re.compile(rb"card (\d+) trick (\d+) seat (.) played (..) most (\d+) least (\d+) named (..) most (\d+) "
-                  rb"layouts (\d+) weight (\d+) cost (\d+)\n")
-FIELDS = b"number trick seat played most least named named_most layouts weight cost moves".split()
-LETTERS = b"seat played named".split()
+LINE = re.compile(rb"card (\d+) trick (\d+) seat (.) played (..) most (\d+) least (\d+) named (..) most (\d+) least (\d+) "
+                  rb"layouts (\d+) weight (\d+) cost (\d+) to (\d+) final (yes|no)\n")
+FIELDS = b"number trick seat played most least named named_most named_least layouts weight cost cost_up_to final moves".split()
+LETTERS = b"seat played named final".split()
+SUMS = "costly", "costly_up_to", "greatest", "greatest_up_to"
 NO_DECISION = b"", b"alphamu: no card to choose\n", 6
 WHOLE, CUT = b"whole.pbn", b"cut.pbn"
 
@@ -76,7 +77,7 @@ def differ(states):
 
 
 def line_at(program, case, seconds, board, place, words, file):
-    """The line of the decision at a place with its cost, or how `cards` ends there."""
+    """The line of the decision at a place with its least and its greatest cost, or how `cards` ends there."""
     files = {CUT: file}
     text, line, status = run(STUDY, case, seconds, words=[b"--job", b"cards", *words, b"--moves", b"%d" % MOVES, b"--nodes", b"%d" % NODES], files=files)
     if status:
@@ -87,10 +88,11 @@ def line_at(program, case, seconds, board, place, words, file):
     said = run(program, case, seconds, words=[b"--job", b"card", *words, b"--moves", moves], files=files)[0]
     assert re.search(rb"^card %s (count|weight) %s of " % (named, rows[named][1]), said, re.M), (case, place, said)
     played = rows[playing.name_of(card)]
-    cost = int(rows[named][1]) - int(played[1])
+    cost = max(0, max(int(it[2]) for it in rows.values()) - int(played[1])), int(rows[named][1]) - int(played[2])
+    assert int(rows[named][1]) == max(int(it[1]) for it in rows.values()), (case, place)
     letter = reading.SEATS[(board.declarer + seat) % 4]
-    return cost, b"card %d trick %d seat %c played %s most %s least %s named %s most %s %s cost %d\n" % (
-        place + 1, place // 4 + 1, letter, *played, named, rows[named][1], layouts, cost)
+    return cost, b"card %d trick %d seat %c played %s most %s least %s named %s most %s least %s %s cost %d to %d final %s\n" % (
+        place + 1, place // 4 + 1, letter, *played, *rows[named], layouts, *cost, b"yes" if cost[0] == cost[1] else b"no")
 
 
 def told(program, case, seconds, whole, layouts, first):
@@ -119,8 +121,22 @@ def told(program, case, seconds, whole, layouts, first):
             costs.append(cost)
     if not lines:
         return NO_DECISION
-    last = b"decisions %d costly %d greatest %d\n" % (len(costs), sum(cost > 0 for cost in costs), max(costs))
+    last = b"decisions %d costly %d to %d greatest %d to %d\n" % (len(costs), *sums(costs))
     return b"".join([b"alphamu review 1\n", b"moves %d\n" % MOVES, *lines, last]), b"", 0
+
+
+def sums(costs):
+    """How many are certain to have cost something and how many may have, and the greatest cost that is certain and that may be."""
+    least, most = zip(*costs)
+    return sum(map(bool, least)), sum(map(bool, most)), max(least), max(most)
+
+
+def decision_of(row):
+    """The decision of a row in JSON."""
+    said = {name.decode(): value.decode() if name in LETTERS else int(value) for name, value in zip(FIELDS, row)}
+    said["named"] = {"card": said["named"], "least": said.pop("named_least"), "most": said.pop("named_most")}
+    said["cost"] = {"final": said.pop("final") == "yes", "least": said["cost"], "most": said.pop("cost_up_to")}
+    return said
 
 
 def csv_of(text):
@@ -131,9 +147,9 @@ def csv_of(text):
 
 def json_of(text):
     """The JSON that has the values of a text."""
-    costly, greatest = re.search(rb" costly (\d+) greatest (\d+)\n$", text).groups()
-    decisions = [{name.decode(): value.decode() if name in LETTERS else int(value) for name, value in zip(FIELDS, row)} for row in LINE.findall(text)]
-    said = {"costly": int(costly), "decisions": decisions, "greatest": int(greatest), "moves": MOVES}
+    numbers = map(int, re.search(rb" costly (\d+) to (\d+) greatest (\d+) to (\d+)\n$", text).groups())
+    decisions = [decision_of(row) for row in LINE.findall(text)]
+    said = {"decisions": decisions, "moves": MOVES, **dict(zip(SUMS, numbers))}
     return json.dumps(said, sort_keys=True, separators=(",", ":")).encode() + b"\n"
 
 

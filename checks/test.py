@@ -24,6 +24,7 @@ CHECKS = """
     cases.py
     fronts.py
     words.py
+    messages.py
     damaged.py --count 3000
     edge.py
     odd_places.py
@@ -34,6 +35,8 @@ CHECKS = """
     page.py
     page_words.py
     look.py
+    desk.py
+    desk_safety.py
     cards.py
     review.py
     draw.py

@@ -9,6 +9,12 @@ read a pipe, and while it waits there, its file is copied: the system says which
 out/unproved/SUM/NAME, where SUM is the checksum of all sources, and answers from then on, until a source changes. With four
 processors and enough memory both programs are compiled side by side, otherwise the one that is asked for.
 """
+import signal
+
+ENDING = signal.SIGHUP, signal.SIGINT, signal.SIGQUIT, signal.SIGTERM
+if __name__ == "__main__":
+    # Python may lose a signal while it reads other modules in.
+    signal.pthread_sigmask(signal.SIG_BLOCK, ENDING)
 import contextlib
 import ctypes
 import fcntl
@@ -16,7 +22,6 @@ import hashlib
 import os
 import re
 import shutil
-import signal
 import subprocess
 import sys
 import tempfile
@@ -33,13 +38,12 @@ BEGINNING = "the program isn't proved yet, so it is compiled once, unproved: abo
 WAITING = "waiting for another launcher, which compiles the programs"
 PROGRESS = "compiling: {stage}, {seconds} s so far"
 NOTICE = "not proved: this answer comes from the same source, compiled unproved. {top}/build makes the proved one, in half an hour or more"
-POINTER = "for a first question see {top}/README.md"
+POINTER = "for help: {top}/alphamu --help"
 NO_WORDS, NO_ANSWER = 64, 70
 # What both compiles take, in processors and KiB.
 PROCESSORS, MEMORY = 4, 6_000_000
 # The seconds between two lines while the toolchain compiles, and how long the program may wait to be copied.
 BETWEEN, MOST_SECONDS = 5, "600"
-ENDING = signal.SIGHUP, signal.SIGINT, signal.SIGQUIT, signal.SIGTERM
 # An error of memory that the checks find ends the program with the launchers' status.
 CHECKS = {"ASAN_OPTIONS": f"exitcode={NO_ANSWER}"}
 
@@ -102,6 +106,9 @@ class Compile:
         system, us = ctypes.CDLL(None), os.getpid()
 
         def prepare():
+            for it in ENDING:
+                if signal.getsignal(it) != signal.SIG_IGN:
+                    signal.signal(it, signal.SIG_DFL)
             signal.pthread_sigmask(signal.SIG_UNBLOCK, ENDING)
             # The toolchain ends if this process is killed.
             system.prctl(1, signal.SIGTERM)
