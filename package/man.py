@@ -5,8 +5,8 @@ import re
 
 TITLE, SECTION, PICTURE = re.compile(r"^# "), re.compile(r"^## (.*)$"), re.compile(r"^!\[")
 # How the source's launchers are called, and the installed programs.
-CALLED = re.compile(r"(?<![\w./])\./(alphamu|study)(?![\w./])")
-INSTALLED = {"alphamu": "alphamu", "study": "alphamu_study"}
+CALLED = re.compile(r"(?<![\w./])\./(alphamu|study|desk)(?![\w./])")
+INSTALLED = {"alphamu": "alphamu", "study": "alphamu_study", "desk": "alphamu_desk"}
 BULLET = "\\(bu"
 # The headings of a table that its rows repeat, since a man page has no columns.
 REPEATED = ("Required", "Allowed", "Default", "How to mend it")
@@ -152,6 +152,8 @@ def draw_options():
 def synopsis(jobs, lines):
     """A line for each job, and the options of the search."""
     flags = [f"[\\fB\\-\\-{escaped(it)}\\fR" + ("]" if it in jobs.FLAGS else " \\fIN\\fR]") for it in jobs.SEARCH]
+    program = lines[0].split(" ", 1)[0]
+    lines = [*lines, f"{program} \\-\\-help\\fR [\\fIJOB\\fR]", f"{program} \\-\\-version\\fR"]
     return [*"\n.br\n".join(lines).split("\n"), ".PP", "The search options are", " ".join(flags)]
 
 

@@ -25,6 +25,7 @@ sys.dont_write_bytecode = True
 TOP = pathlib.Path(__file__).resolve().parent.parent
 sys.path[:0] = [str(TOP / it) for it in ("package", "checks", "bindings/python")]
 import debian
+import desk_files
 import jobs
 import libraries
 import make_wheel
@@ -32,6 +33,8 @@ import man
 
 PROGRAMS = ("alphamu", "alphamu_study")
 DOCS = "share/doc/alphamu"
+# What the launchers read in.
+LAUNCHED = {"help.txt": "package/help.txt", "more.awk": "package/more.awk", "words.sh": "package/words.sh", "VERSION": "VERSION"}
 # What people read, with the folders that come whole.
 PAGES = ("README.md", "CHANGELOG.md", "docs/IDEA.md", "docs/USING.md", "docs/REFUSALS.md", "docs/PROGRAMS.md", "docs/FORMS.md", "docs/SCALING.md",
          "docs/PROVED.md", "docs/TESTED.md", "docs/SPEED.md", "docs/pictures", "docs/definitions", "bindings/README.md", "bindings/c/README.md", "examples")
@@ -80,9 +83,11 @@ def contents():
         **{f"share/man/man1/{name}.1.gz": (gzip.compress(text.encode(), mtime=0), 0o644) for name, text in man_pages().items()},
         **libraries.contents(SUMMARY, version()),
     }
+    found.update({f"lib/alphamu/{name}": ((TOP / path).read_bytes(), 0o644) for name, path in LAUNCHED.items()})
     for name in PROGRAMS:
         found[f"bin/{name}"] = ((TOP / "package" / "launcher").read_bytes(), 0o755)
         found[f"lib/alphamu/{name}"] = (stripped(TOP / "crates" / name / "out" / name), 0o755)
+    found.update(desk_files.contents(TOP))
     for name in sorted(names):
         path = TOP / name
         data, mode = path.read_bytes(), 0o755 if os.access(path, os.X_OK) else 0o644
@@ -108,7 +113,8 @@ def man_pages():
     """The man page of each program."""
     using = text_of("docs/USING.md")
     return {"alphamu": man.page(text_of("README.md"), text_of("docs/REFUSALS.md"), using, jobs, version()),
-            "alphamu_study": man.study_page(using, jobs, version())}
+            "alphamu_study": man.study_page(using, jobs, version()),
+            "alphamu_desk": desk_files.page(TOP, version())}
 
 
 def record_of(found):
